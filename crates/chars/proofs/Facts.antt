@@ -1,0 +1,37 @@
+-- Facts that other crates cite: no width is above 4, and the classes of some code points. Assumes nothing.
+use Prim.Native.Nat.{ℕ, _≤_}
+use mathlib.Core.Path.{_≡_, refl}
+use mathlib.Core.Bool.{Bool, true, false, cond}
+use native.Mathlib.Omega.{arith}
+use Rattle.ranges.specs.Ranges.{inTable}
+use Rattle.chars.specs.White.{whites, isWhite}
+use Rattle.chars.specs.Width.{zeroWidths, doubleWidths, widthOf}
+
+pub width-most : (x : ℕ) → widthOf x ≤ 4
+unfolding widthOf
+width-most x = most (inTable x zeroWidths) (inTable x doubleWidths)
+  where
+    most : (z d : Bool) → cond z 0 (cond d 2 1) ≤ 4
+    most true d = omega arith
+    most false true = omega arith
+    most false false = omega arith
+
+pub tab-white : isWhite 0x9 ≡ true
+unfolding isWhite whites
+tab-white = refl
+
+pub newline-white : isWhite 0xa ≡ true
+unfolding isWhite whites
+newline-white = refl
+
+pub space-white : isWhite 0x20 ≡ true
+unfolding isWhite whites
+space-white = refl
+
+pub no-break-space-white : isWhite 0xa0 ≡ true
+unfolding isWhite whites
+no-break-space-white = refl
+
+pub wide-space-white : isWhite 0x3000 ≡ true
+unfolding isWhite whites
+wide-space-white = refl

@@ -1,0 +1,6 @@
+pub mod LetterTable
+pub mod Letters
+pub mod Scalar
+pub mod White
+pub mod Width
+pub mod WidthTables

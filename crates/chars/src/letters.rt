@@ -1,0 +1,50 @@
+// Letters: the property Alphabetic, as `char::is_alphabetic`. Document 01, "Character facts".
+use crate::letter_table::LETTERS;
+ghost use mathlib.Core.Path.{_≡_};
+ghost use Prim.Native.Nat.{_<_};
+ghost use Rattle.chars.specs.Letters.{letters, isLetter};
+
+// Whether x, below U+00AA, is a letter: A to Z or a to z.
+fn low_letter(x: u32) -> bool
+    requires { ⌜ x < 0xaa ⌝ }
+    ensures { λ r. ⌜ r ≡ isLetter x ⌝ }
+{
+    if x < 65 {
+        return false;
+    }
+    if x < 91 {
+        return true;
+    }
+    if x < 97 {
+        return false;
+    }
+    x < 123
+}
+
+// Whether x is a letter, by the table LETTERS that is lent.
+pub fn letter_in(table: &[u32], x: u32) -> bool
+    requires { ⌜ now table ≡ letters ⌝ }
+    ensures { λ r. ⌜ r ≡ isLetter x ⌝ }
+{
+    if x < 0xaa {
+        return low_letter(x);
+    }
+    ranges::in_table(table, x)
+}
+
+// The same for one that is not low: names the table.
+fn high_letter(x: u32) -> bool
+    ensures { λ r. ⌜ r ≡ isLetter x ⌝ }
+{
+    letter_in(&LETTERS, x)
+}
+
+// Whether x is a letter.
+pub fn is_letter(x: u32) -> bool
+    ensures { λ r. ⌜ r ≡ isLetter x ⌝ }
+{
+    if x < 0xaa {
+        return low_letter(x);
+    }
+    high_letter(x)
+}

@@ -1,0 +1,22 @@
+// Facts about one code point: scalar value, white space, letter, width. Document 01, "Character
+// facts". A table that a function names is built anew at each call of it, so a loop takes the `_in`
+// form and lends the table (`letter_in(&chars::LETTERS, x)`), and low code points have functions of
+// their own that name no table.
+mod letter_table;
+mod letters;
+mod scalar;
+mod white;
+mod width_tables;
+mod widths;
+
+pub use letter_table::LETTERS;
+pub use letters::is_letter;
+pub use letters::letter_in;
+pub use scalar::is_scalar;
+pub use white::WHITE;
+pub use white::is_white;
+pub use white::white_in;
+pub use width_tables::DOUBLE_WIDTH;
+pub use width_tables::ZERO_WIDTH;
+pub use widths::width;
+pub use widths::width_in;

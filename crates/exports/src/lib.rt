@@ -1,0 +1,17 @@
+// The calls for hosts in other languages: numbers, and code points as four bytes each, the lowest
+// first (document 01, "What form to use where"). Every call answers 0 and puts its answer into
+// `out`, or answers a number and leaves `out` as it was: the refusal numbers of document 01, and
+// from 100 on those of the boundary.
+//   100  no such operation
+//   101  bytes that make no whole code points
+//   102  too little room for the code points
+// A call on bytes decodes into the lent room; its `_u32` form takes code points as they are.
+mod characters;
+mod lend;
+mod rows;
+
+// One number, or a refusal's.
+pub enum Told {
+    Value(u32),
+    Refused(u32),
+}

@@ -1,0 +1,39 @@
+-- Worked examples of the definitions, as theorems: each holds by computation.
+-- From document 01, "Examples": P8, and what a text is refused for. Assumes nothing.
+use mathlib.Core.Path.{_≡_, refl}
+use mathlib.Core.List.{List, [], _∷_}
+use Prim.Native.Nat.{ℕ}
+use Rattle.text.specs.Text.{any, textRefusal, onFirst, rows, contentRowCount}
+use Rattle.text.specs.Offsets.{startIn, rowStart}
+use Rattle.text.specs.declared.Counted.the-variants.{Rows, Refused}
+
+-- P8
+pub content-of-empty : contentRowCount [] ≡ Rows 1
+unfolding any textRefusal rows
+content-of-empty = refl
+
+pub content-of-separator : contentRowCount (10 ∷ []) ≡ Rows 1
+unfolding any textRefusal rows onFirst
+content-of-separator = refl
+
+pub content-of-a-two : contentRowCount (97 ∷ 10 ∷ 10 ∷ []) ≡ Rows 2
+unfolding any textRefusal rows onFirst
+content-of-a-two = refl
+
+-- `ab`, empty, `cd`, empty
+pub rows-of-four : rows (97 ∷ 98 ∷ 10 ∷ 10 ∷ 99 ∷ 100 ∷ 10 ∷ []) ≡ (97 ∷ 98 ∷ []) ∷ [] ∷ (99 ∷ 100 ∷ []) ∷ [] ∷ []
+unfolding rows onFirst
+rows-of-four = refl
+
+pub third-of-four : rowStart (97 ∷ 98 ∷ 10 ∷ 10 ∷ 99 ∷ 100 ∷ 10 ∷ []) 2 ≡ 4
+unfolding rows onFirst startIn
+third-of-four = refl
+
+-- the lowest number that applies
+pub surrogate-before-break : contentRowCount (97 ∷ 11 ∷ 0xd800 ∷ []) ≡ Refused 2
+unfolding any textRefusal
+surrogate-before-break = refl
+
+pub carriage-return : contentRowCount (97 ∷ 13 ∷ 10 ∷ []) ≡ Refused 3
+unfolding any textRefusal
+carriage-return = refl

@@ -1,0 +1,10 @@
+-- Laws of texts, which the proofs of this crate and of the crates above it cite.
+pub mod Lists
+pub mod Check
+pub mod Rows
+pub mod Parts
+pub mod At
+pub mod Before
+pub mod Stands
+pub mod Content
+pub mod Examples

@@ -1,0 +1,24 @@
+-- `text::offsets::row` meets its contract: a row is the part of the text from its start to its end.
+-- Assumes nothing.
+use Prim.Native.Nat.{_-_}
+use mathlib.Core.Path.{_≡_, sym}
+use native.Mathlib.Omega.{arith}
+use borrow.Author.Needs.{needs}
+use Rattle.text.specs.Text.{rowLen}
+use Rattle.text.proofs.Parts.{row-part}
+use Rattle.text.proofs.Stands.{stands-end}
+use Rattle.text.proofs.offsets.row.Statement.{statement}
+use Rattle.text.proofs.offsets.row.Tie as tie
+
+returns : tie.Need-returns
+returns c =
+    let k = c .before .before .before in
+    let t = k .args .t .now in
+    let l = k .args .l in
+    let long : c .before .row-end .result - l .start ≡ rowLen t (l .row) = omega (arith, stands-end (k .pre)) in
+    rw (long, k .pre .begins) (sym (row-part t (l .row) (k .pre .in-row)))
+
+pub row-spec : {M : Type 1} → statement M
+row-spec =
+    tie.close
+    (tie.spec (λ c κs. search needs) (λ c. search needs) (λ c. search needs) (λ c. search needs) (λ c. search needs) returns)

@@ -1,0 +1,90 @@
+// What a text is: its check, its rows, and the rows with content.
+// From document 01, "Text, rows, carets" and "Refusal numbers", and `content_row_count` of motions.rs.
+ghost use mathlib.Core.Path.{_≡_};
+ghost use Prim.Native.Nat.{_+_, _-_, _≤_, _<_};
+ghost use lib.ListN.{length};
+ghost use Rattle.text.specs.Text.{textRefusal, rowCount, contentRows, contentRowCount};
+
+pub mod offsets;
+
+// A row, and the offset at which it starts.
+pub struct Line {
+    pub row: usize,
+    pub start: usize,
+}
+
+// The rows of a text with content, or the number that the text is refused with.
+pub enum Counted {
+    Rows(u32),
+    Refused(u32),
+}
+
+// The number that a text is refused with: 1 over 1,048,576 code points, 2 a value that is no scalar
+// value, 3 a line break other than U+000A; 0 where it is accepted.
+// One pass with no branch on what is read, so that the compiler reads many code points at a time.
+pub fn text_refusal(t: &[u32]) -> u32
+    ensures { λ r. ⌜ r ≡ textRefusal (now (t .entry)) ⌝ }
+{
+    if t.len() > 1048576 {
+        return 1;
+    }
+    let mut wrong = false;
+    let mut broken = false;
+    let mut i: usize = 0;
+    while i < t.len() {
+        let x = t[i];
+        wrong = wrong | !((x <= 0x10ffff) & ((x < 0xd800) | (x > 0xdfff)));
+        broken = broken
+            | (((x >= 0xb) & (x <= 0xd)) | ((x == 0x85) | ((x == 0x2028) | (x == 0x2029))));
+        i += 1;
+    }
+    if wrong {
+        return 2;
+    }
+    if broken {
+        return 3;
+    }
+    0
+}
+
+// How many rows a text has: one more than its separators.
+pub fn row_count(t: &[u32]) -> usize
+    ensures { λ r. ⌜ r ≡ rowCount (now (t .entry)) ⌝ }
+{
+    let mut n: usize = 1;
+    let mut i: usize = 0;
+    while i < t.len() {
+        if t[i] == 10 {
+            n += 1;
+            i += 1;
+        } else {
+            i += 1;
+        }
+    }
+    n
+}
+
+// How many rows have content: all but an empty last row that isn't row 0.
+pub fn content_rows(t: &[u32]) -> usize
+    ensures { λ r. ⌜ r ≡ contentRows (now (t .entry)) ⌝ }
+{
+    let n = row_count(t);
+    let len = t.len();
+    if len == 0 {
+        return n;
+    }
+    let last = len - 1;
+    if t[last] == 10 { n - 1 } else { n }
+}
+
+// `content_row_count` of the Rust, with the refusals of a text.
+pub fn content_row_count(t: &[u32]) -> Counted
+    ensures { λ r. ⌜ r ≡ contentRowCount (now (t .entry)) ⌝ }
+{
+    let f = text_refusal(t);
+    if f != 0 {
+        return Counted::Refused(f);
+    }
+    let n = content_rows(t);
+    Counted::Rows(n as u32)
+}

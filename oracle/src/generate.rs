@@ -1,0 +1,461 @@
+//! Cases from a seed, small families in full, and the limits of document 01.
+
+use crate::case::{CALLS, Call, Case, Input};
+use crate::{Caret, Viewport, Wrap, points};
+
+/// SplitMix64: one stream per seed and index.
+pub struct Dice(u64);
+
+impl Dice {
+    pub fn new(seed: u64, index: u64) -> Dice {
+        let mut dice = Dice(seed ^ index.wrapping_mul(0x9E37_79B9_7F4A_7C15));
+        dice.roll();
+        dice
+    }
+
+    fn roll(&mut self) -> u64 {
+        self.0 = self.0.wrapping_add(0x9E37_79B9_7F4A_7C15);
+        let mut z = self.0;
+        z = (z ^ (z >> 30)).wrapping_mul(0xBF58_476D_1CE4_E5B9);
+        z = (z ^ (z >> 27)).wrapping_mul(0x94D0_49BB_1331_11EB);
+        z ^ (z >> 31)
+    }
+
+    /// A number below n.
+    fn below(&mut self, n: usize) -> usize {
+        (self.roll() % n as u64) as usize
+    }
+
+    /// True once in n times.
+    fn once_in(&mut self, n: usize) -> bool {
+        self.below(n) == 0
+    }
+
+    fn coin(&mut self) -> bool {
+        self.once_in(2)
+    }
+
+    fn pick<T: Copy>(&mut self, from: &[T]) -> T {
+        from[self.below(from.len())]
+    }
+}
+
+const MOST: u32 = u32::MAX;
+
+/// Alphabets that reach the corners: words and marks, blanks and other white space, tabs, wide and
+/// zero-width characters, letters beyond ASCII, brackets, sections and empty rows.
+const ALPHABETS: [&str; 10] = [
+    "ab .\n",
+    "a \t\n",
+    "a._ \u{A0}\u{3000}\n",
+    "(){}[]<>a\n",
+    "(<>)[\n",
+    "{}a\n \n",
+    "a\t\u{3042}e\u{301}\n ",
+    "\u{3042}\u{200B}\u{1}x\t\n",
+    "\u{E9}\u{3B1}\u{1D400}_9-\u{2019} \n",
+    "\n\n\na {}",
+];
+
+const BAD_POINTS: [u32; 8] = [0xD800, 0xDFFF, 0x110000, MOST, 0x0B, 0x0D, 0x85, 0x2028];
+
+fn text(dice: &mut Dice) -> Vec<u32> {
+    let alphabet = points(dice.pick(&ALPHABETS));
+    let most = dice.pick(&[3, 8, 20, 60, 200]);
+    let length = dice.below(most + 1);
+    let mut text: Vec<u32> = (0..length).map(|_| dice.pick(&alphabet)).collect();
+    if dice.once_in(4) {
+        text.push(10);
+    }
+    if dice.once_in(8) {
+        text.push(10);
+    }
+    if dice.once_in(40) {
+        let at = dice.below(text.len() + 1);
+        text.insert(at, dice.pick(&BAD_POINTS));
+    }
+    text
+}
+
+/// Near the values that a text, row or column has, sometimes past them, sometimes the largest.
+fn near(dice: &mut Dice, most: usize) -> u32 {
+    match dice.below(16) {
+        0 => most as u32 + 1,
+        1 => pick_large(dice),
+        2 => most as u32,
+        _ => dice.below(most + 1) as u32,
+    }
+}
+
+fn pick_large(dice: &mut Dice) -> u32 {
+    dice.pick(&[MOST, MOST - 1, 1 << 31, 65_535, 65_536, 1_000])
+}
+
+fn caret(dice: &mut Dice, text: &[u32]) -> Caret {
+    let lengths: Vec<usize> = text.split(|&x| x == 10).map(<[u32]>::len).collect();
+    let row = dice.below(lengths.len());
+    let mut caret = Caret::at(row as u32, dice.below(lengths[row] + 1) as u32);
+    if dice.once_in(4) {
+        caret.col = lengths[row] as u32;
+    }
+    if dice.once_in(40) {
+        caret.col = dice.pick(&[lengths[row] as u32 + 1, MOST]);
+    }
+    if dice.once_in(40) {
+        caret.row = dice.pick(&[lengths.len() as u32, MOST]);
+    }
+    if dice.coin() {
+        caret.sticky = Some(near(dice, 12));
+    }
+    caret
+}
+
+/// Nested, overlapping and unordered folds, open ones among them; now and then a wrong one.
+fn folds(dice: &mut Dice, text: &[u32]) -> Vec<u32> {
+    let rows = text.iter().filter(|&&x| x == 10).count() + 1;
+    let mut folds = Vec::new();
+    let most = dice.pick(&[0, 1, 2, 4]);
+    for _ in 0..dice.below(most + 1) {
+        let (a, b) = (dice.below(rows) as u32, dice.below(rows) as u32);
+        folds.extend([a.min(b), a.max(b), u32::from(!dice.once_in(5))]);
+    }
+    if dice.once_in(40) {
+        let wrong: [&[u32]; 6] = [&[0], &[0, 0], &[1, 0, 1], &[0, rows as u32, 1], &[0, 0, 2], &[0, MOST, 0]];
+        folds.extend(dice.pick(&wrong));
+    }
+    if dice.once_in(400) {
+        folds = [0, 0, 0].repeat(dice.pick(&[256, 257]));
+    }
+    folds
+}
+
+const LISTS: [&str; 12] = [
+    "@,48-57,_",
+    "@,48-57,_,192-255",
+    "",
+    "0-4294967295",
+    "32-126",
+    ".",
+    "+48-57, @ ,5,-,+",
+    "a-z,57-48,4294967296",
+    "97,+0000000098,\u{E9},\u{A0}x\u{A0}",
+    "--,5-,1-2-3,@-@,^a,,",
+    "0046,\t_\u{3000},\u{3042}",
+    "12289-12300,9",
+];
+
+fn list(dice: &mut Dice) -> Vec<u32> {
+    let mut list = points(dice.pick(&LISTS));
+    if dice.once_in(3) {
+        let alphabet = points("0123456789-+,, @_az\u{A0}");
+        list = (0..dice.below(14)).map(|_| dice.pick(&alphabet)).collect();
+    }
+    if dice.once_in(60) {
+        list.push(dice.pick(&[0xD800, 0x110000, 0x85, 0x0D]));
+    }
+    if dice.once_in(200) {
+        list = points(&"a,".repeat(dice.pick(&[128, 129])));
+    }
+    if dice.once_in(400) {
+        list = vec![0x20; dice.pick(&[1024, 1025])];
+    }
+    list
+}
+
+fn viewport(dice: &mut Dice, text: &[u32]) -> Viewport {
+    let rows = text.iter().filter(|&&x| x == 10).count() + 1;
+    Viewport {
+        top: near(dice, rows),
+        height: dice.pick(&[0, 1, 2, 3, 5, 24, 65_535]),
+        width: dice.pick(&[0, 1, 2, 3, 4, 5, 7, 10, 40, 65_534, 65_535]),
+        wrap: dice.pick(&[Wrap::None, Wrap::Char, Wrap::Word, Wrap::Word]),
+    }
+}
+
+/// The characters of the case, so that a search finds something; sometimes any at all.
+fn character(dice: &mut Dice, text: &[u32]) -> u32 {
+    match dice.below(20) {
+        0 => dice.pick(&BAD_POINTS),
+        1..3 => dice.below(0x110000) as u32,
+        3..6 => dice.below(128) as u32,
+        _ if text.is_empty() => dice.pick(&points("a(_5\u{E9}\u{3042}")),
+        _ => dice.pick(text),
+    }
+}
+
+/// A random case of a call.
+pub fn random(call: &'static Call, dice: &mut Dice) -> Case {
+    let mut case = Case::new(call);
+    if case.takes(Input::Text) {
+        case.text = text(dice);
+        case.caret = caret(dice, &case.text);
+        case.folds = folds(dice, &case.text);
+    }
+    if case.takes(Input::Line) {
+        case.line = text(dice);
+        if dice.once_in(30) {
+            case.line = vec![dice.pick(&[0x61, 0x3042, 9]); 40_000];
+        }
+    }
+    if case.takes(Input::Place) {
+        case.caret.row = if dice.once_in(20) { near(dice, 3) } else { case.caret.row };
+        case.caret.col = if dice.once_in(20) { near(dice, 3) } else { case.caret.col };
+        case.caret.sticky = None;
+    }
+    let size = case.text.len().max(case.line.len());
+    case.tabstop = dice.pick(&[0, 1, 2, 4, 8, 8, 1000]);
+    if dice.once_in(60) {
+        case.tabstop = dice.pick(&[1001, MOST]);
+    }
+    case.list = list(dice);
+    case.count = match dice.below(12) {
+        0 => MOST,
+        1 => near(dice, size),
+        2..6 => dice.below(2) as u32,
+        _ => dice.below(6) as u32,
+    };
+    case.big = dice.coin();
+    case.stop = dice.once_in(3);
+    let all = if case.takes(Input::List) && dice.coin() { &case.list } else { &case.text };
+    case.character = character(dice, all);
+    (case.forward, case.till, case.skip) = (dice.coin(), dice.coin(), dice.coin());
+    case.view = viewport(dice, &case.text);
+    case.start = near(dice, size);
+    case.end = near(dice, size);
+    case.column = near(dice, 2 * size);
+    case.room = 2 * dice.below(size + 2) as u32 + dice.below(2) as u32;
+    if case.takes(Input::Segments) {
+        case.segments = (0..dice.below(9)).map(|_| near(dice, 8)).collect();
+        if dice.coin() {
+            case.segments.sort_unstable();
+        }
+    }
+    if case.takes(Input::Room) && dice.coin() {
+        case.room = 2 * size as u32 + 2;
+    }
+    case
+}
+
+/// Every text of up to `most` code points over an alphabet, shortest first.
+pub fn texts(alphabet: &[u32], most: usize) -> Vec<Vec<u32>> {
+    let mut all = vec![Vec::new()];
+    let mut from = 0;
+    for _ in 0..most {
+        let to = all.len();
+        for i in from..to {
+            for &x in alphabet {
+                let mut longer = all[i].clone();
+                longer.push(x);
+                all.push(longer);
+            }
+        }
+        from = to;
+    }
+    all
+}
+
+fn places(text: &[u32]) -> Vec<(u32, u32)> {
+    let rows = text.split(|&x| x == 10).enumerate();
+    rows.flat_map(|(row, line)| (0..=line.len()).map(move |col| (row as u32, col as u32))).collect()
+}
+
+/// No fold, every closed fold that hides a row, and every pair of them.
+fn fold_lists(rows: u32) -> Vec<Vec<u32>> {
+    let one: Vec<[u32; 3]> = (0..rows).flat_map(|a| (a + 1..rows).map(move |b| [a, b, 1])).collect();
+    let pairs = one.iter().flat_map(|a| one.iter().map(move |b| [*a, *b].concat()));
+    std::iter::once(vec![]).chain(one.iter().map(|f| f.to_vec())).chain(pairs).collect()
+}
+
+/// Puts each value into each case.
+fn each<T: Clone>(cases: Vec<Case>, values: &[T], put: impl Fn(&mut Case, T)) -> Vec<Case> {
+    let mut all = Vec::with_capacity(cases.len() * values.len());
+    for case in cases {
+        for value in values {
+            let mut case = case.clone();
+            put(&mut case, value.clone());
+            all.push(case);
+        }
+    }
+    all
+}
+
+/// The small alphabet of a call, and how long its texts are.
+fn family(call: &Call) -> (&'static str, usize) {
+    let takes = |input| call.takes.contains(&input);
+    match call.name {
+        "matching_bracket_pos" | "match_bracket" => ("()<>\n", 5),
+        name if name.contains("section") => ("{}a\n", 5),
+        name if name.contains("blank") => ("a \t\u{A0}\n", 5),
+        _ if takes(Input::Big) => ("a. \n\u{A0}", if takes(Input::Folds) { 4 } else { 5 }),
+        _ if takes(Input::Viewport) => ("a\u{3042} \n", 4),
+        _ if takes(Input::Folds) => ("a\t\u{3042}\n", 4),
+        _ if takes(Input::Line) => ("a \t\u{3042}\u{301}", 5),
+        _ => ("a \n", 5),
+    }
+}
+
+/// Every case of a call with a small text and small numbers.
+pub fn small(call: &'static Call, mut visit: impl FnMut(&Case)) {
+    let (alphabet, most) = family(call);
+    let takes = |input| call.takes.contains(&input);
+    let texts = if takes(Input::Text) || takes(Input::Line) { texts(&points(alphabet), most) } else { vec![vec![]] };
+    for text in texts {
+        let mut case = Case::new(call);
+        let rows = text.iter().filter(|&&x| x == 10).count() as u32 + 1;
+        let size = text.len() as u32;
+        let carets = places(&text);
+        if takes(Input::Line) {
+            case.line = text;
+        } else {
+            case.text = text;
+        }
+        let mut cases = vec![case];
+        if takes(Input::Caret) || takes(Input::Place) {
+            let mut at: Vec<Caret> = carets.iter().map(|&(row, col)| Caret::at(row, col)).collect();
+            if takes(Input::Place) {
+                at.extend([Caret::at(0, size + 1), Caret::at(rows, 0), Caret::at(MOST, MOST)]);
+            }
+            cases = each(cases, &at, |k, at| k.caret = at);
+        }
+        if takes(Input::Folds) {
+            cases = each(cases, &fold_lists(rows), |k, f| k.folds = f);
+        }
+        if takes(Input::Caret) && takes(Input::Tabstop) {
+            cases = each(cases, &[None, Some(0), Some(3), Some(MOST)], |k, s| k.caret.sticky = s);
+        }
+        if takes(Input::Tabstop) {
+            cases = each(cases, &[0, 1, 8], |k, n| k.tabstop = n);
+        }
+        if takes(Input::Viewport) && takes(Input::Tabstop) {
+            let views = [(0, Wrap::Char), (1, Wrap::Char), (2, Wrap::Word), (3, Wrap::Word), (2, Wrap::None)];
+            cases = each(cases, &views, |k, (width, wrap)| (k.view.width, k.view.wrap) = (width, wrap));
+        } else if takes(Input::Viewport) {
+            let tops: Vec<u32> = (0..=rows).chain([MOST]).collect();
+            cases = each(cases, &tops, |k, top| k.view.top = top);
+            cases = each(cases, &[0, 1, 2, 3, 65_535], |k, height| k.view.height = height);
+        }
+        if takes(Input::Count) {
+            cases = each(cases, &[0, 1, 2, 3, 4, MOST], |k, n| k.count = n);
+        }
+        if takes(Input::Big) {
+            cases = each(cases, &[false, true], |k, big| k.big = big);
+        }
+        if takes(Input::Stop) {
+            cases = each(cases, &[false, true], |k, stop| k.stop = stop);
+        }
+        if takes(Input::Character) {
+            cases = each(cases, &points("a \u{A0}_5@,"), |k, x| k.character = x);
+        }
+        if takes(Input::Forward) {
+            let flags: Vec<u32> = (0..8).collect();
+            cases = each(cases, &flags, |k, f| (k.forward, k.till, k.skip) = (f & 1 > 0, f & 2 > 0, f & 4 > 0));
+        }
+        if takes(Input::Wrap) {
+            cases = each(cases, &[0, 1, 2, 3, 4, 65_535], |k, n| k.view.width = n);
+            cases = each(cases, &[Wrap::None, Wrap::Char, Wrap::Word], |k, wrap| k.view.wrap = wrap);
+        }
+        if takes(Input::Room) {
+            let rooms: Vec<u32> = (0..=2 * size + 3).collect();
+            cases = each(cases, &rooms, |k, n| k.room = n);
+        }
+        if takes(Input::Start) {
+            let ends: Vec<u32> = (0..=size + 1).chain([MOST]).collect();
+            cases = each(cases, &ends, |k, n| k.start = n);
+            if takes(Input::End) {
+                cases = each(cases, &ends, |k, n| k.end = n);
+            }
+        }
+        if takes(Input::Segments) {
+            let lists = self::texts(&[0, 1, 2, 4, 6], 4);
+            cases = each(cases, &lists, |k, s| k.segments = s);
+        }
+        if takes(Input::Column) {
+            let columns: Vec<u32> = (0..=2 * size + 10).chain([MOST]).collect();
+            cases = each(cases, &columns, |k, n| k.column = n);
+        }
+        if takes(Input::List) && !takes(Input::Text) {
+            cases = each(cases, &self::texts(&points("5+-,@ "), 4), |k, l| k.list = l);
+        }
+        cases.iter().for_each(&mut visit);
+    }
+}
+
+/// The limits of document 01, at each and one past it, for a call that takes the input.
+pub fn limits(call: &'static Call) -> Vec<Case> {
+    let mut all = Vec::new();
+    let takes = |input| call.takes.contains(&input);
+    let mut add = |put: &dyn Fn(&mut Case)| {
+        let mut case = Case::new(call);
+        case.text = points("a b\nc");
+        case.line = points("a b");
+        case.count = 1;
+        put(&mut case);
+        all.push(case);
+    };
+    for n in [1_048_576, 1_048_577] {
+        if takes(Input::Text) {
+            add(&|k| k.text = vec![0x61; n]);
+            // The given `move_space_fwd` reads its row at each step.
+            if call.name != "move_space_fwd" {
+                add(&|k| (k.text, k.count) = (vec![0x28; n], MOST));
+            }
+        }
+        if takes(Input::Line) {
+            add(&|k| (k.line, k.room, k.view.width, k.view.wrap) = (vec![0x61; n], 64, 32_768, Wrap::Char));
+        }
+    }
+    for bad in BAD_POINTS {
+        if takes(Input::Text) {
+            add(&|k| k.text.push(bad));
+        }
+        if takes(Input::Line) {
+            add(&|k| k.line.push(bad));
+        }
+        if takes(Input::List) {
+            add(&|k| k.list.push(bad));
+        }
+        if takes(Input::Character) {
+            add(&|k| k.character = bad);
+        }
+    }
+    if takes(Input::Caret) || takes(Input::Place) {
+        for at in [(0, 3), (0, 4), (1, 1), (1, 2), (2, 0), (MOST, MOST)] {
+            add(&|k| (k.caret.row, k.caret.col) = at);
+        }
+    }
+    if takes(Input::Folds) {
+        for n in [256, 257] {
+            add(&|k| k.folds = [0, 1, 1].repeat(n));
+        }
+        for bad in [vec![0], vec![0, 0], vec![1, 0, 0], vec![0, 2, 1], vec![0, 0, 2]] {
+            add(&|k| k.folds = bad.clone());
+        }
+    }
+    if takes(Input::Tabstop) {
+        for n in [1_000, 1_001, MOST] {
+            add(&|k| k.tabstop = n);
+        }
+    }
+    if takes(Input::List) {
+        for n in [128, 129] {
+            add(&|k| k.list = points(&"a,".repeat(n)));
+        }
+        for n in [1024, 1025] {
+            add(&|k| k.list = vec![0x20; n]);
+        }
+    }
+    if takes(Input::Segments) {
+        for n in 0..4 {
+            add(&|k| k.segments = vec![0; n]);
+        }
+    }
+    all
+}
+
+/// The calls of these names, or all.
+pub fn calls(names: &[String]) -> Result<Vec<&'static Call>, String> {
+    if names.is_empty() {
+        return Ok(CALLS.iter().collect());
+    }
+    names.iter().map(|name| crate::case::call(name)).collect()
+}

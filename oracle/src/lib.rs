@@ -1,0 +1,62 @@
+//! What the given Rust answers, on plain values: the judge of the port's answers.
+//!
+//! `calls` has one function per public call, `refusals` the refusal table of document 01, written
+//! apart from it, `case` a call with its inputs as one line of text, `generate` cases from a seed
+//! and small families, `session` document 01's session over the given motions.
+
+pub mod calls;
+pub mod case;
+pub mod generate;
+pub mod refusals;
+pub mod session;
+
+/// Row, column and sticky column.
+#[derive(Clone, Copy, Debug, PartialEq, Eq, Default)]
+pub struct Caret {
+    pub row: u32,
+    pub col: u32,
+    pub sticky: Option<u32>,
+}
+
+impl Caret {
+    pub fn at(row: u32, col: u32) -> Caret {
+        Caret { row, col, sticky: None }
+    }
+}
+
+pub use hjkl_buffer::Wrap;
+
+/// Top row, height, text width and wrap mode.
+#[derive(Clone, Copy, Debug, PartialEq, Eq, Default)]
+pub struct Viewport {
+    pub top: u32,
+    pub height: u16,
+    pub width: u16,
+    pub wrap: Wrap,
+}
+
+/// What a call answers.
+#[derive(Clone, Debug, PartialEq, Eq)]
+pub enum Outcome {
+    Refused(u32),
+    Moved(Caret),
+    /// The truth that the call tells, and the caret.
+    Told(bool, Caret),
+    Place(Option<(u32, u32)>),
+    Number(u64),
+    Truth(bool),
+    /// The number of segments written, and the lent slice afterwards.
+    Segments(u32, Vec<u32>),
+    /// No answer to compare with: the u16 sum of `wrap_segments` passes 65,535.
+    Outside,
+}
+
+/// Code points of a string.
+pub fn points(text: &str) -> Vec<u32> {
+    text.chars().map(|c| c as u32).collect()
+}
+
+/// The string of scalar values.
+pub fn string(points: &[u32]) -> String {
+    points.iter().map(|&x| char::from_u32(x).expect("a scalar value")).collect()
+}
