@@ -1,83 +1,46 @@
 //! The proved calls for a Rust host.
 //!
-//! A text goes as bytes, four to a code point, the lowest first, with room lent for the code
-//! points; or as code points. A call that is refused gives document 01's number as `Err`, or from
-//! 100 on the boundary's: 100 no such operation, 101 bytes that make no whole code points, 102 too
-//! little room.
+//! A text, row or list goes as code points, or through a [`Room`] as bytes, four to a code point, the
+//! lowest first. A call that is refused gives document 01's number as `Err`, or from 100 on the
+//! boundary's: 100 no such operation, 101 bytes that make no whole code points, 102 too little room.
 //!
 //! ```
+//! assert_eq!(tsivareza::content_row_count(&[0x61, 0x0A, 0x0A]), Ok(2));
+//! assert_eq!(tsivareza::content_row_count(&[0x61, 0x0D]), Err(3));
 //! let mut room = tsivareza::Room::new(2);
 //! assert_eq!(room.content_row_count(&tsivareza::bytes(&[0x61, 0x0A])), Ok(1));
-//! assert_eq!(tsivareza::content_row_count(&[0x61, 0x0D]), Err(3));
 //! ```
 
-mod raw {
-    // A slice goes as its pointer and its length.
-    #[link(name = "exports", kind = "static")]
-    unsafe extern "C" {
-        pub fn tsivareza_content_row_count(
-            text: *const u8,
-            text_len: usize,
-            room: *mut u32,
-            room_len: usize,
-            out: *mut [u32; 1],
-        ) -> u32;
-        pub fn tsivareza_content_row_count_u32(text: *const u32, text_len: usize, out: *mut [u32; 1]) -> u32;
-        pub fn tsivareza_character(op: u32, x: u32, out: *mut [u32; 1]) -> u32;
-    }
-}
+mod raw;
 
-/// The answer in `out`, or the number of the refusal, which leaves `out` as it was.
-fn told(number: u32, out: [u32; 1]) -> Result<u32, u32> {
-    if number != 0 {
-        assert_eq!(out, [UNTOUCHED], "a refusal wrote into its answer");
-        return Err(number);
-    }
-    Ok(out[0])
-}
-
+/// What the places for an answer hold before a call; a refusal leaves them so.
 const UNTOUCHED: u32 = 0x5EED_5EED;
+
+/// The answer that a call puts into N places, or the number that it is refused with.
+fn answer<const N: usize>(call: impl FnOnce(*mut [u32; N]) -> u32) -> Result<[u32; N], u32> {
+    let mut out = [UNTOUCHED; N];
+    match call(&mut out) {
+        0 => Ok(out),
+        number => {
+            assert_eq!(out, [UNTOUCHED; N], "a refusal wrote into its answer");
+            Err(number)
+        }
+    }
+}
+
+fn number(call: impl FnOnce(*mut [u32; 1]) -> u32) -> Result<u32, u32> {
+    answer(call).map(|[n]| n)
+}
 
 /// Code points as bytes.
 pub fn bytes(points: &[u32]) -> Vec<u8> {
     points.iter().flat_map(|x| x.to_le_bytes()).collect()
 }
 
-pub fn content_row_count(text: &[u32]) -> Result<u32, u32> {
-    let mut out = [UNTOUCHED];
-    // SAFETY: the slice and `out` are live for the call and do not overlap.
-    let number = unsafe { raw::tsivareza_content_row_count_u32(text.as_ptr(), text.len(), &mut out) };
-    told(number, out)
-}
+// SAFETY of every call below: the slices and the places for the answer are live for the call, and the
+// ones written to overlap no other. The exports ask nothing more.
 
-fn character(op: u32, x: u32) -> Result<u32, u32> {
-    let mut out = [UNTOUCHED];
-    // SAFETY: `out` is live for the call.
-    let number = unsafe { raw::tsivareza_character(op, x, &mut out) };
-    told(number, out)
-}
-
-fn truth(op: u32, x: u32) -> bool {
-    character(op, x).expect("the operation is known") == 1
-}
-
-pub fn is_scalar(x: u32) -> bool {
-    truth(0, x)
-}
-
-pub fn is_white(x: u32) -> bool {
-    truth(1, x)
-}
-
-pub fn is_letter(x: u32) -> bool {
-    truth(2, x)
-}
-
-pub fn width(x: u32) -> u32 {
-    character(3, x).expect("the operation is known")
-}
-
-/// Room for the code points of a text, lent to each call.
+/// The same calls on bytes, with room for the code points of a text.
 pub struct Room(Vec<u32>);
 
 impl Room {
@@ -89,13 +52,114 @@ impl Room {
     pub fn points(&self) -> &[u32] {
         &self.0
     }
+}
 
+// ── Characters ──────────────────────────────────────────────────────
+
+fn character(op: u32, x: u32) -> u32 {
+    number(|out| unsafe { raw::tsivareza_character(op, x, out) }).expect("the operation is known")
+}
+
+pub fn is_scalar(x: u32) -> bool {
+    character(0, x) == 1
+}
+
+pub fn is_white(x: u32) -> bool {
+    character(1, x) == 1
+}
+
+pub fn is_letter(x: u32) -> bool {
+    character(2, x) == 1
+}
+
+pub fn width(x: u32) -> u32 {
+    character(3, x)
+}
+
+// ── Rows ────────────────────────────────────────────────────────────
+
+pub fn content_row_count(text: &[u32]) -> Result<u32, u32> {
+    number(|out| unsafe { raw::tsivareza_content_row_count_u32(text.as_ptr(), text.len(), out) })
+}
+
+impl Room {
     pub fn content_row_count(&mut self, text: &[u8]) -> Result<u32, u32> {
-        let mut out = [UNTOUCHED];
-        // SAFETY: the slices and `out` are live for the call and do not overlap.
-        let number = unsafe {
-            raw::tsivareza_content_row_count(text.as_ptr(), text.len(), self.0.as_mut_ptr(), self.0.len(), &mut out)
-        };
-        told(number, out)
+        let room = &mut self.0;
+        number(|out| unsafe {
+            raw::tsivareza_content_row_count(text.as_ptr(), text.len(), room.as_mut_ptr(), room.len(), out)
+        })
+    }
+}
+
+// ── Keyword lists ───────────────────────────────────────────────────
+
+/// A question about a keyword list.
+#[derive(Clone, Copy)]
+pub enum Keywords {
+    /// How many tokens are kept in the list's table.
+    Parse,
+    /// Whether the list's table holds a character: 1 if so.
+    Matches(u32),
+    /// Whether the list, read directly, holds a character: 1 if so.
+    IsKeywordChar(u32),
+}
+
+impl Keywords {
+    fn numbers(self) -> (u32, u32) {
+        match self {
+            Keywords::Parse => (0, 0),
+            Keywords::Matches(x) => (1, x),
+            Keywords::IsKeywordChar(x) => (2, x),
+        }
+    }
+}
+
+pub fn keywords(asked: Keywords, list: &[u32]) -> Result<u32, u32> {
+    let (op, x) = asked.numbers();
+    number(|out| unsafe { raw::tsivareza_keywords_u32(op, list.as_ptr(), list.len(), x, out) })
+}
+
+impl Room {
+    pub fn keywords(&mut self, asked: Keywords, list: &[u8]) -> Result<u32, u32> {
+        let ((op, x), room) = (asked.numbers(), &mut self.0);
+        number(|out| unsafe {
+            raw::tsivareza_keywords(op, list.as_ptr(), list.len(), room.as_mut_ptr(), room.len(), x, out)
+        })
+    }
+}
+
+// ── Tab columns ─────────────────────────────────────────────────────
+
+/// A question about the columns of a row.
+#[derive(Clone, Copy)]
+pub enum Columns {
+    VisualColToCharCol(u32),
+    CharColToVisualCol(u32),
+    CursorVisualCol(u32),
+    LeadingVisualWidth,
+}
+
+impl Columns {
+    fn numbers(self) -> (u32, u32) {
+        match self {
+            Columns::VisualColToCharCol(col) => (0, col),
+            Columns::CharColToVisualCol(col) => (1, col),
+            Columns::CursorVisualCol(col) => (2, col),
+            Columns::LeadingVisualWidth => (3, 0),
+        }
+    }
+}
+
+pub fn columns(asked: Columns, row: &[u32], tabstop: u32) -> Result<u32, u32> {
+    let (op, col) = asked.numbers();
+    number(|out| unsafe { raw::tsivareza_columns_u32(op, row.as_ptr(), row.len(), col, tabstop, out) })
+}
+
+impl Room {
+    pub fn columns(&mut self, asked: Columns, row: &[u8], tabstop: u32) -> Result<u32, u32> {
+        let ((op, col), room) = (asked.numbers(), &mut self.0);
+        number(|out| unsafe {
+            raw::tsivareza_columns(op, row.as_ptr(), row.len(), room.as_mut_ptr(), room.len(), col, tabstop, out)
+        })
     }
 }

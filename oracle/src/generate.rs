@@ -279,105 +279,129 @@ fn each<T: Clone>(cases: Vec<Case>, values: &[T], put: impl Fn(&mut Case, T)) ->
     all
 }
 
-/// The small alphabet of a call, and how long its texts are.
-fn family(call: &Call) -> (&'static str, usize) {
+/// A family of small texts: an alphabet, how long they are, and whether folds are tried on them.
+type Family = (&'static str, usize, bool);
+
+/// The families of a call.
+fn families(call: &Call) -> Vec<Family> {
     let takes = |input| call.takes.contains(&input);
     match call.name {
-        "matching_bracket_pos" | "match_bracket" => ("()<>\n", 5),
-        name if name.contains("section") => ("{}a\n", 5),
-        name if name.contains("blank") => ("a \t\u{A0}\n", 5),
-        _ if takes(Input::Big) => ("a. \n\u{A0}", if takes(Input::Folds) { 4 } else { 5 }),
-        _ if takes(Input::Viewport) => ("a\u{3042} \n", 4),
-        _ if takes(Input::Folds) => ("a\t\u{3042}\n", 4),
-        _ if takes(Input::Line) => ("a \t\u{3042}\u{301}", 5),
-        _ => ("a \n", 5),
+        "matching_bracket_pos" | "match_bracket" => vec![("()<>\n", 6, false), ("()[]a", 6, false)],
+        "find_char_on_line" => vec![("axb\n", 5, false)],
+        _ if takes(Input::End) => vec![(ROW, 4, false)],
+        _ if takes(Input::Line) => vec![(ROW, 5, false)],
+        _ if takes(Input::Big) && takes(Input::Folds) => vec![("a. \n\u{A0}", 5, false), ("a. \n\u{A0}", 4, true)],
+        _ if takes(Input::Big) => vec![("a. \n\u{A0}", 5, false)],
+        _ if takes(Input::Folds) => vec![("a\t\u{3042}\n", 5, false), ("a\t\u{3042}\n", 4, true)],
+        _ if takes(Input::Viewport) => vec![("a \n", 5, false)],
+        _ if takes(Input::Text) => vec![("a \t{}\n\u{A0}", 5, false)],
+        _ => vec![("", 0, false)],
     }
 }
 
-/// Every case of a call with a small text and small numbers.
-pub fn small(call: &'static Call, mut visit: impl FnMut(&Case)) {
-    let (alphabet, most) = family(call);
+const ROW: &str = "a \t\u{3000}\u{3042}\u{301}\u{1}";
+
+/// Every list of up to six code points over these.
+const LIST: &str = "@,-+049a_ \u{3000}";
+
+/// Every case of a call with a small text and small numbers; `most` caps the length of texts and lists.
+pub fn small(call: &'static Call, most: usize, mut visit: impl FnMut(&Case)) {
     let takes = |input| call.takes.contains(&input);
-    let texts = if takes(Input::Text) || takes(Input::Line) { texts(&points(alphabet), most) } else { vec![vec![]] };
-    for text in texts {
-        let mut case = Case::new(call);
-        let rows = text.iter().filter(|&&x| x == 10).count() as u32 + 1;
-        let size = text.len() as u32;
-        let carets = places(&text);
-        if takes(Input::Line) {
-            case.line = text;
-        } else {
-            case.text = text;
+    if takes(Input::List) && !takes(Input::Text) {
+        let tested: &[u32] = &[0, 3, 4, 5, 8, 9, 10, 0x20, 0x2B, 0x2C, 0x2D, 0x30, 0x34, 0x39, 0x40, 0x5F, 0x61, 0x3000];
+        for list in texts(&points(LIST), most.min(6)) {
+            let case = Case { list, ..Case::new(call) };
+            let cases = if takes(Input::Character) { each(vec![case], tested, |k, x| k.character = x) } else { vec![case] };
+            cases.iter().for_each(&mut visit);
         }
-        let mut cases = vec![case];
-        if takes(Input::Caret) || takes(Input::Place) {
-            let mut at: Vec<Caret> = carets.iter().map(|&(row, col)| Caret::at(row, col)).collect();
-            if takes(Input::Place) {
-                at.extend([Caret::at(0, size + 1), Caret::at(rows, 0), Caret::at(MOST, MOST)]);
-            }
-            cases = each(cases, &at, |k, at| k.caret = at);
-        }
-        if takes(Input::Folds) {
-            cases = each(cases, &fold_lists(rows), |k, f| k.folds = f);
-        }
-        if takes(Input::Caret) && takes(Input::Tabstop) {
-            cases = each(cases, &[None, Some(0), Some(3), Some(MOST)], |k, s| k.caret.sticky = s);
-        }
-        if takes(Input::Tabstop) {
-            cases = each(cases, &[0, 1, 8], |k, n| k.tabstop = n);
-        }
-        if takes(Input::Viewport) && takes(Input::Tabstop) {
-            let views = [(0, Wrap::Char), (1, Wrap::Char), (2, Wrap::Word), (3, Wrap::Word), (2, Wrap::None)];
-            cases = each(cases, &views, |k, (width, wrap)| (k.view.width, k.view.wrap) = (width, wrap));
-        } else if takes(Input::Viewport) {
-            let tops: Vec<u32> = (0..=rows).chain([MOST]).collect();
-            cases = each(cases, &tops, |k, top| k.view.top = top);
-            cases = each(cases, &[0, 1, 2, 3, 65_535], |k, height| k.view.height = height);
-        }
-        if takes(Input::Count) {
-            cases = each(cases, &[0, 1, 2, 3, 4, MOST], |k, n| k.count = n);
-        }
-        if takes(Input::Big) {
-            cases = each(cases, &[false, true], |k, big| k.big = big);
-        }
-        if takes(Input::Stop) {
-            cases = each(cases, &[false, true], |k, stop| k.stop = stop);
-        }
-        if takes(Input::Character) {
-            cases = each(cases, &points("a \u{A0}_5@,"), |k, x| k.character = x);
-        }
-        if takes(Input::Forward) {
-            let flags: Vec<u32> = (0..8).collect();
-            cases = each(cases, &flags, |k, f| (k.forward, k.till, k.skip) = (f & 1 > 0, f & 2 > 0, f & 4 > 0));
-        }
-        if takes(Input::Wrap) {
-            cases = each(cases, &[0, 1, 2, 3, 4, 65_535], |k, n| k.view.width = n);
-            cases = each(cases, &[Wrap::None, Wrap::Char, Wrap::Word], |k, wrap| k.view.wrap = wrap);
-        }
-        if takes(Input::Room) {
-            let rooms: Vec<u32> = (0..=2 * size + 3).collect();
-            cases = each(cases, &rooms, |k, n| k.room = n);
-        }
-        if takes(Input::Start) {
-            let ends: Vec<u32> = (0..=size + 1).chain([MOST]).collect();
-            cases = each(cases, &ends, |k, n| k.start = n);
-            if takes(Input::End) {
-                cases = each(cases, &ends, |k, n| k.end = n);
-            }
-        }
-        if takes(Input::Segments) {
-            let lists = self::texts(&[0, 1, 2, 4, 6], 4);
-            cases = each(cases, &lists, |k, s| k.segments = s);
-        }
-        if takes(Input::Column) {
-            let columns: Vec<u32> = (0..=2 * size + 10).chain([MOST]).collect();
-            cases = each(cases, &columns, |k, n| k.column = n);
-        }
-        if takes(Input::List) && !takes(Input::Text) {
-            cases = each(cases, &self::texts(&points("5+-,@ "), 4), |k, l| k.list = l);
-        }
-        cases.iter().for_each(&mut visit);
+        return;
     }
+    for (alphabet, longest, folded) in families(call) {
+        for text in texts(&points(alphabet), most.min(longest)) {
+            small_on(call, &text, folded).iter().for_each(&mut visit);
+        }
+    }
+}
+
+/// The cases of a call on one small text or row.
+fn small_on(call: &'static Call, text: &[u32], folded: bool) -> Vec<Case> {
+    let takes = |input| call.takes.contains(&input);
+    let rows = text.iter().filter(|&&x| x == 10).count() as u32 + 1;
+    let size = text.len() as u32;
+    let past: Vec<u32> = (0..=size + 1).chain([MOST]).collect();
+    let mut case = Case::new(call);
+    if takes(Input::Line) { case.line = text.to_vec() } else { case.text = text.to_vec() }
+    let mut cases = vec![case];
+    if takes(Input::Caret) || takes(Input::Place) {
+        let inside = places(text).into_iter().map(|(row, col)| Caret::at(row, col));
+        let outside = [Caret::at(0, size + 1), Caret::at(rows - 1, size + 1), Caret::at(rows, 0), Caret::at(MOST, MOST)];
+        let at: Vec<Caret> = inside.chain(outside).collect();
+        cases = each(cases, &at, |k, at| k.caret = at);
+    }
+    if folded {
+        cases = each(cases, &fold_lists(rows)[1..], |k, f| k.folds = f);
+    }
+    if takes(Input::Tabstop) && takes(Input::Caret) {
+        cases = each(cases, &[None, Some(0), Some(3), Some(MOST)], |k, s| k.caret.sticky = s);
+        cases = each(cases, &[0, 1, 8], |k, n| k.tabstop = n);
+    } else if takes(Input::Tabstop) {
+        cases = each(cases, &[0, 1, 2, 3, 4, 5, 6, 7, 8, 9], |k, n| k.tabstop = n);
+    }
+    if takes(Input::Viewport) && takes(Input::Tabstop) {
+        cases = each(cases, &[Wrap::Char, Wrap::Word, Wrap::None], |k, wrap| k.view.wrap = wrap);
+        cases = each(cases, &[0, 1, 2, 3, 4], |k, n| k.view.width = n);
+        cases.retain(|k| k.view.wrap != Wrap::None || k.view.width < 2);
+    } else if takes(Input::Viewport) {
+        cases = each(cases, &past, |k, top| k.view.top = top);
+        cases = each(cases, &[0, 1, 2, 3, 4, 65_535], |k, height| k.view.height = height);
+    }
+    if takes(Input::Count) {
+        cases = each(cases, &[0, 1, 2, 3, 4, MOST], |k, n| k.count = n);
+    }
+    if takes(Input::Big) {
+        cases = each(cases, &[false, true], |k, big| k.big = big);
+    }
+    if takes(Input::Stop) {
+        cases = each(cases, &[false, true], |k, stop| k.stop = stop);
+    }
+    if takes(Input::Character) {
+        cases = each(cases, &points("ax"), |k, x| k.character = x);
+    }
+    if takes(Input::Forward) {
+        let flags: Vec<u32> = (0..8).collect();
+        cases = each(cases, &flags, |k, f| (k.forward, k.till, k.skip) = (f & 1 > 0, f & 2 > 0, f & 4 > 0));
+    }
+    if takes(Input::Wrap) {
+        cases = each(cases, &[0, 1, 2, 3, 4, 5, 6], |k, n| k.view.width = n);
+        cases = each(cases, &[Wrap::None, Wrap::Char, Wrap::Word], |k, wrap| k.view.wrap = wrap);
+    }
+    if takes(Input::Room) {
+        // exactly enough, one short, one over, and none
+        cases = cases.into_iter().flat_map(with_rooms).collect();
+    }
+    if takes(Input::Start) {
+        cases = each(cases, &past, |k, n| k.start = n);
+    }
+    if takes(Input::End) {
+        cases = each(cases, &past, |k, n| k.end = n);
+    }
+    if takes(Input::Segments) {
+        cases = each(cases, &self::texts(&[0, 1, 2, 4, 6], 5), |k, s| k.segments = s);
+    }
+    if takes(Input::Column) {
+        let columns: Vec<u32> = (0..=2 * size + 10).chain([MOST]).collect();
+        cases = each(cases, &columns, |k, n| k.column = n);
+    }
+    cases
+}
+
+fn with_rooms(case: Case) -> Vec<Case> {
+    let ample = Case { room: 2 * case.line.len() as u32 + 2, ..case };
+    let crate::Outcome::Segments(count, _) = ample.answer() else { return vec![ample] };
+    let exact = 2 * count;
+    let mut rooms = vec![0, exact - 1, exact, exact + 1, ample.room + 1];
+    rooms.dedup();
+    rooms.into_iter().map(|room| Case { room, ..ample.clone() }).collect()
 }
 
 /// The limits of document 01, at each and one past it, for a call that takes the input.

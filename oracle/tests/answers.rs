@@ -34,7 +34,7 @@ fn limits_answer() {
 fn small_rows_answer() {
     for name in ["content_row_count", "move_space_fwd", "matching_bracket_pos", "segment_for_col", "cursor_visual_col"] {
         let mut cases = 0;
-        small(oracle::case::call(name).unwrap(), |case| {
+        small(oracle::case::call(name).unwrap(), 3, |case| {
             case.answer();
             cases += 1;
         });

@@ -1,17 +1,14 @@
 -- The facts about one code point, by the number that stands for each. Cited by `exports::characters`. Assumes nothing.
 use Prim.Native.Nat.{ℕ}
-use mathlib.Core.Bool.{Bool, cond}
+use mathlib.Core.Bool.{cond}
 use lib.Dec.{eqb}
 use Rattle.chars.specs.Scalar.{isScalar}
 use Rattle.chars.specs.White.{isWhite}
 use Rattle.chars.specs.Letters.{isLetter}
 use Rattle.chars.specs.Width.{widthOf}
+use Rattle.exports.specs.Reply.{bit}
 use Rattle.exports.specs.declared.Told.{Told}
 use Rattle.exports.specs.declared.Told.the-variants.{Value, Refused}
-
--- 1 for true
-abbrev pub bit : Bool → ℕ
-bit b = cond b 1 0
 
 -- the value of the fact that a number stands for; 100 where it stands for none
 unfoldable pub fact : ℕ → ℕ → Told

@@ -1,3 +1,5 @@
 pub mod Reply
 pub mod Rows
 pub mod Characters
+pub mod Lists
+pub mod Tabs

@@ -25,6 +25,10 @@ abbrev pub left : Reply → List ℕ → List ℕ
 left (answer v) out = v
 left (refused f) out = out
 
+-- 1 for true
+abbrev pub bit : Bool → ℕ
+bit b = cond b 1 0
+
 -- one number, or a refusal's
 abbrev pub told : Told → Reply
 told (Value n) = answer (n ∷ [])

@@ -1,19 +1,10 @@
 // Facts about one code point.
 use crate::Told;
+use crate::bit_of;
 use crate::lend::reply;
 ghost use mathlib.Core.Path.{_≡_};
 ghost use Rattle.exports.specs.Reply.{Replied, told};
-ghost use Rattle.exports.specs.Characters.{fact, bit};
-
-// 1 for true.
-fn bit_of(b: bool) -> u32
-    ensures { λ r. ⌜ r ≡ bit b ⌝ }
-{
-    if b {
-        return 1;
-    }
-    0
-}
+ghost use Rattle.exports.specs.Characters.{fact};
 
 // The fact that a number stands for: 0 whether x is a scalar value, 1 white space, 2 a letter, 3 its
 // width; 100 where it stands for none.

@@ -8,10 +8,25 @@
 // A call on bytes decodes into the lent room; its `_u32` form takes code points as they are.
 mod characters;
 mod lend;
+mod lists;
 mod rows;
+mod tabs;
+
+ghost use mathlib.Core.Path.{_≡_};
+ghost use Rattle.exports.specs.Reply.{bit};
 
 // One number, or a refusal's.
 pub enum Told {
     Value(u32),
     Refused(u32),
+}
+
+// 1 for true.
+fn bit_of(b: bool) -> u32
+    ensures { λ r. ⌜ r ≡ bit b ⌝ }
+{
+    if b {
+        return 1;
+    }
+    0
 }

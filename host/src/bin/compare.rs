@@ -4,32 +4,59 @@ use oracle::Outcome;
 use oracle::case::{Call, Case};
 use oracle::generate::{self, Dice};
 use std::process::ExitCode;
-use tsivareza::Room;
+use tsivareza::{self as lib, Columns, Keywords, Room};
 
 const HELP: &str = "\
-./compare [--cases N] [--seed S] [--small] [--scalars] [CALL..]
+./compare [--cases N] [--seed S] [--small MOST] [--scalars] [CALL..]
     N random cases of each call from the seed S (20000 from 1), and the limits of document 01;
-    --small: also every case of a call with a small text; --scalars: also every code point;
+    --small MOST: also every case of a call with a text or list of up to MOST code points over a
+    small alphabet (its families end at 4 to 6); --scalars: also every code point;
     CALL..: these calls alone
 ./compare --case WORDS..
     one case, as a difference is shown";
 
+/// The answer of a call's two forms, on bytes and on code points.
+fn both<T: PartialEq + std::fmt::Debug>(case: &Case, on_bytes: T, on_points: T) -> T {
+    assert_eq!(on_bytes, on_points, "the two forms of a call differ on: {case}");
+    on_points
+}
+
 /// What the library answers; nothing for a call that has no export yet.
 fn port(case: &Case, room: &mut Room) -> Option<Outcome> {
     let number = |n: Result<u32, u32>| n.map_or_else(Outcome::Refused, |n| Outcome::Number(n.into()));
-    Some(match case.call.name {
+    let truth = |n: Result<u32, u32>| n.map_or_else(Outcome::Refused, |n| Outcome::Truth(n == 1));
+    let (x, col) = (case.character, case.column);
+    let mut keywords = |asked| {
+        both(case, room.keywords(asked, &lib::bytes(&case.list)), lib::keywords(asked, &case.list))
+    };
+    match case.call.name {
+        "is_scalar" => return Some(Outcome::Truth(lib::is_scalar(x))),
+        "is_white" => return Some(Outcome::Truth(lib::is_white(x))),
+        "is_letter" => return Some(Outcome::Truth(lib::is_letter(x))),
+        "width" => return Some(Outcome::Number(lib::width(x).into())),
+        "parse" => return Some(number(keywords(Keywords::Parse))),
+        "matches" => return Some(truth(keywords(Keywords::Matches(x)))),
+        "is_keyword_char" => return Some(truth(keywords(Keywords::IsKeywordChar(x)))),
+        _ => {}
+    }
+    let mut columns = |asked| {
+        let (line, tabstop) = (&case.line, case.tabstop);
+        both(case, room.columns(asked, &lib::bytes(line), tabstop), lib::columns(asked, line, tabstop))
+    };
+    match case.call.name {
+        "visual_col_to_char_col" => return Some(number(columns(Columns::VisualColToCharCol(col)))),
+        "char_col_to_visual_col" => return Some(number(columns(Columns::CharColToVisualCol(col)))),
+        "cursor_visual_col" => return Some(number(columns(Columns::CursorVisualCol(col)))),
+        "leading_visual_width" => return Some(number(columns(Columns::LeadingVisualWidth))),
+        _ => {}
+    }
+    let text = &case.text;
+    match case.call.name {
         "content_row_count" => {
-            let on_bytes = room.content_row_count(&tsivareza::bytes(&case.text));
-            let on_points = tsivareza::content_row_count(&case.text);
-            assert_eq!(on_bytes, on_points, "the two forms of a call differ on: {case}");
-            number(on_points)
+            Some(number(both(case, room.content_row_count(&lib::bytes(text)), lib::content_row_count(text))))
         }
-        "is_scalar" => Outcome::Truth(tsivareza::is_scalar(case.character)),
-        "is_white" => Outcome::Truth(tsivareza::is_white(case.character)),
-        "is_letter" => Outcome::Truth(tsivareza::is_letter(case.character)),
-        "width" => Outcome::Number(tsivareza::width(case.character).into()),
-        _ => return None,
-    })
+        _ => None,
+    }
 }
 
 #[derive(Default)]
@@ -57,30 +84,30 @@ fn run(case: &Case, room: &mut Room, count: &mut Count) {
 struct Wanted {
     cases: u64,
     seed: u64,
-    small: bool,
+    small: Option<usize>,
     scalars: bool,
     calls: Vec<&'static Call>,
 }
 
 fn wanted(words: &[String]) -> Result<Wanted, String> {
-    let mut wanted = Wanted { cases: 20_000, seed: 1, small: false, scalars: false, calls: Vec::new() };
+    let mut wanted = Wanted { cases: 20_000, seed: 1, small: None, scalars: false, calls: Vec::new() };
     let mut names = Vec::new();
     let mut words = words.iter();
     while let Some(word) = words.next() {
-        let mut number = || {
+        let mut number = || -> Result<u64, String> {
             let value = words.next().ok_or(format!("{word} wants a number"))?;
             value.parse().map_err(|_| format!("`{value}` is no number"))
         };
         match word.as_str() {
             "--cases" => wanted.cases = number()?,
             "--seed" => wanted.seed = number()?,
-            "--small" => wanted.small = true,
+            "--small" => wanted.small = Some(number()? as usize),
             "--scalars" => wanted.scalars = true,
             word if word.starts_with('-') => return Err(format!("`{word}` is not known\n{HELP}")),
             word => names.push(word.to_string()),
         }
     }
-    let mut room = Room::new(0);
+    let mut room = Room::new(64);
     wanted.calls = generate::calls(&names)?;
     for name in &names {
         let case = Case::new(oracle::case::call(name)?);
@@ -102,8 +129,8 @@ fn compare(wanted: &Wanted) -> bool {
             visit(&generate::random(call, &mut Dice::new(wanted.seed, index)));
         }
         generate::limits(call).iter().for_each(&mut visit);
-        if wanted.small {
-            generate::small(call, &mut visit);
+        if let Some(most) = wanted.small {
+            generate::small(call, most, &mut visit);
         }
         if wanted.scalars && call.takes == [oracle::case::Input::Character] {
             let mut case = Case::new(call);

@@ -3,7 +3,8 @@ use mathlib.Core.Path.{ap, _∙_}
 use borrow.Author.Needs.{needs}
 use borrow.Author.Tests.{ne-eqb}
 use Rattle.exports.specs.declared.Told.the-variants.{Value}
-use Rattle.exports.specs.Characters.{fact, bit}
+use Rattle.exports.specs.Characters.{fact}
+use Rattle.exports.specs.Reply.{bit}
 use Rattle.exports.proofs.characters.fact_of.Statement.{statement}
 use Rattle.exports.proofs.characters.fact_of.Tie as tie
 

@@ -1,0 +1,6 @@
+pub mod Visual
+pub mod Chars
+pub mod Leading
+pub mod Accepted
+pub mod Laws
+pub mod Examples

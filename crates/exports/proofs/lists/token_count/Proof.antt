@@ -1,0 +1,25 @@
+-- `lists::token_count` meets its contract: a refusal is handed on, and a table has few tokens. Assumes nothing.
+use mathlib.Core.Path.{refl, sym, _∙_}
+use native.Mathlib.Omega.{arith}
+use borrow.Author.Needs.{needs}
+use borrow.Author.Tests.{eq-eqb, ne-eqb}
+use Rattle.exports.specs.Lists.{tokenCount}
+use Rattle.exports.proofs.Tables.{parse-few}
+use Rattle.exports.proofs.lists.token_count.Statement.{statement}
+use Rattle.exports.proofs.lists.token_count.Tie as tie
+
+returns : tie.Need-returns
+unfolding tokenCount
+returns c = rw (← c .before .before .parse .ensures, ne-eqb _ 0 (c .if1 .taken))
+
+cast : tie.Need-cast-t4
+cast c =
+    let p = c .before .before .before .parse .ensures in
+    rw p (omega (arith, parse-few (c .before .before .before .before .before .args .list .now)))
+
+returns-2 : tie.Need-returns-2
+unfolding tokenCount
+returns-2 c = rw (← c .before .before .before .parse .ensures, eq-eqb _ 0 (c .before .if1 .left))
+
+pub token-count-spec : {M : Type 1} → statement M
+token-count-spec = tie.close (tie.spec (λ c κs. search needs) returns cast returns-2)

@@ -1,0 +1,10 @@
+pub mod Agree
+pub mod FlatLaws
+pub mod Lists
+pub mod NumberLaws
+pub mod PartLaws
+pub mod RefusalLaws
+pub mod TableLaws
+pub mod TokenLaws
+pub mod TrimLaws
+pub mod Worked

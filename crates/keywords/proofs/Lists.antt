@@ -1,0 +1,29 @@
+-- Laws of lists that the other files of this folder share. Assumes nothing.
+use mathlib.Core.Path.{_≡_, sym, _∙_}
+use mathlib.Core.List.{List, [], _∷_, _++_, map, append-assoc}
+use Prim.Native.Nat.{ℕ, suc, _+_, _-_, _≤_, _<_}
+use native.Mathlib.Numerals.{add-one}
+use native.Mathlib.Omega.{arith}
+use lib.ListN.{length, getD, take, drop, set, replicate, length-map, length-append}
+use lib.Seq.{drop-cons, getD-take, length-take-le, set-append-seam}
+
+-- what stands at i, and what stands after it
+pub drop-at : {X : Type 0} (l : List X) (i : ℕ) (d : X) → i < length l → drop i l ≡ getD l i d ∷ drop (i + 1) l
+drop-at l i d h = rw (add-one, drop-cons l i d)
+
+-- the same among the first n
+pub drop-at-take : {X : Type 0} (l : List X) (n i : ℕ) (d : X) → i < n → n ≤ length l → drop i (take n l) ≡ getD l i d ∷ drop (i + 1) (take n l)
+drop-at-take l n i d h m = rw (drop-at (take n l) i d (omega (arith, length-take-le n l m)), getD-take n l i d h)
+
+-- what owning a struct tells of its array of structs: its length
+pub places : {X Y : Type 0} (f : X → Y) (l : List X) (n : ℕ) → length (map f l) ≡ n → length l ≡ n
+places f l n e = sym (length-map l f) ∙ e
+
+-- a list that is filled up to n places with d, and one more in its first free place
+pub fill-push :
+    {X : Type 0} (n : ℕ) (d : X) (l : List X) (x : X) → length l < n →
+    set (l ++ replicate (n - length l) d) (length l) x ≡ (l ++ (x ∷ [])) ++ replicate (n - length (l ++ (x ∷ []))) d
+fill-push n d l x h =
+    let m : length (l ++ (x ∷ [])) ≡ length l + 1 = length-append l (x ∷ []) in
+    let e : n - length l ≡ suc (n - (length l + 1)) = omega arith in
+    rw (m, e, set-append-seam, append-assoc)

@@ -1,0 +1,62 @@
+-- `keywords::bounds_of` meets its contract. The invariant of its loop: the bounds of the tokens before i are stored, and after them stands 0.
+-- The measure is the table's length less i. Assumes nothing.
+use Prim.Native.Nat.{_-_, _≤_}
+use mathlib.Core.Path.{_≡_, refl, ap, _∙_}
+use native.Mathlib.Omega.{arith}
+use borrow.Author.Needs.{needs}
+use lib.ListN.{length, take}
+use Rattle.keywords.specs.Flat.{flat, padded}
+use Rattle.keywords.proofs.Lists.{places}
+use Rattle.keywords.proofs.FlatLaws.{flat-push}
+use Rattle.keywords.proofs.flat.bounds_of.Statement.{statement}
+use Rattle.keywords.proofs.flat.bounds_of.Tie as tie
+
+abbrev Inv-loop : tie.InvT-loop
+Inv-loop spec bounds₀ n i₀ bounds i = (i ≤ n) × (bounds ≡ padded (flat (take i (spec .tokens))))
+
+abbrev μ-loop : tie.MeasureT-loop
+μ-loop spec bounds₀ n i₀ bounds i = n - i
+
+loop-holds : tie.Need-loop-holds Inv-loop μ-loop
+unfolding flat
+loop-holds c = (search needs, refl)
+
+-- the two bounds of the token at i
+loop-again : tie.Need-loop-again Inv-loop μ-loop
+loop-again c =
+    let s = c .before .before .before .before .before in
+    let l = c .before .before .before .before .loop in
+    let m : length (s.args.t1.tokens) ≡ 128 = search (needs, places) in (
+      omega arith,
+      flat-push s.args.t1.tokens l.bounds l.i (c .before .low .result) (c .high .result) (omega arith) (omega arith) (l.inv .1)
+          (c .before .low .ensures) (c .high .ensures),
+    )
+
+returns : tie.Need-returns Inv-loop μ-loop
+returns c =
+    let l = c .before .loop in
+    let e : l.i ≡ c .before .before .args .t1 .len = omega arith in
+    rw (← e) (l.inv .1)
+
+pub bounds-of-spec : {M : Type 1} → statement M
+bounds-of-spec =
+    tie.close
+    (tie.spec
+    Inv-loop
+    μ-loop
+    loop-holds
+    (λ c. search needs)
+    (λ c. search needs)
+    (λ c κs. search needs)
+    (λ c. search needs)
+    (λ c. search needs)
+    (λ c. search needs)
+    (λ c κs. search needs)
+    (λ c. search needs)
+    (λ c. search needs)
+    (λ c. search needs)
+    (λ c. search needs)
+    (λ c. search needs)
+    (λ c. search needs)
+    loop-again
+    returns)

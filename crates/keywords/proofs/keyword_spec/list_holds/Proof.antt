@@ -1,0 +1,69 @@
+-- `keywords::keyword_spec::list_holds` meets its contract. The invariant of its loop: the parts before `from` do not hold c. The measure is how
+-- far `from` is from past the list's end. Assumes nothing.
+use Prim.Native.Nat.{ℕ, _+_, _-_, _≤_}
+use mathlib.Core.Path.{_≡_, ap, sym, _∙_}
+use mathlib.Core.List.{List}
+use native.Mathlib.Omega.{arith}
+use borrow.Author.Needs.{needs}
+use lib.ListN.{length}
+use Rattle.keywords.specs.Tokens.{inList, tokensIn, anyToken}
+use Rattle.keywords.proofs.PartLaws.{partsFrom, parts-from-start}
+use Rattle.keywords.proofs.TokenLaws.{step-next, step-any, parts-none}
+use Rattle.keywords.proofs.keyword_spec.list_holds.Statement.{statement}
+use Rattle.keywords.proofs.keyword_spec.list_holds.Tie as tie
+
+abbrev Inv-loop : tie.InvT-loop
+Inv-loop list c letter from₀ from = (from ≤ length list + 1) × (inList list c ≡ anyToken (tokensIn (partsFrom list from)) c)
+
+abbrev μ-loop : tie.MeasureT-loop
+μ-loop list c letter from₀ from = length list + 1 - from
+
+loop-holds : tie.Need-loop-holds Inv-loop μ-loop
+loop-holds c =
+    let a = c .before .before .args in
+    (search needs, ap (λ (ps : List (List ℕ)). anyToken (tokensIn ps) a.c) (sym (parts-from-start a.list.now)))
+
+holds-requires : tie.Need-holds-requires Inv-loop μ-loop
+holds-requires c κs = c .before .before .before .before .is-letter .ensures
+
+returns : tie.Need-returns Inv-loop μ-loop
+returns c =
+    let s = c .before .before .before in
+    let a = s.before.before.before.before.before.args in
+    let l = s.before.before.loop in
+    let hit = sym (c .before .holds .ensures) ∙ c .if1 .taken in
+    sym (l.inv .1 ∙ step-any a.list.now l.from s.before.loop-test.taken s.read-part.result s.read-part.ensures a.c ∙ rw hit)
+
+loop-less : tie.Need-loop-less Inv-loop μ-loop
+loop-less c =
+    let s = c .before .before .before in
+    let a = s.before.before.before.before.before.args in
+    omega (arith, step-next a.list.now s.before.before.loop.from s.before.loop-test.taken s.read-part.result s.read-part.ensures)
+
+loop-again : tie.Need-loop-again Inv-loop μ-loop
+loop-again c =
+    let s = c .before .before .before in
+    let a = s.before.before.before.before.before.args in
+    let l = s.before.before.loop in
+    let miss = sym (c .before .holds .ensures) ∙ c .if1 .left in (
+      step-next a.list.now l.from s.before.loop-test.taken s.read-part.result s.read-part.ensures .1,
+      l.inv .1 ∙ step-any a.list.now l.from s.before.loop-test.taken s.read-part.result s.read-part.ensures a.c ∙ rw miss,
+    )
+
+returns-2 : tie.Need-returns-2 Inv-loop μ-loop
+returns-2 c = sym (c .before .loop .inv .1 ∙ parts-none _ _ (c .before .before .before .before .args .c) (c .loop-test .left))
+
+pub list-holds-spec : {M : Type 1} → statement M
+list-holds-spec =
+    tie.close
+    (tie.spec
+    Inv-loop
+    μ-loop
+    (λ c κs. search needs)
+    loop-holds
+    (λ c κs. search needs)
+    holds-requires
+    returns
+    loop-less
+    loop-again
+    returns-2)

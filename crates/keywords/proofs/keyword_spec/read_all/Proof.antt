@@ -1,0 +1,90 @@
+-- `keywords::keyword_spec::read_all` meets its contract. The invariant of its loop: the table holds the tokens of the parts before `from`. The
+-- measure is how far `from` is from past the list's end. Assumes nothing.
+use Prim.Native.Nat.{_+_, _-_, _≤_}
+use mathlib.Core.Path.{_≡_, _∙_}
+use native.Mathlib.Omega.{arith}
+use borrow.Author.Needs.{needs}
+use borrow.Author.Tests.{le-leb, lt-leb}
+use lib.ListN.{length}
+use Rattle.keywords.specs.Tokens.{tokens}
+use Rattle.keywords.proofs.TokenLaws.{step-next}
+use Rattle.keywords.proofs.TableLaws.{Reading, reading-start, reading-length, reading-skip, reading-keep, reading-full, reading-end}
+use Rattle.keywords.proofs.keyword_spec.read_all.Statement.{statement}
+use Rattle.keywords.proofs.keyword_spec.read_all.Tie as tie
+
+abbrev Inv-loop : tie.InvT-loop
+Inv-loop list spec₀ from₀ spec from = (from ≤ length list + 1) × Reading list spec from
+
+abbrev μ-loop : tie.MeasureT-loop
+μ-loop list spec₀ from₀ spec from = length list + 1 - from
+
+loop-holds : tie.Need-loop-holds Inv-loop μ-loop
+loop-holds c = (search needs, reading-start _ _ (c .new .ensures))
+
+loop-less : tie.Need-loop-less Inv-loop μ-loop
+loop-less c =
+    let s = c .before .before .before in
+    let a = s.before.before.before.before.before.args in
+    omega (arith, step-next a.list.now s.before.before.loop.from s.before.loop-test.taken s.read-part.result s.read-part.ensures)
+
+-- a part that is no token
+loop-again : tie.Need-loop-again Inv-loop μ-loop
+loop-again c =
+    let s = c .before .before .before in
+    let l = s.before.before.loop in
+    let n = step-next s.before.before.before.before.before.args.list.now l.from s.before.loop-test.taken s.read-part.result s.read-part.ensures in
+    (n .1, reading-skip (l.inv .1) s.before.loop-test.taken s.read-part.result s.read-part.ensures (c .if1 .taken))
+
+-- one token more than there are places
+returns : tie.Need-returns Inv-loop μ-loop
+returns c =
+    let s = c .before .before .before .before .before .before in
+    let l = s.before.before.loop in
+    let some = c .before .before .before .if1 .left in
+    let m = reading-full (l.inv .1) s.before.loop-test.taken s.read-part.result s.read-part.ensures some (c .before .if2 .taken) in
+    c .refused .ensures ∙ rw (lt-leb _ _ m)
+
+push-requires : tie.Need-push-requires Inv-loop μ-loop
+push-requires c κs =
+    let g = c .before .before .before .before .before .before .before .loop .inv .1 in
+    omega (arith, reading-length g, g .few)
+
+loop-less-2 : tie.Need-loop-less-2 Inv-loop μ-loop
+loop-less-2 c =
+    let s = c .before .before .before .before .before .before in
+    let a = s.before.before.before.before.before.args in
+    omega (arith, step-next a.list.now s.before.before.loop.from s.before.loop-test.taken s.read-part.result s.read-part.ensures)
+
+-- a token, pushed
+loop-again-2 : tie.Need-loop-again-2 Inv-loop μ-loop
+loop-again-2 c =
+    let s = c .before .before .before .before .before .before in
+    let l = s.before.before.loop in
+    let n = step-next s.before.before.before.before.before.args.list.now l.from s.before.loop-test.taken s.read-part.result s.read-part.ensures in (
+      n .1,
+      reading-keep (l.inv .1) s.before.loop-test.taken s.read-part.result s.read-part.ensures (c .before .before .before .if1 .left) (c .before .if2 .left)
+          (c .push .result) (c .push .ensures),
+    )
+
+returns-2 : tie.Need-returns-2 Inv-loop μ-loop
+returns-2 c =
+    let g = reading-end (c .before .loop .inv .1) (c .loop-test .left) in
+    rw (le-leb _ _ (g .1), g .0)
+
+pub read-all-spec : {M : Type 1} → statement M
+read-all-spec =
+    tie.close
+    (tie.spec
+    Inv-loop
+    μ-loop
+    (λ c κs. search needs)
+    loop-holds
+    (λ c κs. search needs)
+    loop-less
+    loop-again
+    (λ c κs. search needs)
+    returns
+    push-requires
+    loop-less-2
+    loop-again-2
+    returns-2)

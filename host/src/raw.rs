@@ -1,0 +1,45 @@
+//! The exports as they are declared in `crates/exports`. A slice goes as its pointer and its length.
+
+#[link(name = "exports", kind = "static")]
+unsafe extern "C" {
+    pub fn tsivareza_character(op: u32, x: u32, out: *mut [u32; 1]) -> u32;
+
+    pub fn tsivareza_content_row_count(
+        text: *const u8,
+        text_len: usize,
+        room: *mut u32,
+        room_len: usize,
+        out: *mut [u32; 1],
+    ) -> u32;
+    pub fn tsivareza_content_row_count_u32(text: *const u32, text_len: usize, out: *mut [u32; 1]) -> u32;
+
+    pub fn tsivareza_keywords(
+        op: u32,
+        list: *const u8,
+        list_len: usize,
+        room: *mut u32,
+        room_len: usize,
+        x: u32,
+        out: *mut [u32; 1],
+    ) -> u32;
+    pub fn tsivareza_keywords_u32(op: u32, list: *const u32, list_len: usize, x: u32, out: *mut [u32; 1]) -> u32;
+
+    pub fn tsivareza_columns(
+        op: u32,
+        row: *const u8,
+        row_len: usize,
+        room: *mut u32,
+        room_len: usize,
+        col: u32,
+        tabstop: u32,
+        out: *mut [u32; 1],
+    ) -> u32;
+    pub fn tsivareza_columns_u32(
+        op: u32,
+        row: *const u32,
+        row_len: usize,
+        col: u32,
+        tabstop: u32,
+        out: *mut [u32; 1],
+    ) -> u32;
+}
