@@ -2,7 +2,8 @@
 //!
 //! A text, row or list goes as code points, or through a [`Room`] as bytes, four to a code point, the
 //! lowest first. A call that is refused gives document 01's number as `Err`, or from 100 on the
-//! boundary's: 100 no such operation, 101 bytes that make no whole code points, 102 too little room.
+//! boundary's: 100 no such operation, 101 bytes that make no whole code points, 102 too
+//! little room, 103 an answer that no u32 holds.
 //!
 //! ```
 //! assert_eq!(tsivareza::content_row_count(&[0x61, 0x0A, 0x0A]), Ok(2));
@@ -160,6 +161,74 @@ impl Room {
         let ((op, col), room) = (asked.numbers(), &mut self.0);
         number(|out| unsafe {
             raw::tsivareza_columns(op, row.as_ptr(), row.len(), room.as_mut_ptr(), room.len(), col, tabstop, out)
+        })
+    }
+}
+
+// ── Row wrapping ────────────────────────────────────────────────────
+
+/// How a row is broken.
+#[derive(Clone, Copy)]
+pub enum Wrap {
+    None = 0,
+    Char = 1,
+    Word = 2,
+}
+
+/// The number of segments; they stand at the front of `segments`, start and end of each.
+pub fn wrap_segments(row: &[u32], width: u16, mode: Wrap, segments: &mut [u32]) -> Result<u32, u32> {
+    number(|out| unsafe {
+        let (places, len) = (segments.as_mut_ptr(), segments.len());
+        raw::tsivareza_wrap_segments_u32(mode as u32, row.as_ptr(), row.len(), width, places, len, out)
+    })
+}
+
+/// A question about the cells within a segment of a row.
+#[derive(Clone, Copy)]
+pub enum Offsets {
+    CharColForVisualOffset { start: u32, end: u32, offset: u32 },
+    VisualOffsetForCharCol { start: u32, col: u32 },
+}
+
+impl Offsets {
+    fn numbers(self) -> (u32, u32, u32, u32) {
+        match self {
+            Offsets::CharColForVisualOffset { start, end, offset } => (0, start, end, offset),
+            Offsets::VisualOffsetForCharCol { start, col } => (1, start, 0, col),
+        }
+    }
+}
+
+pub fn offsets(asked: Offsets, row: &[u32]) -> Result<u32, u32> {
+    let (op, start, end, at) = asked.numbers();
+    number(|out| unsafe { raw::tsivareza_offsets_u32(op, row.as_ptr(), row.len(), start, end, at, out) })
+}
+
+pub fn segment_for_col(segments: &[u32], col: u32) -> Result<u32, u32> {
+    number(|out| unsafe { raw::tsivareza_segment_for_col_u32(segments.as_ptr(), segments.len(), col, out) })
+}
+
+impl Room {
+    pub fn wrap_segments(&mut self, row: &[u8], width: u16, mode: Wrap, segments: &mut [u32]) -> Result<u32, u32> {
+        let room = &mut self.0;
+        number(|out| unsafe {
+            let (places, len) = (segments.as_mut_ptr(), segments.len());
+            let (points, most) = (room.as_mut_ptr(), room.len());
+            raw::tsivareza_wrap_segments(mode as u32, row.as_ptr(), row.len(), points, most, width, places, len, out)
+        })
+    }
+
+    pub fn offsets(&mut self, asked: Offsets, row: &[u8]) -> Result<u32, u32> {
+        let ((op, start, end, at), room) = (asked.numbers(), &mut self.0);
+        number(|out| unsafe {
+            raw::tsivareza_offsets(op, row.as_ptr(), row.len(), room.as_mut_ptr(), room.len(), start, end, at, out)
+        })
+    }
+
+    pub fn segment_for_col(&mut self, segments: &[u8], col: u32) -> Result<u32, u32> {
+        let room = &mut self.0;
+        number(|out| unsafe {
+            raw::tsivareza_segment_for_col(segments.as_ptr(), segments.len(), room.as_mut_ptr(), room.len(), col, out)
         })
     }
 }

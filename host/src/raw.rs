@@ -42,4 +42,61 @@ unsafe extern "C" {
         tabstop: u32,
         out: *mut [u32; 1],
     ) -> u32;
+
+    pub fn tsivareza_offsets(
+        op: u32,
+        row: *const u8,
+        row_len: usize,
+        room: *mut u32,
+        room_len: usize,
+        start: u32,
+        end: u32,
+        at: u32,
+        out: *mut [u32; 1],
+    ) -> u32;
+    pub fn tsivareza_offsets_u32(
+        op: u32,
+        row: *const u32,
+        row_len: usize,
+        start: u32,
+        end: u32,
+        at: u32,
+        out: *mut [u32; 1],
+    ) -> u32;
+
+    pub fn tsivareza_segment_for_col(
+        segments: *const u8,
+        segments_len: usize,
+        room: *mut u32,
+        room_len: usize,
+        col: u32,
+        out: *mut [u32; 1],
+    ) -> u32;
+    pub fn tsivareza_segment_for_col_u32(
+        segments: *const u32,
+        segments_len: usize,
+        col: u32,
+        out: *mut [u32; 1],
+    ) -> u32;
+
+    pub fn tsivareza_wrap_segments(
+        mode: u32,
+        row: *const u8,
+        row_len: usize,
+        room: *mut u32,
+        room_len: usize,
+        width: u16,
+        segments: *mut u32,
+        segments_len: usize,
+        out: *mut [u32; 1],
+    ) -> u32;
+    pub fn tsivareza_wrap_segments_u32(
+        mode: u32,
+        row: *const u32,
+        row_len: usize,
+        width: u16,
+        segments: *mut u32,
+        segments_len: usize,
+        out: *mut [u32; 1],
+    ) -> u32;
 }

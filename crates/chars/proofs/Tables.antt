@@ -9,7 +9,7 @@ use Rattle.ranges.specs.Ranges.{inTable, ascending}
 use Rattle.ranges.proofs.Bounds.{in-table-front}
 use Rattle.chars.specs.White.{whites, isWhite}
 use Rattle.chars.specs.Letters.{letters, isLetter}
-use Rattle.chars.specs.Width.{zeroWidths, doubleWidths, widthOf}
+use Rattle.chars.specs.Width.{zeroWidths, doubleWidths}
 
 pub whites-ascend : T (ascending whites)
 unfolding whites

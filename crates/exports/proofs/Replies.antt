@@ -1,5 +1,5 @@
 -- What the checks of an exported call show, and what each way out of it leaves. For every call on bytes. Assumes nothing.
-use mathlib.Core.Path.{_≡_, refl, sym, subst, _∙_}
+use mathlib.Core.Path.{_≡_, refl, ap, sym, subst, _∙_}
 use mathlib.Core.List.{List}
 use mathlib.Core.Bool.{Bool, true, false, cond}
 use Prim.Native.Nat.{ℕ, _/_, _≤_}
@@ -49,3 +49,10 @@ module _ {s room room′ : List ℕ} {n : ℕ} (h : Filled s room n room′) whe
       let e : unfitOne s room ≡ 0 = sym (h .numbered) ∙ z in
       let q = subst (λ (t : List ℕ). Replied (f t) out r out′) (h .fit z .front) p in
       record { numbered = q .numbered ∙ sym (fits _ _ _ e); room-left = h .fit z .room-left ∙ sym (fits _ _ _ e); out-left = q .out-left ∙ sym (fits _ _ _ e) }
+
+  -- other lent places: kept where what was lent is unfit, and else as the call f on code points leaves them
+  pub kept-unfit : (n ≡ 0 → ⊥) → (lent after : List ℕ) → lent ≡ fitting (unfitOne s room) after lent
+  kept-unfit z lent after = sym (fits-not _ _ _ (λ q. z (h .numbered ∙ q)))
+
+  pub left-fit : (f : List ℕ → List ℕ) → n ≡ 0 → (lent : List ℕ) {lent′ : List ℕ} → lent′ ≡ f (take (length s / 4) room′) → lent′ ≡ fitting (unfitOne s room) (f (points s)) lent
+  left-fit f z lent e = e ∙ ap f (h .fit z .front) ∙ sym (fits _ _ _ (sym (h .numbered) ∙ z))

@@ -3,3 +3,4 @@ pub mod Rows
 pub mod Characters
 pub mod Lists
 pub mod Tabs
+pub mod Wraps

@@ -11,6 +11,7 @@ mod lend;
 mod lists;
 mod rows;
 mod tabs;
+mod wraps;
 
 ghost use mathlib.Core.Path.{_≡_};
 ghost use Rattle.exports.specs.Reply.{bit};

@@ -9,7 +9,7 @@ use native.Mathlib.Omega.{arith}
 use lib.Dec.{eqb, leb}
 use lib.ListN.{length, length-append, getD, take, drop, set, replicate, drop-of-length-le}
 use lib.Seq.{length-take-le, take-suc, take-append-seam}
-use borrow.Author.Tests.{eq-eqb, ne-eqb, lt-leb}
+use borrow.Author.Tests.{ne-eqb, lt-leb}
 use Rattle.chars.specs.Letters.{isLetter}
 use Rattle.keywords.specs.declared.Token.{Token}
 use Rattle.keywords.specs.Grammar.{noToken}

@@ -1,16 +1,14 @@
 -- Laws of numbers: reading on by one digit, and where reading stops. Assumes nothing.
 use mathlib.Core.Path.{_≡_, refl, ap}
 use mathlib.Core.List.{List, [], _∷_}
-use mathlib.Core.Bool.{Bool, and-false}
+use mathlib.Core.Bool.{and-false}
 use Prim.Native.Nat.{ℕ, _+_, _*_, _-_, _≤_, _<_}
 use native.Mathlib.Omega.{arith}
-use lib.Dec.{leb}
 use lib.ListN.{length, getD, take, drop, drop-of-length-le}
 use lib.Seq.{take-all}
 use borrow.Author.Tests.{eq-eqb, ne-eqb, le-leb, lt-leb, le-ltb, lt-ltb}
-use Rattle.keywords.specs.declared.numbers.Number.{Number}
 use Rattle.keywords.specs.declared.numbers.Number.the-variants.{Value, Not}
-use Rattle.keywords.specs.Numbers.{isDigit, allDigits, value, numberFrom, digitsOf, numberOf}
+use Rattle.keywords.specs.Numbers.{allDigits, value, numberFrom, digitsOf, numberOf}
 use Rattle.keywords.proofs.Lists.{drop-at}
 
 value-grows : (n : ℕ) (p : List ℕ) → n ≤ value n p

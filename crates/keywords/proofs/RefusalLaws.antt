@@ -8,7 +8,7 @@ use lib.ListN.{length, getD, drop, drop-of-length-le}
 use Rattle.chars.specs.Scalar.{isScalar}
 use Rattle.keywords.specs.declared.Token.{Token}
 use Rattle.keywords.specs.declared.Matched.the-variants.{Refused}
-use Rattle.keywords.specs.Refusals.{allScalar, before}
+use Rattle.keywords.specs.Refusals.{allScalar, lowest}
 use Rattle.keywords.specs.Table.{matched, parsed, refusedBy}
 use Rattle.keywords.proofs.Lists.{drop-at}
 
@@ -36,8 +36,8 @@ parsed-refused-next (suc n) h ts = refl
 
 -- and the first that applies is given
 module _ (n m : ℕ) (h : n ≡ 0 → ⊥) where
-  pub matched-refused : (b : Bool) → Refused n ≡ matched (before n m) b
+  pub matched-refused : (b : Bool) → Refused n ≡ matched (lowest n m) b
   matched-refused b = rw (ne-eqb n 0 h) (matched-refused-next n h b)
 
-  pub parsed-refused : (ts : List Token) → refusedBy n ≡ parsed (before n m) ts
+  pub parsed-refused : (ts : List Token) → refusedBy n ≡ parsed (lowest n m) ts
   parsed-refused ts = rw (ne-eqb n 0 h) (parsed-refused-next n h ts)

@@ -1,7 +1,7 @@
 -- P11 of document 01: the definitions compute the tokens of its lists, and two laws of ranges do the rest. Assumes nothing.
-use Prim.Native.Nat.{ℕ, _≤_, _<_}
+use Prim.Native.Nat.{ℕ, _<_}
 use mathlib.Core.Path.{_≡_, refl, _∙_}
-use mathlib.Core.Bool.{Bool, true, false, _&&_, and-false, or-false}
+use mathlib.Core.Bool.{false, _&&_, and-false, or-false}
 use native.Mathlib.Decide.{decLt, ℕ-discrete}
 use native.Mathlib.Omega.{arith}
 use lib.Dec.{eqb, leb}
@@ -9,7 +9,7 @@ use borrow.Author.Tests.{le-leb, lt-leb, eq-eqb, ne-eqb}
 use Rattle.chars.specs.White.{whites, isWhite}
 use Rattle.keywords.specs.Numbers.{allDigits, value}
 use Rattle.keywords.specs.Parts.{parts, trimStart, trimEnd, upTo}
-use Rattle.keywords.specs.Tokens.{tokensIn, any, inList}
+use Rattle.keywords.specs.Tokens.{tokensIn, any}
 use Rattle.keywords.specs.Worked.{P11}
 
 module _ (lo hi c : ℕ) where

@@ -1,13 +1,15 @@
 -- What the contracts of `src/flat.rt` cite: the tokens of a table as a flat list of bounds. That it holds what they hold is `flat-same` in
 -- `proofs/FlatLaws.antt`. Definitions only. Assumes nothing.
-use Prim.Native.Nat.{ℕ, _-_}
+use Prim.Native.Nat.{ℕ, _+_, _-_}
 use mathlib.Core.List.{List, [], _∷_, _++_}
-use mathlib.Core.Bool.{Bool, true, false, cond, _&&_, _||_}
+use mathlib.Core.Bool.{Bool, false, cond, _&&_, _||_}
 use lib.Dec.{eqb, leb}
-use lib.ListN.{length, replicate}
+use lib.ListN.{length, take, replicate}
 use Rattle.chars.specs.Letters.{isLetter}
 use Rattle.keywords.specs.declared.Token.{Token}
+use Rattle.keywords.specs.declared.KeywordSpec.{KeywordSpec}
 use Rattle.keywords.specs.Tokens.{any}
+use Rattle.keywords.specs.Table.{kept}
 
 -- the first code of a token and the last; 1 and 0, which hold nothing, where it is no range
 abbrev pub lowOf : Token → ℕ
@@ -36,3 +38,7 @@ within (lo ∷ hi ∷ bs) c = (leb lo c && leb c hi) || within bs c
 
 abbrev pub flatHolds : List ℕ → Bool → ℕ → Bool
 flatHolds bs alphabetic c = (alphabetic && isLetter c) || within bs c
+
+-- what `holds` answers by the bounds and the flag of a table
+abbrev pub flatOf : KeywordSpec → ℕ → Bool
+flatOf spec c = flatHolds (take (spec .len + spec .len) (padded (flat (kept spec)))) (anyAlpha (kept spec)) c

@@ -25,6 +25,7 @@ codes lo hi = record { kind = 2; lo = lo; hi = hi }
 abbrev pub isToken : Token → Bool
 isToken t = not (eqb (t .kind) 0)
 
+-- the part is `@`
 abbrev pub isAt : List ℕ → Bool
 isAt [] = false
 isAt (x ∷ []) = eqb x 64

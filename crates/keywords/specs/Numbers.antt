@@ -2,7 +2,7 @@
 -- Definitions only; the laws are in `proofs/NumberLaws.antt`. Assumes nothing.
 use Prim.Native.Nat.{ℕ, _+_, _*_, _-_}
 use mathlib.Core.List.{List, [], _∷_}
-use mathlib.Core.Bool.{Bool, true, false, cond, _&&_}
+use mathlib.Core.Bool.{Bool, true, cond, _&&_}
 use lib.Dec.{eqb, leb, ltb}
 use Rattle.keywords.specs.declared.numbers.Number.{Number}
 use Rattle.keywords.specs.declared.numbers.Number.the-variants.{Value, Not}

@@ -3,7 +3,7 @@
 use Prim.Native.Nat.{ℕ}
 use mathlib.Core.List.{List, [], _∷_}
 use mathlib.Core.Bool.{Bool, true, cond, _&&_}
-use lib.Dec.{leb, ltb, eqb}
+use lib.Dec.{leb, eqb}
 use lib.ListN.{length}
 use Rattle.chars.specs.Scalar.{isScalar}
 
@@ -23,6 +23,6 @@ listRefusal list = cond (leb (length list) 1024 && allScalar list) 0 7
 abbrev pub tableRefusal : ℕ → ℕ
 tableRefusal n = cond (leb n 128) 0 8
 
--- the lower number of two, a before b in the table of refusals
-abbrev pub before : ℕ → ℕ → ℕ
-before a b = cond (eqb a 0) b a
+-- the lowest number that applies of two, of which a is the lower
+abbrev pub lowest : ℕ → ℕ → ℕ
+lowest a b = cond (eqb a 0) b a

@@ -1,9 +1,8 @@
 -- What the contracts of `src/keyword_spec.rt` cite: the token table, and the answers of `parse`, `matches` and `is_keyword_char`.
 -- Definitions only; the laws are in `proofs/TableLaws.antt`, and that the three agree is `agree` in `proofs/Agree.antt`. Assumes nothing.
 use Prim.Native.Nat.{ℕ, zero, suc, _+_, _-_}
-use mathlib.Core.List.{List, [], _∷_, _++_}
-use mathlib.Core.Bool.{Bool, cond}
-use lib.Dec.{eqb}
+use mathlib.Core.List.{List, [], _++_}
+use mathlib.Core.Bool.{Bool}
 use lib.ListN.{length, take, set, replicate}
 use Rattle.keywords.specs.declared.Token.{Token}
 use Rattle.keywords.specs.declared.KeywordSpec.{KeywordSpec}
@@ -12,7 +11,7 @@ use Rattle.keywords.specs.declared.Matched.{Matched}
 use Rattle.keywords.specs.declared.Matched.the-variants.{Is, Refused}
 use Rattle.keywords.specs.Grammar.{noToken}
 use Rattle.keywords.specs.Tokens.{tokens, anyToken, inList}
-use Rattle.keywords.specs.Refusals.{charRefusal, listRefusal, tableRefusal, before}
+use Rattle.keywords.specs.Refusals.{charRefusal, listRefusal, tableRefusal, lowest}
 
 -- the table of a list of tokens: they, and then empty places up to 128
 abbrev pub table : List Token → KeywordSpec
@@ -30,24 +29,24 @@ pushed spec t = record { tokens = set (spec .tokens) (spec .len) t; len = spec .
 abbrev pub refusedBy : ℕ → Parsed
 refusedBy n = record { refusal = n; spec = table [] }
 
--- a refusal's number, or 0 and the table
+-- the same for `parse`: number 0 and the table of the tokens, or another number and the empty table
 abbrev pub parsed : ℕ → List Token → Parsed
 parsed zero ts = record { refusal = 0; spec = table ts }
 parsed (suc n) ts = refusedBy (suc n)
 
--- a refusal's number, or 0 and the answer
+-- the answer for a number of document 01 and a value: `Is` has the number 0 and the value, `Refused` a number other than 0
 abbrev pub matched : ℕ → Bool → Matched
 matched zero b = Is b
 matched (suc n) b = Refused (suc n)
 
 abbrev pub parseOf : List ℕ → Parsed
-parseOf list = parsed (before (listRefusal list) (tableRefusal (length (tokens list)))) (tokens list)
+parseOf list = parsed (lowest (listRefusal list) (tableRefusal (length (tokens list)))) (tokens list)
 
 abbrev pub matchesOf : KeywordSpec → ℕ → Matched
-matchesOf spec c = matched (before (charRefusal c) (tableRefusal (spec .len))) (anyToken (kept spec) c)
+matchesOf spec c = matched (lowest (charRefusal c) (tableRefusal (spec .len))) (anyToken (kept spec) c)
 
 abbrev pub keywordChar : ℕ → List ℕ → Matched
-keywordChar c list = matched (before (charRefusal c) (listRefusal list)) (inList list c)
+keywordChar c list = matched (lowest (charRefusal c) (listRefusal list)) (inList list c)
 
 -- the answer of an accepted list
 abbrev pub readAll : List ℕ → Parsed

@@ -1,7 +1,7 @@
 -- P11 of document 01, as a statement; its proof is `p11` in `proofs/Worked.antt`. Assumes nothing.
 use Prim.Native.Nat.{ℕ}
 use mathlib.Core.Path.{_≡_}
-use mathlib.Core.List.{List, [], _∷_}
+use mathlib.Core.List.{[], _∷_}
 use mathlib.Core.Bool.{false, _&&_}
 use lib.Dec.{eqb, leb}
 use Rattle.keywords.specs.Tokens.{inList}

@@ -2,6 +2,14 @@
 ghost use mathlib.Core.Path.{_≡_};
 ghost use Rattle.keywords.specs.Numbers.{digitsOf, numberOf};
 
+// `+`, `0` and `9`.
+const PLUS: u32 = 43;
+
+const ZERO: u32 = 48;
+
+const NINE: u32 = 57;
+
+// What a part says as a number: its value, or that it is none.
 pub enum Number {
     Value(u32),
     Not,
@@ -18,13 +26,13 @@ fn digits(p: &[u32]) -> Number
     let mut i: usize = 0;
     while i < p.len() {
         let x = p[i];
-        if x < 48 {
+        if x < ZERO {
             return Number::Not;
         }
-        if 57 < x {
+        if NINE < x {
             return Number::Not;
         }
-        sum = sum * 10 + (x - 48) as u64;
+        sum = sum * 10 + (x - ZERO) as u64;
         if 0xffff_ffff < sum {
             return Number::Not;
         }
@@ -40,7 +48,7 @@ pub fn read_number(p: &[u32]) -> Number
     if p.len() == 0 {
         return Number::Not;
     }
-    if p[0] == 43 {
+    if p[0] == PLUS {
         return digits(&p[1..]);
     }
     digits(p)

@@ -1,6 +1,6 @@
 // The refusals that a keyword list can meet. Document 01, "Refusal numbers".
 ghost use mathlib.Core.Path.{_≡_};
-ghost use Rattle.keywords.specs.Refusals.{charRefusal, listRefusal, tableRefusal};
+ghost use Rattle.keywords.specs.Refusals.{charRefusal, listRefusal};
 
 // 2 for a character that is no scalar value.
 pub fn refused_char(c: u32) -> u32

@@ -10,6 +10,14 @@ ghost use Rattle.chars.specs.Letters.{isLetter};
 ghost use Rattle.keywords.specs.Grammar.{codes, isAt, single, codeOf, rangeOf, tokenOf};
 ghost use Rattle.keywords.specs.Tokens.{tokenHolds, stepOf};
 
+// `,`, `-` and `@`.
+const COMMA: u32 = 44;
+
+const MINUS: u32 = 45;
+
+const AT: u32 = 64;
+
+// No token: what every place of a new table holds.
 pub const EMPTY: Token = Token {
     kind: 0,
     lo: 0,
@@ -71,7 +79,7 @@ fn code_of(p: &[u32]) -> Token
 fn range_of(p: &[u32]) -> Token
     ensures { λ r. ⌜ r ≡ rangeOf (now (p .entry)) ⌝ }
 {
-    let d = parts::find(p, 0, 45);
+    let d = parts::find(p, 0, MINUS);
     if d >= p.len() {
         return EMPTY;
     }
@@ -92,7 +100,7 @@ fn is_at(p: &[u32]) -> bool
     if p.len() != 1 {
         return false;
     }
-    p[0] == 64
+    p[0] == AT
 }
 
 // The token that a trimmed part is: the first that fits, or EMPTY.
@@ -124,7 +132,7 @@ pub fn read_part(list: &[u32], from: usize) -> Step
     requires { ⌜ from ≤ length (now list) ⌝ }
     ensures { λ r. ⌜ r ≡ stepOf (now (list .entry)) from ⌝ }
 {
-    let e = parts::find(list, from, 44);
+    let e = parts::find(list, from, COMMA);
     let t = token_of(parts::trimmed(&list[from..e]));
     Step {
         token: t,

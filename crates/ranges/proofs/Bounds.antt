@@ -1,46 +1,16 @@
--- Laws of an ascending table: each bound is below each later one; how many bounds are at most x says whether x lies in a range
--- (odd) or not (even); and what stands past a bound above x does not matter.
--- Assumes nothing.
+-- Laws of a table of bounds: how many bounds are at most x says whether x lies in a range (odd) or not (even); and the bounds from one on
+-- that is above x do not matter. Assumes nothing.
 use mathlib.Core.Path.{_≡_, refl, _∙_, sym, ap}
-use mathlib.Core.Logic.{⊎-elim}
 use mathlib.Core.Bool.{Bool, true, false, _&&_, _||_}
 use mathlib.Core.List.{List, [], _∷_, _++_}
-use Prim.Native.Nat.{ℕ, zero, suc, _+_, _/_, _-_, _%_, _≤_, _<_}
-use native.Mathlib.Nat.{le-of-suc-le-suc, not-suc-le-zero, eq-or-lt-of-le, le-of-eq, le-of-lt}
+use Prim.Native.Nat.{ℕ, zero, suc, _+_, _%_, _≤_, _<_}
+use native.Mathlib.Nat.{le-of-suc-le-suc, not-suc-le-zero}
 use native.Mathlib.Omega.{arith}
-use lib.Dec.{T, leb, ltb, eqb, ltb→lt}
-use lib.ListN.{length, getD, take}
+use lib.Dec.{T, leb, ltb, eqb}
+use lib.ListN.{length, getD}
 use borrow.Author.Tests.{le-ltb, lt-ltb, le-leb, lt-leb}
 use Rattle.ranges.specs.Ranges.{inTable, climbs, ascending}
-
-and-left : (a b : Bool) → T (a && b) → T a
-and-left true b t = tt
-and-left false b t = t
-
-and-right : (a b : Bool) → T (a && b) → T b
-and-right true b t = t
-and-right false b t = absurd t
-
-climbs-all : (b : ℕ) (bs : List ℕ) → T (climbs b bs) → (k : ℕ) → k < length bs → b < getD bs k 0
-climbs-all b [] t k h = absurd (not-suc-le-zero h)
-climbs-all b (a ∷ bs) t zero h = ltb→lt b a (and-left (ltb b a) (climbs a bs) t)
-climbs-all b (a ∷ bs) t (suc k) h =
-    omega (arith, ltb→lt b a (and-left (ltb b a) (climbs a bs) t), climbs-all a bs (and-right (ltb b a) (climbs a bs) t) k (le-of-suc-le-suc h))
-
-pub ascending-tail : (b : ℕ) (bs : List ℕ) → T (ascending (b ∷ bs)) → T (ascending bs)
-ascending-tail b [] t = tt
-ascending-tail b (a ∷ bs) t = and-right (ltb b a) (climbs a bs) t
-
-pub ascending-lt : (bs : List ℕ) → T (ascending bs) → (p q : ℕ) → p < q → q < length bs → getD bs p 0 < getD bs q 0
-ascending-lt [] t p q l h = absurd (not-suc-le-zero h)
-ascending-lt (b ∷ bs) t zero zero l h = absurd (not-suc-le-zero l)
-ascending-lt (b ∷ bs) t zero (suc q) l h = climbs-all b bs t q (le-of-suc-le-suc h)
-ascending-lt (b ∷ bs) t (suc p) zero l h = absurd (not-suc-le-zero l)
-ascending-lt (b ∷ bs) t (suc p) (suc q) l h = ascending-lt bs (ascending-tail b bs t) p q (le-of-suc-le-suc l) (le-of-suc-le-suc h)
-
-pub ascending-le : (bs : List ℕ) → T (ascending bs) → (p q : ℕ) → p ≤ q → q < length bs → getD bs p 0 ≤ getD bs q 0
-ascending-le bs t p q l h =
-    ⊎-elim (λ e. le-of-eq (ap (λ (k : ℕ). getD bs k 0) e)) (λ m. le-of-lt (ascending-lt bs t p q m h)) (eq-or-lt-of-le l)
+use Rattle.ranges.proofs.Ascending.{and-right, climbs-all, ascending-tail, ascending-le}
 
 -- the bounds before low are at most x, and those from high on are above it
 pub record Search (bs : List ℕ) (x low high : ℕ) : Type 0 where
@@ -52,7 +22,12 @@ pub record Search (bs : List ℕ) (x low high : ℕ) : Type 0 where
 module _ {bs : List ℕ} {x low high : ℕ} (t : T (ascending bs)) (s : Search bs x low high) (mid : ℕ) where
   pub search-up : low ≤ mid → mid < high → getD bs mid 0 ≤ x → Search bs x (mid + 1) high
   search-up l h e =
-      record { order = omega arith; inside = s .inside; below = λ k m. omega (arith, s .inside, ascending-le bs t k mid (omega arith) (omega arith)); above = s .above }
+      record {
+        order = omega arith;
+        inside = s .inside;
+        below = λ k m. omega (arith, s .inside, ascending-le bs t k mid (omega arith) (omega arith));
+        above = s .above;
+      }
 
   pub search-down : low ≤ mid → mid < high → x < getD bs mid 0 → Search bs x low mid
   search-down l h e =
@@ -80,9 +55,8 @@ rest h =
     }
 
 -- x is below every bound
-none : {s e x : ℕ} {bs : List ℕ} → Search (s ∷ e ∷ bs) x 0 0 → Search bs x 0 0
-none h =
-    record { order = omega arith; inside = omega arith; below = λ k l. absurd (not-suc-le-zero l); above = λ k l m. h .above (suc (suc k)) (omega arith) (omega arith) }
+none : {x : ℕ} {bs : List ℕ} → ((k : ℕ) → k < length bs → x < getD bs k 0) → Search bs x 0 0
+none h = record { order = omega arith; inside = omega arith; below = λ k l. absurd (not-suc-le-zero l); above = λ k l. h k }
 
 odd-in : (x : ℕ) (bs : List ℕ) (r : ℕ) → Search bs x r r → odd r ≡ inTable x bs
 unfolding odd
@@ -91,7 +65,8 @@ odd-in x [] (suc r) h = absurd (not-suc-le-zero (h .inside))
 odd-in x (s ∷ []) zero h = simp (lt-leb _ _ (h .above 0 (omega arith) (omega arith)))
 odd-in x (s ∷ []) (suc zero) h = simp (le-leb _ _ (h .below 0 (omega arith)))
 odd-in x (s ∷ []) (suc (suc r)) h = absurd (not-suc-le-zero (le-of-suc-le-suc (h .inside)))
-odd-in x (s ∷ e ∷ bs) zero h = simp (lt-leb _ _ (h .above 0 (omega arith) (omega arith))) (odd-in x bs zero (none h))
+odd-in x (s ∷ e ∷ bs) zero h = simp (lt-leb _ _ (h .above 0 (omega arith) (omega arith)))
+    (odd-in x bs zero (none (λ k m. h .above (suc (suc k)) (omega arith) (omega arith))))
 odd-in x (s ∷ e ∷ bs) (suc zero) h =
     simp (le-leb _ _ (h .below 0 (omega arith)), lt-ltb _ _ (h .above 1 (omega arith) (omega arith)))
 odd-in x (s ∷ e ∷ bs) (suc (suc r)) h =
@@ -102,13 +77,11 @@ search-found {bs} {x} r h = odd-mod r ∙ odd-in x bs r h
 
 none-in : (x b : ℕ) (bs : List ℕ) → T (climbs b bs) → x ≤ b → inTable x bs ≡ false
 unfolding odd
-none-in x b bs t h =
-    sym
-    (odd-in x bs 0
-    (record { order = omega arith; inside = omega arith; below = λ k l. absurd (not-suc-le-zero l); above = λ k l m. omega (arith, climbs-all b bs t k m) }))
+none-in x b bs t h = sym (odd-in x bs 0 (none (λ k m. omega (arith, climbs-all b bs t k m))))
 
 -- the bounds from one on that is above x do not matter
-pub in-table-front : (x : ℕ) (front : List ℕ) (b : ℕ) (bs : List ℕ) → T (ascending (front ++ (b ∷ bs))) → x < b → inTable x (front ++ (b ∷ bs)) ≡ inTable x front
+pub in-table-front :
+    (x : ℕ) (front : List ℕ) (b : ℕ) (bs : List ℕ) → T (ascending (front ++ (b ∷ bs))) → x < b → inTable x (front ++ (b ∷ bs)) ≡ inTable x front
 in-table-front x [] b bs t h = none-in x x (b ∷ bs) (rw (lt-ltb x b h) t) (omega arith)
 in-table-front x (s ∷ []) b bs t h = rw (lt-ltb x b h, none-in x b bs (and-right (ltb s b) (climbs b bs) t) (omega arith)) (alone (leb s x))
   where

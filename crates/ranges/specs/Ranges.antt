@@ -1,5 +1,5 @@
 -- What the contract of `in_table` cites: a table of bounds, and the numbers that it holds.
--- Definitions only; the laws are in `proofs/Bounds.antt`. Assumes nothing.
+-- Definitions only; the laws are in `proofs/Ascending.antt` and `proofs/Bounds.antt`. Assumes nothing.
 use mathlib.Core.Bool.{Bool, true, false, _&&_, _||_}
 use mathlib.Core.List.{List, [], _∷_}
 use Prim.Native.Nat.{ℕ}

@@ -7,4 +7,6 @@ pub mod At
 pub mod Before
 pub mod Stands
 pub mod Content
+pub mod Hiding
+pub mod Past
 pub mod Examples

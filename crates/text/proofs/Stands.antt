@@ -3,7 +3,7 @@
 use mathlib.Core.Path.{_≡_, refl, ap, sym, _∙_}
 use mathlib.Core.List.{List, [], _∷_}
 use mathlib.Core.Bool.{Bool, true, false, cond}
-use Prim.Native.Nat.{ℕ, zero, suc, _+_, _-_, _≤_, _<_}
+use Prim.Native.Nat.{ℕ, zero, suc, _+_, _-_, _≤_, _<_, min}
 use native.Mathlib.Numerals.{add-one}
 use native.Mathlib.Decide.{ℕ-discrete}
 use native.Mathlib.Omega.{arith}
@@ -13,7 +13,7 @@ use borrow.Author.Tests.{eq-eqb, ne-eqb}
 use Rattle.text.specs.Text.{rowCount, rowLen}
 use Rattle.text.specs.Offsets.{rowStart, At, Stands, IsLine, lineAt, endFrom, rowOf}
 use Rattle.text.specs.declared.Line.{Line}
-use Rattle.text.proofs.Rows.{start-zero}
+use Rattle.text.proofs.Rows.{start-zero, rows-pos}
 use Rattle.text.proofs.At.{at-first, at-start, at-le, at-col, after-char, after-nl, to-end}
 use Rattle.text.proofs.Before.{start-ge, behind-nl, behind-char, before-row, before-col, same-row}
 
@@ -68,6 +68,20 @@ line-at t r h = at-stands (at-start t r h) (rowStart t r) refl
 
 pub line-eq : (t : List ℕ) {row start q : ℕ} → start ≡ rowStart t row → row ≡ q → record { row = row; start = start } ≡ lineAt t q
 line-eq t {row} s e = (λ i. record { row = row; start = s i }) ∙ ap (lineAt t) e
+
+pub line-there : (t : List ℕ) (l : Line) (r : ℕ) → l ≡ lineAt t r → r < rowCount t → IsLine t l
+line-there t l r e h = rw e (line-at t r h)
+
+-- row r is looked for from the first row on, and the last row taken where there are fewer
+module _ (t : List ℕ) (l : Line) (r : ℕ) (e : l ≡ lineAt t (min r (rowCount t - 1))) where
+  same : l .row ≡ min r (rowCount t - 1)
+  same = ap (λ (x : Line). x .row) e
+
+  pub row-missed : (l .row ≡ r → ⊥) → rowCount t ≤ r
+  row-missed n = omega (arith, same, rows-pos t)
+
+  pub row-found : l .row ≡ r → (r < rowCount t) × IsLine t l
+  row-found h = (omega (arith, same, rows-pos t), line-there t l _ e (omega (arith, rows-pos t)))
 
 module _ {t : List ℕ} {row start at : ℕ} (s : Stands t row start at) where
   pub stands-own : Stands t row (rowStart t row) at

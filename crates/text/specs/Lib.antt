@@ -1,2 +1,4 @@
 pub mod Text
 pub mod Offsets
+pub mod Folds
+pub mod Cover

@@ -5,12 +5,25 @@ ghost use Prim.Native.Nat.{_+_, _-_, _≤_, _<_};
 ghost use lib.ListN.{length};
 ghost use Rattle.text.specs.Text.{textRefusal, rowCount, contentRows, contentRowCount};
 
+pub mod folds;
 pub mod offsets;
 
 // A row, and the offset at which it starts.
 pub struct Line {
     pub row: usize,
     pub start: usize,
+}
+
+// A row that no fold hides, where there is one.
+pub enum Visible {
+    Row(usize),
+    NoRow,
+}
+
+// The first and the last row of a fold, where there is one.
+pub enum Span {
+    Of(usize, usize),
+    NoSpan,
 }
 
 // The rows of a text with content, or the number that the text is refused with.

@@ -4,8 +4,8 @@ use crate::Line;
 ghost use mathlib.Core.Path.{_≡_};
 ghost use Prim.Native.Nat.{_+_, _-_, _≤_, _<_, min};
 ghost use lib.ListN.{length};
-ghost use Rattle.text.specs.Text.{rowCount, rowAt};
-ghost use Rattle.text.specs.Offsets.{IsLine, lineAt, endFrom, rowOf};
+ghost use Rattle.text.specs.Text.{rowCount, rowAt, rowLen, contentRows};
+ghost use Rattle.text.specs.Offsets.{rowStart, Stands, IsLine, lineAt, endFrom, rowOf};
 
 // The row n rows below `from`, or the last row where there are fewer.
 pub fn down(t: &[u32], from: Line, n: usize) -> Line
@@ -38,21 +38,30 @@ pub fn down(t: &[u32], from: Line, n: usize) -> Line
     }
 }
 
-// The row n rows above `from`, or row 0 where there are fewer.
-pub fn up(t: &[u32], from: Line, n: usize) -> Line
-    requires { ⌜ IsLine (now t) from ⌝ }
-    ensures { λ r. ⌜ r ≡ lineAt (now (t .entry)) (from .row - n) ⌝ }
+// Row `row` of the text, or the last row where there are fewer.
+pub fn line_at(t: &[u32], row: usize) -> Line
+    ensures { λ r. ⌜ r ≡ lineAt (now (t .entry)) (min row (rowCount (now (t .entry)) - 1)) ⌝ }
 {
-    let mut row = from.row;
+    let first = Line { row: 0, start: 0 };
+    down(t, first, row)
+}
+
+// The row n rows above row `row`, which has the offset `at`, or row 0 where there are fewer.
+// With n = 0 the row itself, found from any of its offsets.
+pub fn up(t: &[u32], row: usize, at: usize, n: usize) -> Line
+    requires { ⌜ Stands (now t) row (rowStart (now t) row) at ⌝ }
+    ensures { λ r. ⌜ r ≡ lineAt (now (t .entry)) (row - n) ⌝ }
+{
+    let mut r = row;
     let mut left = n;
-    let mut i = from.start;
+    let mut i = at;
     while i > 0 {
         let b = i - 1;
         if t[b] == 10 {
             if left == 0 {
-                return Line { row: row, start: i };
+                return Line { row: r, start: i };
             }
-            row -= 1;
+            r -= 1;
             left -= 1;
             i = b;
         } else {
@@ -60,6 +69,20 @@ pub fn up(t: &[u32], from: Line, n: usize) -> Line
         }
     }
     Line { row: 0, start: 0 }
+}
+
+// Row `row` of the text, or the last row with content where there are fewer of those.
+pub fn content_line(t: &[u32], row: usize) -> Line
+    ensures { λ r. ⌜ r ≡ lineAt (now (t .entry)) (min row (contentRows (now (t .entry)) - 1)) ⌝ }
+{
+    let l = line_at(t, row);
+    if l.row == 0 {
+        return l;
+    }
+    if l.start < t.len() {
+        return l;
+    }
+    up(t, l.row, l.start, 1)
 }
 
 // The end of the row that has the offset `at`: its separator, or the end of the text.
@@ -75,6 +98,15 @@ pub fn row_end(t: &[u32], at: usize) -> usize
         e += 1;
     }
     e
+}
+
+// How many code points a row has.
+pub fn row_len(t: &[u32], l: Line) -> usize
+    requires { ⌜ IsLine (now t) l ⌝ }
+    ensures { λ r. ⌜ r ≡ rowLen (now (t .entry)) (l .row) ⌝ }
+{
+    let s = l.start;
+    row_end(t, s) - s
 }
 
 // A row as a part of the text.

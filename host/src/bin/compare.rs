@@ -1,10 +1,10 @@
 //! The proved library against the given Rust, case by case. `./compare --help` says how.
 
 use oracle::Outcome;
-use oracle::case::{Call, Case};
+use oracle::case::{Call, Case, FILLER};
 use oracle::generate::{self, Dice};
 use std::process::ExitCode;
-use tsivareza::{self as lib, Columns, Keywords, Room};
+use tsivareza::{self as lib, Columns, Keywords, Offsets, Room};
 
 const HELP: &str = "\
 ./compare [--cases N] [--seed S] [--small MOST] [--scalars] [CALL..]
@@ -50,13 +50,50 @@ fn port(case: &Case, room: &mut Room) -> Option<Outcome> {
         "leading_visual_width" => return Some(number(columns(Columns::LeadingVisualWidth))),
         _ => {}
     }
+    let line = &case.line;
+    let mut offsets = |asked| both(case, room.offsets(asked, &lib::bytes(line)), lib::offsets(asked, line));
+    match case.call.name {
+        "char_col_for_visual_offset" => {
+            let (start, end) = (case.start, case.end);
+            return Some(number(offsets(Offsets::CharColForVisualOffset { start, end, offset: col })));
+        }
+        "visual_offset_for_char_col" => {
+            return Some(number(offsets(Offsets::VisualOffsetForCharCol { start: case.start, col })));
+        }
+        _ => {}
+    }
     let text = &case.text;
     match case.call.name {
+        "segment_for_col" => {
+            let segments = &case.segments;
+            let on_points = lib::segment_for_col(segments, col);
+            Some(number(both(case, room.segment_for_col(&lib::bytes(segments), col), on_points)))
+        }
+        "wrap_segments" => Some(wrapped(case, room)),
         "content_row_count" => {
             Some(number(both(case, room.content_row_count(&lib::bytes(text)), lib::content_row_count(text))))
         }
         _ => None,
     }
+}
+
+/// `wrap_segments` in both forms, the places lent for segments watched.
+fn wrapped(case: &Case, room: &mut Room) -> Outcome {
+    let mode = match case.view.wrap {
+        oracle::Wrap::None => lib::Wrap::None,
+        oracle::Wrap::Char => lib::Wrap::Char,
+        oracle::Wrap::Word => lib::Wrap::Word,
+    };
+    let (line, width) = (&case.line, case.view.width);
+    let mut segments = vec![FILLER; case.room as usize];
+    let mut again = segments.clone();
+    let on_points = lib::wrap_segments(line, width, mode, &mut segments);
+    let on_bytes = room.wrap_segments(&lib::bytes(line), width, mode, &mut again);
+    let _ = both(case, (on_bytes, &again), (on_points, &segments));
+    if on_points.is_err() {
+        assert!(segments.iter().all(|&x| x == FILLER), "a refusal wrote segments on: {case}");
+    }
+    on_points.map_or_else(Outcome::Refused, |count| Outcome::Segments(count, segments))
 }
 
 #[derive(Default)]

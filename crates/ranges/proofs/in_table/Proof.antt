@@ -1,6 +1,6 @@
 -- `ranges::in_table` meets its contract. The invariant of its loop: the bounds before `low` are at most x, those from `high` on are
 -- above it. The measure is what lies between. Where they meet, `low` counts the bounds that are at most x. Assumes nothing.
-use Prim.Native.Nat.{_+_, _-_, _/_, _≤_}
+use Prim.Native.Nat.{_+_, _-_, _/_}
 use mathlib.Core.Path.{_≡_}
 use native.Mathlib.Omega.{arith}
 use borrow.Author.Needs.{needs}

@@ -1,5 +1,5 @@
 -- `chars::letters::high_letter` meets its contract: the const is the list of the definition. Assumes nothing.
-use mathlib.Core.Path.{_≡_, refl}
+use mathlib.Core.Path.{refl}
 use borrow.Author.Needs.{needs}
 use Rattle.chars.specs.Letters.{letters}
 use Rattle.chars.proofs.letters.high_letter.Statement.{statement}

@@ -1,6 +1,5 @@
 -- `chars::letters::low_letter` meets its contract: below U+00AA the table holds A to Z and a to z. Assumes nothing.
 use native.Mathlib.Omega.{arith}
-use mathlib.Core.Path.{_≡_}
 use mathlib.Core.Bool.{or-false}
 use borrow.Author.Tests.{le-leb, lt-leb, lt-ltb, le-ltb}
 use Rattle.chars.proofs.Tables.{letter-low}

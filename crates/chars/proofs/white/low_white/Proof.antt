@@ -1,6 +1,5 @@
 -- `chars::white::low_white` meets its contract: below U+0085 the table holds U+0009..000D and U+0020. Assumes nothing.
 use native.Mathlib.Omega.{arith}
-use mathlib.Core.Path.{_≡_}
 use mathlib.Core.Bool.{or-false}
 use borrow.Author.Tests.{le-leb, lt-leb, lt-ltb, le-ltb}
 use Rattle.chars.proofs.Tables.{white-low}

@@ -1,5 +1,5 @@
 -- `chars::widths::high_width` meets its contract: the consts are the lists of the definition. Assumes nothing.
-use mathlib.Core.Path.{_≡_, refl}
+use mathlib.Core.Path.{refl}
 use borrow.Author.Needs.{needs}
 use Rattle.chars.specs.Width.{zeroWidths, doubleWidths}
 use Rattle.chars.proofs.widths.high_width.Statement.{statement}

@@ -1,6 +1,5 @@
 -- `chars::widths::low_width` meets its contract: below U+0300 the tables hold U+0000 alone. Assumes nothing.
 use native.Mathlib.Omega.{arith}
-use mathlib.Core.Path.{_≡_}
 use borrow.Author.Tests.{le-leb, le-ltb}
 use Rattle.chars.specs.Width.{widthOf}
 use Rattle.chars.proofs.Tables.{zero-width-low, double-width-low}

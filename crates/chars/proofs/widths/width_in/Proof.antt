@@ -1,7 +1,6 @@
 -- `chars::width_in` meets its contract: the lent tables are the lists of the definition, and ascend. Assumes nothing.
-use mathlib.Core.Path.{_≡_, _∙_, sym}
+use mathlib.Core.Path.{_∙_, sym}
 use borrow.Author.Needs.{needs}
-use Rattle.ranges.specs.Ranges.{inTable}
 use Rattle.chars.specs.Width.{widthOf}
 use Rattle.chars.proofs.Tables.{zero-widths-ascend, double-widths-ascend}
 use Rattle.chars.proofs.widths.width_in.Statement.{statement}
@@ -23,13 +22,15 @@ returns-3 : tie.Need-returns-3
 unfolding widthOf
 returns-3 c =
     let s = c .before .before .before .before .before .before .before in
-    rw (← s.pre .0, ← s.pre .1, sym (c .before .before .before .in-table .ensures) ∙ c .before .before .if2 .left, sym (c .before .in-table2 .ensures) ∙ c .if3 .taken)
+    let zero = sym (c .before .before .before .in-table .ensures) ∙ c .before .before .if2 .left in
+    rw (← s.pre .0, ← s.pre .1, zero, sym (c .before .in-table2 .ensures) ∙ c .if3 .taken)
 
 returns-4 : tie.Need-returns-4
 unfolding widthOf
 returns-4 c =
     let s = c .before .before .before .before .before .before .before in
-    rw (← s.pre .0, ← s.pre .1, sym (c .before .before .before .in-table .ensures) ∙ c .before .before .if2 .left, sym (c .before .in-table2 .ensures) ∙ c .if3 .left)
+    let zero = sym (c .before .before .before .in-table .ensures) ∙ c .before .before .if2 .left in
+    rw (← s.pre .0, ← s.pre .1, zero, sym (c .before .in-table2 .ensures) ∙ c .if3 .left)
 
 pub width-in-spec : {M : Type 1} → statement M
 width-in-spec =

@@ -1,10 +1,9 @@
 -- `lists::token_count` meets its contract: a refusal is handed on, and a table has few tokens. Assumes nothing.
-use mathlib.Core.Path.{refl, sym, _∙_}
 use native.Mathlib.Omega.{arith}
 use borrow.Author.Needs.{needs}
 use borrow.Author.Tests.{eq-eqb, ne-eqb}
 use Rattle.exports.specs.Lists.{tokenCount}
-use Rattle.exports.proofs.Tables.{parse-few}
+use Rattle.keywords.proofs.Agree.{parse-length}
 use Rattle.exports.proofs.lists.token_count.Statement.{statement}
 use Rattle.exports.proofs.lists.token_count.Tie as tie
 
@@ -14,8 +13,8 @@ returns c = rw (← c .before .before .parse .ensures, ne-eqb _ 0 (c .if1 .taken
 
 cast : tie.Need-cast-t4
 cast c =
-    let p = c .before .before .before .parse .ensures in
-    rw p (omega (arith, parse-few (c .before .before .before .before .before .args .list .now)))
+    let b = c .before .before .before in
+    omega (arith, parse-length (b .before .before .args .list .now) (b .parse .result) (b .parse .ensures) (c .before .if1 .left))
 
 returns-2 : tie.Need-returns-2
 unfolding tokenCount

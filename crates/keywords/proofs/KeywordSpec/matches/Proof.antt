@@ -1,5 +1,5 @@
 -- `keywords::KeywordSpec::matches` meets its contract: refusal 2, then 8, then the answer. Assumes nothing.
-use mathlib.Core.Path.{_≡_, ap, sym, _∙_}
+use mathlib.Core.Path.{ap, sym, _∙_}
 use borrow.Author.Needs.{needs}
 use borrow.Author.Tests.{le-leb, lt-leb}
 use Rattle.keywords.specs.declared.Matched.the-variants.{Is}

@@ -1,5 +1,5 @@
 -- `keywords::KeywordSpec::parse` meets its contract: refusal 7, then what reading the list gives. Assumes nothing.
-use mathlib.Core.Path.{_≡_, sym, _∙_}
+use mathlib.Core.Path.{sym, _∙_}
 use borrow.Author.Needs.{needs}
 use Rattle.keywords.proofs.RefusalLaws.{parsed-refused}
 use Rattle.keywords.proofs.KeywordSpec.parse.Statement.{statement}

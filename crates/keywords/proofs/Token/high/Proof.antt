@@ -1,5 +1,4 @@
 -- `keywords::Token::high` meets its contract. Assumes nothing.
-use mathlib.Core.Path.{_≡_}
 use borrow.Author.Tests.{eq-eqb, ne-eqb}
 use Rattle.keywords.proofs.Token.high.Statement.{statement}
 use Rattle.keywords.proofs.Token.high.Tie as tie

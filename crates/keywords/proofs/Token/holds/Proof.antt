@@ -1,6 +1,4 @@
 -- `keywords::Token::holds` meets its contract: the tests of the definition, by the branches. Assumes nothing.
-use mathlib.Core.Path.{_≡_}
-use borrow.Author.Needs.{needs}
 use borrow.Author.Tests.{eq-eqb, ne-eqb, le-leb, lt-leb}
 use Rattle.keywords.proofs.Token.holds.Statement.{statement}
 use Rattle.keywords.proofs.Token.holds.Tie as tie

@@ -1,5 +1,4 @@
 -- `keywords::Token::low` meets its contract. Assumes nothing.
-use mathlib.Core.Path.{_≡_}
 use borrow.Author.Tests.{eq-eqb, ne-eqb}
 use Rattle.keywords.proofs.Token.low.Statement.{statement}
 use Rattle.keywords.proofs.Token.low.Tie as tie

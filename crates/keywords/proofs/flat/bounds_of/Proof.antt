@@ -1,7 +1,7 @@
 -- `keywords::bounds_of` meets its contract. The invariant of its loop: the bounds of the tokens before i are stored, and after them stands 0.
 -- The measure is the table's length less i. Assumes nothing.
 use Prim.Native.Nat.{_-_, _≤_}
-use mathlib.Core.Path.{_≡_, refl, ap, _∙_}
+use mathlib.Core.Path.{_≡_, refl}
 use native.Mathlib.Omega.{arith}
 use borrow.Author.Needs.{needs}
 use lib.ListN.{length, take}

@@ -1,5 +1,5 @@
 -- `keywords::holds` meets its contract: the letters first, where they count, and then the bounds. Assumes nothing.
-use mathlib.Core.Path.{_≡_, sym, _∙_}
+use mathlib.Core.Path.{sym, _∙_}
 use borrow.Author.Needs.{needs}
 use borrow.Author.Tests.{not-true, not-false}
 use Rattle.keywords.proofs.flat.holds.Statement.{statement}

@@ -4,7 +4,7 @@ use Prim.Native.Nat.{_+_, _-_, _≤_}
 use mathlib.Core.Path.{_≡_, sym, _∙_}
 use native.Mathlib.Omega.{arith}
 use borrow.Author.Needs.{needs}
-use lib.ListN.{length, take, drop}
+use lib.ListN.{take, drop}
 use Rattle.keywords.specs.Flat.{within}
 use Rattle.keywords.proofs.FlatLaws.{within-hit, within-on, within-end}
 use Rattle.keywords.proofs.flat.in_bounds.Statement.{statement}

@@ -1,5 +1,5 @@
 -- `keywords::is_keyword_char` meets its contract: refusal 2, then 7, then the answer. Assumes nothing.
-use mathlib.Core.Path.{_≡_, ap, sym, _∙_}
+use mathlib.Core.Path.{ap, sym, _∙_}
 use borrow.Author.Needs.{needs}
 use Rattle.keywords.specs.declared.Matched.the-variants.{Is}
 use Rattle.keywords.proofs.RefusalLaws.{matched-refused, matched-refused-next}

@@ -1,12 +1,11 @@
 -- `keywords::keyword_spec::read_all` meets its contract. The invariant of its loop: the table holds the tokens of the parts before `from`. The
 -- measure is how far `from` is from past the list's end. Assumes nothing.
 use Prim.Native.Nat.{_+_, _-_, _≤_}
-use mathlib.Core.Path.{_≡_, _∙_}
+use mathlib.Core.Path.{_∙_}
 use native.Mathlib.Omega.{arith}
 use borrow.Author.Needs.{needs}
 use borrow.Author.Tests.{le-leb, lt-leb}
 use lib.ListN.{length}
-use Rattle.keywords.specs.Tokens.{tokens}
 use Rattle.keywords.proofs.TokenLaws.{step-next}
 use Rattle.keywords.proofs.TableLaws.{Reading, reading-start, reading-length, reading-skip, reading-keep, reading-full, reading-end}
 use Rattle.keywords.proofs.keyword_spec.read_all.Statement.{statement}

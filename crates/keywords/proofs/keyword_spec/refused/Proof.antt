@@ -1,5 +1,4 @@
 -- `keywords::keyword_spec::refused` meets its contract: the table is the empty one. Assumes nothing.
-use mathlib.Core.Path.{_≡_}
 use borrow.Author.Needs.{needs}
 use Rattle.keywords.proofs.keyword_spec.refused.Statement.{statement}
 use Rattle.keywords.proofs.keyword_spec.refused.Tie as tie

@@ -1,6 +1,6 @@
 -- `keywords::numbers::digits` meets its contract. The invariant of its loop: the digits before i have the value `sum`, which is below 2^32,
 -- and reading on from them gives the number. The measure is the part's length less i. Assumes nothing.
-use Prim.Native.Nat.{_+_, _*_, _-_, _≤_}
+use Prim.Native.Nat.{_-_, _≤_}
 use mathlib.Core.Path.{_≡_, sym, _∙_}
 use native.Mathlib.Omega.{arith}
 use borrow.Author.Needs.{needs}

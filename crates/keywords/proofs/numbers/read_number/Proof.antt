@@ -1,5 +1,5 @@
 -- `keywords::numbers::read_number` meets its contract: what stands after a `+`, or the whole part, is read as digits. Assumes nothing.
-use mathlib.Core.Path.{_≡_, _∙_}
+use mathlib.Core.Path.{_∙_}
 use native.Mathlib.Omega.{arith}
 use borrow.Author.Needs.{needs}
 use Rattle.keywords.proofs.NumberLaws.{number-none, number-plus, number-plain}

@@ -1,5 +1,5 @@
 -- `keywords::parts::trimmed` meets its contract: both ends are trimmed by the table WHITE, the start first. Assumes nothing.
-use mathlib.Core.Path.{_≡_, refl, sym}
+use mathlib.Core.Path.{refl, sym}
 use borrow.Author.Needs.{needs}
 use lib.Seq.{length-take-le}
 use Rattle.chars.specs.White.{whites}

@@ -1,5 +1,5 @@
 -- `keywords::refusals::refused_char` meets its contract: the test is that of the definition. Assumes nothing.
-use mathlib.Core.Path.{_≡_, sym, _∙_}
+use mathlib.Core.Path.{sym, _∙_}
 use borrow.Author.Needs.{needs}
 use Rattle.keywords.proofs.refusals.refused_char.Statement.{statement}
 use Rattle.keywords.proofs.refusals.refused_char.Tie as tie

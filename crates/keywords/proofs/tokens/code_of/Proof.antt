@@ -1,5 +1,5 @@
 -- `keywords::tokens::code_of` meets its contract: the number's value, or the single character. Assumes nothing.
-use mathlib.Core.Path.{_≡_, sym, _∙_}
+use mathlib.Core.Path.{sym, _∙_}
 use borrow.Author.Needs.{needs}
 use Rattle.keywords.proofs.tokens.code_of.Statement.{statement}
 use Rattle.keywords.proofs.tokens.code_of.Tie as tie

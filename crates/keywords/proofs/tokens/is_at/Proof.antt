@@ -1,5 +1,4 @@
 -- `keywords::tokens::is_at` meets its contract. Assumes nothing.
-use mathlib.Core.Path.{_≡_}
 use borrow.Author.Needs.{needs}
 use Rattle.keywords.proofs.TokenLaws.{at-not, at-one}
 use Rattle.keywords.proofs.tokens.is_at.Statement.{statement}

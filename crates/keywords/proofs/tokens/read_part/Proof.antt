@@ -1,5 +1,5 @@
 -- `keywords::tokens::read_part` meets its contract: the part up to the next comma, trimmed, is the token's. Assumes nothing.
-use mathlib.Core.Path.{_≡_, ap, _∙_}
+use mathlib.Core.Path.{ap, _∙_}
 use native.Mathlib.Omega.{arith}
 use borrow.Author.Needs.{needs}
 use Rattle.keywords.specs.Grammar.{tokenOf}

@@ -1,5 +1,5 @@
 -- `keywords::tokens::single_of` meets its contract. Assumes nothing.
-use mathlib.Core.Path.{_≡_, _∙_}
+use mathlib.Core.Path.{_∙_}
 use borrow.Author.Needs.{needs}
 use Rattle.keywords.proofs.TokenLaws.{single-not, single-one}
 use Rattle.keywords.proofs.tokens.single_of.Statement.{statement}

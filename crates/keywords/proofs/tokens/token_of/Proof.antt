@@ -1,5 +1,5 @@
 -- `keywords::tokens::token_of` meets its contract: the tests of the definition in their order. Assumes nothing.
-use mathlib.Core.Path.{_≡_, sym, _∙_}
+use mathlib.Core.Path.{sym, _∙_}
 use borrow.Author.Needs.{needs}
 use borrow.Author.Tests.{eq-eqb, ne-eqb}
 use Rattle.keywords.proofs.tokens.token_of.Statement.{statement}

@@ -1,4 +1,4 @@
--- `text::offsets::up` meets its contract. The invariant of its loop: i stands in row `row`, and `left` rows are still to go up.
+-- `text::offsets::up` meets its contract. The invariant of its loop: i stands in row r, and `left` rows are still to go up.
 -- The measure is i. Assumes nothing.
 use Prim.Native.Nat.{_+_, _-_, _≤_}
 use mathlib.Core.Path.{_≡_, sym}
@@ -7,26 +7,23 @@ use borrow.Author.Needs.{needs}
 use Rattle.text.specs.Offsets.{Stands, rowStart}
 use Rattle.text.proofs.Rows.{start-zero}
 use Rattle.text.proofs.Before.{on-first}
-use Rattle.text.proofs.Stands.{stands-at, stands-own, line-eq, back-char, back-nl}
+use Rattle.text.proofs.Stands.{stands-at, line-eq, back-char, back-nl}
 use Rattle.text.proofs.offsets.up.Statement.{statement}
 use Rattle.text.proofs.offsets.up.Tie as tie
 
 abbrev Inv-loop : tie.InvT-loop
-Inv-loop t n row₀ left₀ i₀ row left i = Stands t row (rowStart t row) i × (left ≤ n) × (row + n ≡ row₀ + left)
+Inv-loop t row at n r₀ left₀ i₀ r left i = Stands t r (rowStart t r) i × (left ≤ n) × (r + n ≡ row + left)
 
 abbrev μ-loop : tie.MeasureT-loop
-μ-loop t n row₀ left₀ i₀ row left i = i
-
-loop-holds : tie.Need-loop-holds Inv-loop μ-loop
-loop-holds c = (stands-own (c .pre), omega arith, omega arith)
+μ-loop t row at n r₀ left₀ i₀ r left i = i
 
 returns : tie.Need-returns Inv-loop μ-loop
 returns c =
     let k = c .before .before .before in
     line-eq (k .before .before .args .t .now) (back-nl (k .before .loop .inv .0) (k .loop-test .taken) (c .before .if1 .taken) .0) (omega arith)
 
-sub-row : tie.Need-sub-row Inv-loop μ-loop
-sub-row c =
+sub-r : tie.Need-sub-r Inv-loop μ-loop
+sub-r c =
     let k = c .before .before .before in
     back-nl (k .before .loop .inv .0) (k .loop-test .taken) (c .before .if1 .taken) .1
 
@@ -50,5 +47,5 @@ returns-2 c =
 pub up-spec : {M : Type 1} → statement M
 up-spec =
     tie.close
-    (tie.spec Inv-loop μ-loop loop-holds (λ c. search needs) (λ c. search needs) (λ c. search needs) returns sub-row (λ c. search needs) (λ c. search needs)
+    (tie.spec Inv-loop μ-loop (λ c. search needs) (λ c. search needs) (λ c. search needs) (λ c. search needs) returns sub-r (λ c. search needs) (λ c. search needs)
     loop-again (λ c. search needs) loop-again-2 returns-2)

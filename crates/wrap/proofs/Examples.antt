@@ -1,0 +1,31 @@
+-- P5 and P6 of document 01, and the rows that have one segment. Each holds by computation. Assumes nothing.
+use mathlib.Core.Path.{_≡_, refl}
+use mathlib.Core.List.{List, [], _∷_}
+use Prim.Native.Nat.{ℕ}
+use Rattle.chars.specs.White.{whites, isWhite}
+use Rattle.chars.specs.Width.{zeroWidths, doubleWidths, widthOf}
+use Rattle.wrap.specs.declared.Wrap.{Wrap}
+use Rattle.wrap.specs.declared.Wrap.the-variants.{None, Char, Word}
+use Rattle.wrap.specs.Segments.{fits, afterWhite, firstSegment, segmentsFrom}
+use Rattle.wrap.specs.Modes.{segmentsOf}
+
+-- by today's tables
+abbrev wrapped : Wrap → ℕ → List ℕ → List ℕ
+wrapped mode width row = segmentsOf widthOf isWhite mode width row
+
+-- `ab cd`
+abbrev words : List ℕ
+words = 97 ∷ 98 ∷ 32 ∷ 99 ∷ 100 ∷ []
+
+pub p5 : (wrapped Word 4 words ≡ 0 ∷ 3 ∷ 3 ∷ 5 ∷ []) × (wrapped Char 4 words ≡ 0 ∷ 4 ∷ 4 ∷ 5 ∷ [])
+unfolding segmentsOf segmentsFrom firstSegment afterWhite fits whites isWhite zeroWidths doubleWidths widthOf
+p5 = (refl, refl)
+
+pub p6 : wrapped Char 1 (0x3042 ∷ 0x3042 ∷ []) ≡ 0 ∷ 1 ∷ 1 ∷ 2 ∷ []
+unfolding segmentsOf segmentsFrom firstSegment afterWhite fits whites isWhite zeroWidths doubleWidths widthOf
+p6 = refl
+
+-- the one segment
+pub whole : (wrapped None 4 words ≡ 0 ∷ 5 ∷ []) × (wrapped Char 0 words ≡ 0 ∷ 5 ∷ []) × (wrapped Word 4 [] ≡ 0 ∷ 0 ∷ [])
+unfolding segmentsOf segmentsFrom firstSegment afterWhite fits whites isWhite zeroWidths doubleWidths widthOf
+whole = (refl, refl, refl)

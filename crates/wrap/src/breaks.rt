@@ -1,0 +1,230 @@
+// Where a row is broken. A walk over segments takes the row's rest, asks for the first segment of
+// it, and goes on behind that. By words a character can be walked twice and no more: what lies
+// between a break and the end of what fitted has no white space and fits the next segment, which
+// therefore reaches past it (`proofs/Twice.antt`).
+use crate::Segments;
+use crate::Wrap;
+use crate::cells;
+ghost use mathlib.Core.Path.{_≡_};
+ghost use Prim.Native.Nat.{_+_, _*_, _≤_, _<_};
+ghost use lib.ListN.{length, set};
+ghost use Rattle.chars.specs.White.{whites, isWhite};
+ghost use Rattle.chars.specs.Width.{widthOf};
+ghost use Rattle.wrap.specs.Segments.{afterWhite, charSegment, firstSegment};
+ghost use Rattle.wrap.specs.Modes.{isNone, isWord, isWhole};
+ghost use Rattle.wrap.specs.Calls.{rowSegments, Written, Broken, Whole, Wraps};
+ghost use Rattle.wrap.specs.Lent.{Widths, Tables};
+
+// The place after the last white space among the first n characters, or 0 where there is none.
+fn after_white(white: &[u32], row: &[u32], n: usize) -> usize
+    requires { ⌜ (now white ≡ whites) × (n ≤ length (now row)) ⌝ }
+    ensures { λ r. ⌜ r ≡ afterWhite isWhite (now (row .entry)) n ⌝ }
+{
+    let mut k = n;
+    while k > 0 {
+        if chars::white_in(white, row[k - 1]) {
+            return k;
+        }
+        k -= 1;
+    }
+    0
+}
+
+// How many characters of the row's start go into the width. One wider than the width is taken
+// alone: without that the segment would be empty, and no walk would get past it.
+fn char_segment(zeros: &[u32], doubles: &[u32], row: &[u32], width: u32) -> usize
+    requires { ⌜ Widths (now zeros) (now doubles) × (0 < length (now row)) ⌝ }
+    ensures { λ r. ⌜ r ≡ charSegment widthOf width (now (row .entry)) ⌝ }
+    ensures { λ r. ⌜ (0 < r) × (r ≤ length (now (row .entry))) ⌝ }
+{
+    let n = cells::fitting(zeros, doubles, row, width);
+    if n == 0 {
+        return 1;
+    }
+    n
+}
+
+// How many characters the first segment of a row has that is not empty; by words if `word` is set,
+// else by characters. The row may be the rest of one: this is the step of a walk over segments.
+pub fn first_segment(
+    zeros: &[u32],
+    doubles: &[u32],
+    white: &[u32],
+    row: &[u32],
+    width: u32,
+    word: bool,
+) -> usize
+    requires { ⌜ Tables (now zeros) (now doubles) (now white) × (0 < length (now row)) ⌝ }
+    ensures { λ r. ⌜ r ≡ firstSegment widthOf isWhite word width (now (row .entry)) ⌝ }
+    ensures { λ r. ⌜ (0 < r) × (r ≤ length (now (row .entry))) ⌝ }
+{
+    let n = char_segment(zeros, doubles, row, width);
+    if !word {
+        return n;
+    }
+    if n == row.len() {
+        return n;
+    }
+    let k = after_white(white, row, n);
+    if k == 0 {
+        return n;
+    }
+    k
+}
+
+// How many segments the row has.
+fn count_segments(
+    zeros: &[u32],
+    doubles: &[u32],
+    white: &[u32],
+    row: &[u32],
+    width: u32,
+    word: bool,
+) -> usize
+    requires { ⌜ Tables (now zeros) (now doubles) (now white) ⌝ }
+    ensures { λ r. ⌜ length (rowSegments word width (now (row .entry))) ≡ 2 * r ⌝ }
+    ensures { λ r. ⌜ r ≤ length (now (row .entry)) ⌝ }
+{
+    let mut n: usize = 0;
+    let mut start: usize = 0;
+    while start < row.len() {
+        let rest = &row[start..];
+        start += first_segment(zeros, doubles, white, rest, width, word);
+        n += 1;
+    }
+    n
+}
+
+// Writes a segment to the places `at` and `at + 1` of the room.
+fn put_segment(out: &mut [u32], at: usize, start: usize, end: usize)
+    requires { ⌜ (at + 2 ≤ length (now out)) × ((start ≤ 1048576) × (end ≤ 1048576)) ⌝ }
+    ensures { λ _. ⌜ now (out .exit) ≡ set (set (now (out .entry)) at start) (at + 1) end ⌝ }
+{
+    out[at] = start as u32;
+    out[at + 1] = end as u32;
+}
+
+// Writes the segments to the front of the room.
+fn write_segments(
+    zeros: &[u32],
+    doubles: &[u32],
+    white: &[u32],
+    row: &[u32],
+    width: u32,
+    word: bool,
+    out: &mut [u32],
+)
+    requires { ⌜ Tables (now zeros) (now doubles) (now white) × (length (now row) ≤ 1048576) ⌝ }
+    requires { ⌜ length (rowSegments word width (now row)) ≤ length (now out) ⌝ }
+    ensures { λ _. ⌜ Written word width (now (row .entry)) (now (out .entry)) (now (out .exit)) ⌝ }
+{
+    let mut at: usize = 0;
+    let mut start: usize = 0;
+    while start < row.len() {
+        let rest = &row[start..];
+        let end = start + first_segment(zeros, doubles, white, rest, width, word);
+        put_segment(out, at, start, end);
+        at += 2;
+        start = end;
+    }
+}
+
+// The segments of a row that is broken: counted first, so that nothing is written where the room is
+// too small.
+fn fit_segments(
+    zeros: &[u32],
+    doubles: &[u32],
+    white: &[u32],
+    row: &[u32],
+    width: u32,
+    word: bool,
+    out: &mut [u32],
+) -> Segments
+    requires { ⌜ Tables (now zeros) (now doubles) (now white) × (length (now row) ≤ 1048576) ⌝ }
+    ensures { λ r. ⌜ Broken word width (now (row .entry)) (now (out .entry)) r (now (out .exit)) ⌝ }
+{
+    let n = count_segments(zeros, doubles, white, row, width, word);
+    if out.len() < 2 * n {
+        return Segments::Refused(9);
+    }
+    write_segments(zeros, doubles, white, row, width, word, out);
+    Segments::Count(n as u32)
+}
+
+// The same by the tables of today.
+fn broken(row: &[u32], width: u32, word: bool, out: &mut [u32]) -> Segments
+    requires { ⌜ length (now row) ≤ 1048576 ⌝ }
+    ensures { λ r. ⌜ Broken word width (now (row .entry)) (now (out .entry)) r (now (out .exit)) ⌝ }
+{
+    fit_segments(
+        &chars::ZERO_WIDTH,
+        &chars::DOUBLE_WIDTH,
+        &chars::WHITE,
+        row,
+        width,
+        word,
+        out,
+    )
+}
+
+// The one segment of a row that is not broken.
+fn whole(row: &[u32], out: &mut [u32]) -> Segments
+    requires { ⌜ length (now row) ≤ 1048576 ⌝ }
+    ensures { λ r. ⌜ Whole (now (row .entry)) (now (out .entry)) r (now (out .exit)) ⌝ }
+{
+    if out.len() < 2 {
+        return Segments::Refused(9);
+    }
+    put_segment(out, 0, 0, row.len());
+    Segments::Count(1)
+}
+
+fn is_none(mode: Wrap) -> bool
+    ensures { λ r. ⌜ r ≡ isNone mode ⌝ }
+{
+    match mode {
+        Wrap::None => true,
+        Wrap::Char => false,
+        Wrap::Word => false,
+    }
+}
+
+fn is_word(mode: Wrap) -> bool
+    ensures { λ r. ⌜ r ≡ isWord mode ⌝ }
+{
+    match mode {
+        Wrap::None => false,
+        Wrap::Char => false,
+        Wrap::Word => true,
+    }
+}
+
+// Whether a row of `count` characters has one segment whatever its cells.
+fn is_whole(mode: Wrap, width: u32, count: usize) -> bool
+    ensures { λ r. ⌜ r ≡ isWhole mode width count ⌝ }
+{
+    if is_none(mode) {
+        return true;
+    }
+    if width == 0 {
+        return true;
+    }
+    count == 0
+}
+
+// Breaks a row into segments of at most `width` cells and writes them to the front of the room, as
+// pairs start, end; answers how many there are. Mode None, width 0 and an empty row give the one
+// segment from 0 to the row's count. Refused, it writes nothing.
+pub fn wrap_segments(row: &[u32], width: u16, mode: Wrap, out: &mut [u32]) -> Segments
+    ensures { λ r. ⌜ Wraps mode width (now (row .entry)) (now (out .entry)) r (now (out .exit)) ⌝ }
+{
+    let f = row::row_refusal(row);
+    if f != 0 {
+        return Segments::Refused(f);
+    }
+    let cells = width as u32;
+    if is_whole(mode, cells, row.len()) {
+        return whole(row, out);
+    }
+    broken(row, cells, is_word(mode), out)
+}
