@@ -1,18 +1,16 @@
 -- What is known of a row and a tabstop that are not refused. Assumes nothing.
-use mathlib.Core.Path.{_≡_, refl, sym, _∙_}
+use mathlib.Core.Path.{_≡_}
 use mathlib.Core.List.{List}
-use mathlib.Core.Bool.{cond}
 use Prim.Native.Nat.{ℕ, _≤_, _<_}
 use native.Mathlib.Decide.{decLe, ℕ-discrete}
 use native.Mathlib.Omega.{arith}
 use lib.ListN.{length}
-use lib.Dec.{eqb, ltb}
 use borrow.Author.Tests.{eq-eqb, ne-eqb, lt-ltb}
 use Rattle.chars.specs.Width.{zeroWidths, doubleWidths}
 use Rattle.row.specs.Row.{rowRefusal}
 use Rattle.row.proofs.Answers.{accepted-brief}
 use Rattle.columns.specs.Columns.{columnRefusal, stopOf}
-use Rattle.columns.specs.Ready.{Tables, Ready}
+use Rattle.columns.specs.Ready.{Ready}
 use Rattle.columns.proofs.Visual.{stop-pos, stop-most}
 
 row-first : (row : List ℕ) (tabstop : ℕ) → (rowRefusal row ≡ 0 → ⊥) → columnRefusal row tabstop ≡ rowRefusal row

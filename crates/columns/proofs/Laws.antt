@@ -1,17 +1,16 @@
 -- What a user of tab columns leans on, over any width function w: a setting may change the table and leaves these as they are.
 -- Assumes nothing.
-use mathlib.Core.Path.{_≡_, refl, sym, ap, _∙_}
-use mathlib.Core.List.{List, [], _∷_}
-use mathlib.Core.Bool.{Bool, true, false, cond, _||_}
-use Prim.Native.Nat.{ℕ, zero, suc, _+_, _-_, _*_, _%_, _≤_, _<_}
+use mathlib.Core.Path.{_≡_, sym, ap, _∙_}
+use mathlib.Core.List.{List}
+use Prim.Native.Nat.{ℕ, suc, _+_, _-_, _*_, _%_, _≤_, _<_}
 use native.Mathlib.Nat.{mod-lt, mod-add-mod, mod-self}
 use native.Mathlib.Decide.{decLt, ℕ-discrete}
 use native.Mathlib.Omega.{arith}
-use lib.Dec.{eqb}
 use lib.ListN.{length, getD}
 use borrow.Author.Tests.{eq-eqb, ne-eqb}
-use Rattle.columns.specs.Columns.{stopOf, cellsAt, visualFrom, visualCol, charFrom, charCol, cursorCol, leadingFrom, leadingWidth}
-use Rattle.columns.proofs.Visual.{stop-pos, visual-past, visual-step, visual-rises, visual-most, cells-tab, tab-ends}
+use Rattle.columns.specs.Columns.{stopOf, visualCol, charFrom, charCol, cursorCol, leadingWidth}
+use Rattle.columns.proofs.Visual.{stop-pos, visual-step, visual-rises, visual-most, cells-tab}
+use Rattle.columns.proofs.Cursor.{tab-ends}
 use Rattle.columns.proofs.Leading.{blanksOf, leading-visual}
 use Rattle.columns.proofs.Chars.{Holds, char-holds, holds-only}
 

@@ -1,15 +1,15 @@
 -- The leading spaces and tabs of a row. Assumes nothing.
-use mathlib.Core.Path.{_≡_, refl, sym, ap, _∙_}
+use mathlib.Core.Path.{_≡_, refl, sym, _∙_}
 use mathlib.Core.List.{List, [], _∷_}
-use mathlib.Core.Bool.{Bool, true, false, cond, _||_}
-use Prim.Native.Nat.{ℕ, zero, suc, _+_, _-_, _*_, _%_, _≤_, _<_}
+use mathlib.Core.Bool.{cond, _||_}
+use Prim.Native.Nat.{ℕ, suc, _+_, _-_, _*_, _%_, _≤_, _<_}
 use native.Mathlib.Decide.{ℕ-discrete}
 use native.Mathlib.Omega.{arith}
 use lib.Dec.{eqb}
 use lib.ListN.{length, getD, drop, drop-of-length-le}
 use borrow.Author.Tests.{eq-eqb, ne-eqb}
 use Rattle.row.proofs.Scalars.{drop-at}
-use Rattle.columns.specs.Columns.{cellsAt, visualFrom, leadingFrom}
+use Rattle.columns.specs.Columns.{visualFrom, leadingFrom}
 use Rattle.columns.proofs.Visual.{visual-zero, visual-cons, visual-past}
 
 module _ (tab v x : ℕ) (row : List ℕ) where

@@ -1,16 +1,14 @@
 -- Laws of visual columns, over any width function w and tabstop. Assumes nothing.
 use mathlib.Core.Path.{_≡_, refl, sym, ap, _∙_}
 use mathlib.Core.List.{List, [], _∷_}
-use mathlib.Core.Bool.{Bool, true, false, cond, _||_}
 use Prim.Native.Nat.{ℕ, zero, suc, _+_, _-_, _*_, _%_, _≤_, _<_}
 use native.Mathlib.Numerals.{add-one}
 use native.Mathlib.Nat.{mod-lt, le-of-suc-le-suc}
-use native.Mathlib.Decide.{decLe, ℕ-discrete}
+use native.Mathlib.Decide.{ℕ-discrete}
 use native.Mathlib.Omega.{arith}
-use lib.Dec.{eqb, leb}
-use lib.ListN.{length, getD, List·getD-eq-default}
+use lib.ListN.{length, getD}
 use borrow.Author.Tests.{eq-eqb, ne-eqb}
-use Rattle.columns.specs.Columns.{stopOf, cellsAt, visualFrom, cursorFrom}
+use Rattle.columns.specs.Columns.{stopOf, cellsAt, visualFrom}
 
 -- a tabstop is at least 1, and no larger than it was given, but for 0
 pub stop-pos : (tabstop : ℕ) → 0 < stopOf tabstop
@@ -119,18 +117,3 @@ module _ {w : ℕ → ℕ} {tab : ℕ} {row : List ℕ} {i visual : ℕ} (so-far
   visual-end col h k =
       let e : i ≡ length row = omega (arith, so-far .inside) in
       so-far .here ∙ ap (visualFrom w tab 0 row) e ∙ sym (visual-past w tab 0 row col (omega arith))
-
--- where a cursor is drawn
-module _ (w : ℕ → ℕ) (tab : ℕ) (row : List ℕ) (i : ℕ) where
-  pub cursor-past : length row ≤ i → cursorFrom w tab row i ≡ visualFrom w tab 0 row i
-  cursor-past h = rw (List·getD-eq-default row 0 h)
-
-  pub cursor-other : (getD row i 0 ≡ 9 → ⊥) → cursorFrom w tab row i ≡ visualFrom w tab 0 row i
-  cursor-other n = rw (ne-eqb _ 9 n)
-
-  pub cursor-tab : getD row i 0 ≡ 9 → {v : ℕ} → v ≡ visualFrom w tab 0 row (i + 1) → v - 1 ≡ cursorFrom w tab row i
-  cursor-tab e {v} k = rw (eq-eqb _ 9 e, k)
-
-  -- after a tab at least one cell has passed
-  pub tab-ends : i < length row → 0 < tab → getD row i 0 ≡ 9 → visualFrom w tab 0 row i < visualFrom w tab 0 row (i + 1)
-  tab-ends h p e = rw (visual-step w tab 0 row i h, e) (omega (arith, tab-cells w tab p (visualFrom w tab 0 row i) .0))

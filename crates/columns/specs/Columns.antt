@@ -2,7 +2,7 @@
 -- From `geom.rs` and document 01, "Character facts". Definitions only; the laws are in `proofs/`. Assumes nothing.
 use Prim.Native.Nat.{ℕ, zero, suc, _+_, _-_, _%_}
 use mathlib.Core.List.{List, [], _∷_}
-use mathlib.Core.Bool.{Bool, cond, _||_}
+use mathlib.Core.Bool.{cond, _||_}
 use lib.ListN.{getD}
 use lib.Dec.{eqb, leb, ltb}
 use Rattle.row.specs.Row.{rowRefusal}

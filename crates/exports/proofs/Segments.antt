@@ -6,17 +6,17 @@ use borrow.Author.Tests.{le-leb, lt-leb}
 use Rattle.wrap.specs.declared.Wrap.{Wrap}
 use Rattle.wrap.specs.declared.Wrap.the-variants.{None, Char, Word}
 use Rattle.wrap.specs.declared.Segments.{Segments}
-use Rattle.wrap.specs.Calls.{Wrapped}
+use Rattle.wrap.specs.Calls.{Wraps}
 use Rattle.exports.specs.declared.Told.{Told}
 use Rattle.exports.specs.declared.Told.the-variants.{Refused}
 use Rattle.exports.specs.Wraps.{modeOf, segmented, segmentsLeft, toldSegments, Segmented}
 
 module _ {mode width : ℕ} {row segments : List ℕ} where
   -- a mode's own call
-  pub segmented-by : {m : Segments} {r : Told} {segments′ : List ℕ} {by : Wrap} → by ≡ modeOf mode → mode ≤ 2 → Wrapped by width row segments m segments′ → r ≡ toldSegments m → Segmented mode width row segments r segments′
+  pub segmented-by : {m : Segments} {r : Told} {segments′ : List ℕ} {by : Wrap} → by ≡ modeOf mode → mode ≤ 2 → Wraps by width row segments m segments′ → r ≡ toldSegments m → Segmented mode width row segments r segments′
   unfolding segmented segmentsLeft
   segmented-by {m} {r} {segments′} e h w q =
-      let v = subst (λ (x : Wrap). Wrapped x width row segments m segments′) e w in
+      let v = subst (λ (x : Wrap). Wraps x width row segments m segments′) e w in
       record { answers = rw (le-leb mode 2 h) (q ∙ ap toldSegments (v .answer)); leaves = rw (le-leb mode 2 h) (v .left) }
 
   -- a number that stands for no mode

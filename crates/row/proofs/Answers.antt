@@ -1,14 +1,11 @@
 -- An answer that is a column, from the number that the checks gave; and what an accepted row is known for. Assumes nothing.
-use mathlib.Core.Path.{_≡_, refl, sym, _∙_}
+use mathlib.Core.Path.{_≡_, refl}
 use mathlib.Core.List.{List}
-use mathlib.Core.Bool.{Bool, true, false, cond}
 use Prim.Native.Nat.{ℕ, zero, suc, _≤_, _<_}
 use native.Mathlib.Decide.{decLe}
 use native.Mathlib.Omega.{arith}
 use lib.ListN.{length}
-use lib.Dec.{ltb}
 use borrow.Author.Tests.{lt-ltb}
-use Rattle.row.specs.declared.Column.{Column}
 use Rattle.row.specs.declared.Column.the-variants.{At, Refused}
 use Rattle.row.specs.Row.{rowRefusal, columnOf}
 

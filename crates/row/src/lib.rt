@@ -5,7 +5,7 @@ ghost use mathlib.Core.Path.{_≡_};
 ghost use Rattle.chars.specs.Scalar.{isScalar};
 ghost use Rattle.row.specs.Row.{all, rowRefusal};
 
-// A column, or the number that the call is refused for.
+// A column, of characters or of cells, or the number that the call is refused for.
 pub enum Column {
     At(u32),
     Refused(u32),

@@ -3,7 +3,6 @@
 use borrow.Author.Needs.{needs}
 use Prim.Native.Nat.{_-_}
 use lib.ListN.{length}
-use native.Mathlib.Omega.{arith}
 use Rattle.chars.specs.Width.{widthOf}
 use Rattle.columns.proofs.Chars.{CharTo, char-start, char-next, char-stop, char-end}
 use Rattle.columns.proofs.char_at.Statement.{statement}

@@ -1,10 +1,9 @@
 -- `columns::cursor_at` meets its contract: past the row's end stands no tab, and a tab has a last cell. Assumes nothing.
 use borrow.Author.Needs.{needs}
-use borrow.Author.Tests.{eq-eqb, ne-eqb}
-use mathlib.Core.Path.{_≡_, sym, ap, _∙_}
+use mathlib.Core.Path.{sym, _∙_}
 use native.Mathlib.Omega.{arith}
 use Rattle.chars.specs.Width.{widthOf}
-use Rattle.columns.proofs.Visual.{cursor-past, cursor-tab, cursor-other, tab-ends}
+use Rattle.columns.proofs.Cursor.{cursor-past, cursor-tab, cursor-other, tab-ends}
 use Rattle.columns.proofs.cursor_at.Statement.{statement}
 use Rattle.columns.proofs.cursor_at.Tie as tie
 

@@ -1,7 +1,6 @@
 -- `columns::refused` meets its contract: the numbers in the order of document 01. Assumes nothing.
 use borrow.Author.Needs.{needs}
 use borrow.Author.Tests.{eq-eqb, ne-eqb, lt-ltb, le-ltb}
-use mathlib.Core.Path.{sym, _∙_}
 use Rattle.columns.specs.Columns.{columnRefusal}
 use Rattle.columns.proofs.refused.Statement.{statement}
 use Rattle.columns.proofs.refused.Tie as tie
