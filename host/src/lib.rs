@@ -232,3 +232,115 @@ impl Room {
         })
     }
 }
+
+// ── Carets and motions ──────────────────────────────────────────────
+
+/// Row, column and sticky column.
+#[derive(Clone, Copy, Debug, PartialEq, Eq)]
+pub struct Caret {
+    pub row: u32,
+    pub col: u32,
+    pub sticky: Option<u32>,
+}
+
+impl Caret {
+    fn held(self) -> (u32, u32) {
+        (self.sticky.is_some().into(), self.sticky.unwrap_or(0))
+    }
+
+    fn of([row, col, held, sticky]: [u32; 4]) -> Caret {
+        Caret { row, col, sticky: (held == 1).then_some(sticky) }
+    }
+}
+
+macro_rules! motions {
+    ($($name:ident)*) => {
+        /// A motion of a text, a caret and a count, in the order of motions.rs; some take no count.
+        #[allow(non_camel_case_types)]
+        #[derive(Clone, Copy, Debug)]
+        pub enum Motion { $($name),* }
+
+        /// Every motion, with its name.
+        pub const MOTIONS: &[(&str, Motion)] = &[$((stringify!($name), Motion::$name)),*];
+    };
+}
+
+motions! {
+    move_left move_right_in_line move_right_to_end move_space_fwd move_backspace_back move_line_start
+    move_first_non_blank move_line_end move_goto_column move_last_non_blank move_paragraph_prev move_paragraph_next
+    move_section_backward move_section_forward move_section_end_backward move_section_end_forward
+    move_first_non_blank_next_line move_first_non_blank_prev_line move_first_non_blank_line move_top move_bottom
+}
+
+pub fn motion(which: Motion, text: &[u32], k: Caret, count: u32) -> Result<Caret, u32> {
+    let (held, sticky) = k.held();
+    let (points, len) = (text.as_ptr(), text.len());
+    answer(|out| unsafe {
+        raw::tsivareza_motion_u32(which as u32, points, len, k.row, k.col, held, sticky, count, out)
+    })
+    .map(Caret::of)
+}
+
+/// A search from a caret.
+#[derive(Clone, Copy, Debug)]
+pub enum Seek {
+    MatchBracket,
+    FindCharOnLine { x: u32, forward: bool, till: bool, skip_adjacent: bool },
+}
+
+impl Seek {
+    fn numbers(self) -> (u32, u32) {
+        match self {
+            Seek::MatchBracket => (0, 0),
+            Seek::FindCharOnLine { x, forward, till, skip_adjacent } => {
+                (1 + u32::from(forward) + 2 * u32::from(till) + 4 * u32::from(skip_adjacent), x)
+            }
+        }
+    }
+}
+
+/// Whether it was found, and the caret.
+fn told([found, row, col, held, sticky]: [u32; 5]) -> (bool, Caret) {
+    (found == 1, Caret::of([row, col, held, sticky]))
+}
+
+pub fn seek(which: Seek, text: &[u32], k: Caret) -> Result<(bool, Caret), u32> {
+    let ((op, x), (held, sticky)) = (which.numbers(), k.held());
+    let (points, len) = (text.as_ptr(), text.len());
+    answer(|out| unsafe { raw::tsivareza_seek_u32(op, points, len, k.row, k.col, held, sticky, x, out) }).map(told)
+}
+
+/// The partner of the bracket at a row and a column.
+pub fn matching_bracket_pos(text: &[u32], row: u32, col: u32) -> Result<Option<(u32, u32)>, u32> {
+    answer(|out| unsafe { raw::tsivareza_matching_bracket_pos_u32(text.as_ptr(), text.len(), row, col, out) })
+        .map(|[found, row, col]| (found == 1).then_some((row, col)))
+}
+
+impl Room {
+    pub fn motion(&mut self, which: Motion, text: &[u8], k: Caret, count: u32) -> Result<Caret, u32> {
+        let ((held, sticky), room) = (k.held(), &mut self.0);
+        let (points, most) = (room.as_mut_ptr(), room.len());
+        let (bytes, len) = (text.as_ptr(), text.len());
+        answer(|out| unsafe {
+            raw::tsivareza_motion(which as u32, bytes, len, points, most, k.row, k.col, held, sticky, count, out)
+        })
+        .map(Caret::of)
+    }
+
+    pub fn seek(&mut self, which: Seek, text: &[u8], k: Caret) -> Result<(bool, Caret), u32> {
+        let ((op, x), (held, sticky), room) = (which.numbers(), k.held(), &mut self.0);
+        let (points, most) = (room.as_mut_ptr(), room.len());
+        let (bytes, len) = (text.as_ptr(), text.len());
+        answer(|out| unsafe { raw::tsivareza_seek(op, bytes, len, points, most, k.row, k.col, held, sticky, x, out) })
+            .map(told)
+    }
+
+    pub fn matching_bracket_pos(&mut self, text: &[u8], row: u32, col: u32) -> Result<Option<(u32, u32)>, u32> {
+        let room = &mut self.0;
+        let (points, most) = (room.as_mut_ptr(), room.len());
+        answer(|out| unsafe {
+            raw::tsivareza_matching_bracket_pos(text.as_ptr(), text.len(), points, most, row, col, out)
+        })
+        .map(|[found, row, col]| (found == 1).then_some((row, col)))
+    }
+}

@@ -99,4 +99,71 @@ unsafe extern "C" {
         segments_len: usize,
         out: *mut [u32; 1],
     ) -> u32;
+
+    pub fn tsivareza_motion(
+        op: u32,
+        text: *const u8,
+        text_len: usize,
+        room: *mut u32,
+        room_len: usize,
+        row: u32,
+        col: u32,
+        held: u32,
+        sticky: u32,
+        count: u32,
+        out: *mut [u32; 4],
+    ) -> u32;
+    pub fn tsivareza_motion_u32(
+        op: u32,
+        text: *const u32,
+        text_len: usize,
+        row: u32,
+        col: u32,
+        held: u32,
+        sticky: u32,
+        count: u32,
+        out: *mut [u32; 4],
+    ) -> u32;
+
+    pub fn tsivareza_seek(
+        op: u32,
+        text: *const u8,
+        text_len: usize,
+        room: *mut u32,
+        room_len: usize,
+        row: u32,
+        col: u32,
+        held: u32,
+        sticky: u32,
+        x: u32,
+        out: *mut [u32; 5],
+    ) -> u32;
+    pub fn tsivareza_seek_u32(
+        op: u32,
+        text: *const u32,
+        text_len: usize,
+        row: u32,
+        col: u32,
+        held: u32,
+        sticky: u32,
+        x: u32,
+        out: *mut [u32; 5],
+    ) -> u32;
+
+    pub fn tsivareza_matching_bracket_pos(
+        text: *const u8,
+        text_len: usize,
+        room: *mut u32,
+        room_len: usize,
+        row: u32,
+        col: u32,
+        out: *mut [u32; 3],
+    ) -> u32;
+    pub fn tsivareza_matching_bracket_pos_u32(
+        text: *const u32,
+        text_len: usize,
+        row: u32,
+        col: u32,
+        out: *mut [u32; 3],
+    ) -> u32;
 }

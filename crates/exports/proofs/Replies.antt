@@ -29,8 +29,11 @@ fits-not : {A : Type 0} (f : ℕ) (a b : A) → (f ≡ 0 → ⊥) → fitting f 
 fits-not f a b n = rw (ne-eqb f 0 n)
 
 -- the reply to what the call was found to answer
+pub replied-of : {A : Type 0} (f : A → Reply) {m m′ : A} {out out′ : List ℕ} {r : ℕ} → m ≡ m′ → Replied (f m) out r out′ → Replied (f m′) out r out′
+replied-of {A} f {m} {m′} {out} {out′} {r} e p = subst (λ (x : A). Replied (f x) out r out′) e p
+
 pub replied-as : {m m′ : Told} {out out′ : List ℕ} {r : ℕ} → m ≡ m′ → Replied (told m) out r out′ → Replied (told m′) out r out′
-replied-as {m} {m′} {out} {out′} {r} e p = subst (λ (x : Told). Replied (told x) out r out′) e p
+replied-as e p = replied-of told e p
 
 module _ {s room room′ : List ℕ} {n : ℕ} (h : Filled s room n room′) where
   -- a call that is refused for what was lent leaves all as it was

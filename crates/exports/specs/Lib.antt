@@ -4,3 +4,7 @@ pub mod Characters
 pub mod Lists
 pub mod Tabs
 pub mod Wraps
+pub mod Carets
+pub mod Moves
+pub mod Partners
+pub mod Seeks

@@ -9,7 +9,10 @@
 mod characters;
 mod lend;
 mod lists;
+mod moves;
+mod pairs;
 mod rows;
+mod seeks;
 mod tabs;
 mod wraps;
 

@@ -28,7 +28,8 @@ module _ (l : List ℕ) (i : ℕ) (h : i + 2 < length l) where
   unfolding anyFold
   any-fold-on p = rw drop-three
 
-  pub cover-on : (row : ℕ) → coverOf (drop i l) row ≡ cond (foldHides row (getD l i 0) (getD l (i + 1) 0) (getD l (i + 2) 0)) (Of (getD l i 0) (getD l (i + 1) 0)) (coverOf (drop (i + 3) l) row)
+  pub cover-on : (row : ℕ) →
+      coverOf (drop i l) row ≡ cond (foldHides row (getD l i 0) (getD l (i + 1) 0) (getD l (i + 2) 0)) (Of (getD l i 0) (getD l (i + 1) 0)) (coverOf (drop (i + 3) l) row)
   unfolding coverOf
   cover-on row = rw drop-three
 

@@ -58,7 +58,8 @@ in-first (x ∷ u) zero h = drop-cons (rows (x ∷ u)) 0 [] (rows-pos (x ∷ u))
 in-first [] (suc c) h = absurd (omega (arith, ap (λ (l : List (List ℕ)). length (getD l 0 [])) rows-nil))
 in-first (x ∷ u) (suc c) h = go (ℕ-discrete x 10) (λ p. in-first u c p)
   where
-    go : Dec (x ≡ 10) → (c ≤ rowLen u 0 → rows (drop c u) ≡ drop c (rowAt u 0) ∷ drop 1 (rows u)) → rows (drop c u) ≡ drop (suc c) (rowAt (x ∷ u) 0) ∷ drop 1 (rows (x ∷ u))
+    go : Dec (x ≡ 10) → (c ≤ rowLen u 0 → rows (drop c u) ≡ drop c (rowAt u 0) ∷ drop 1 (rows u)) →
+        rows (drop c u) ≡ drop (suc c) (rowAt (x ∷ u) 0) ∷ drop 1 (rows (x ∷ u))
     go (yes e) ih = absurd (omega (arith, ap (λ (l : List (List ℕ)). length (getD l 0 [])) (rows-nl x u e)))
     go (no n) ih =
         let f : rowAt (x ∷ u) 0 ≡ x ∷ rowAt u 0 = rw (rows-on x u n) (on-head x (rows u)) in

@@ -47,7 +47,8 @@ prev-past folds r (suc k) h =
 
 -- the first row seen from r on, of `rows` rows
 module _ (folds : List ℕ) (rows r : ℕ) where
-  pub next-jump : (s e : ℕ) → Covers folds r (Of s e) → anyFold (badFold rows) folds ≡ false → r < rows → visibleFrom folds r (rows - r) ≡ visibleFrom folds (e + 1) (rows - (e + 1))
+  pub next-jump : (s e : ℕ) → Covers folds r (Of s e) → anyFold (badFold rows) folds ≡ false → r < rows →
+      visibleFrom folds r (rows - r) ≡ visibleFrom folds (e + 1) (rows - (e + 1))
   next-jump s e v g h =
       let inside : e < rows = v .3 rows g in
       let all : rows - r ≡ (e + 1 - r) + (rows - (e + 1)) = omega arith in
@@ -92,7 +93,8 @@ unfolding visibleFrom
 visible-within folds r zero x e = let z : _≡_ {A = ℕ} 0 1 = cc in absurd (omega arith)
 visible-within folds r (suc n) x e = go (hidden folds r) e (λ h. visible-within folds (r + 1) n x h)
   where
-    go : (b : Bool) → cond b (visibleFrom folds (r + 1) n) (Row r) ≡ Row x → (visibleFrom folds (r + 1) n ≡ Row x → (r + 1 ≤ x) × (x < r + 1 + n)) → (r ≤ x) × (x < r + suc n)
+    go : (b : Bool) → cond b (visibleFrom folds (r + 1) n) (Row r) ≡ Row x → (visibleFrom folds (r + 1) n ≡ Row x → (r + 1 ≤ x) × (x < r + 1 + n)) →
+        (r ≤ x) × (x < r + suc n)
     go true h ih = omega (arith, ih h)
     go false h ih = let z : r ≡ x = cc in omega arith
 

@@ -40,7 +40,8 @@ row-of-next [] (suc n) h = absurd (omega arith)
 row-of-next (x ∷ t) zero h = refl
 row-of-next (x ∷ t) (suc n) h = go (eqb x 10) (eqb (getD t n 0) 10) (row-of-next t n (omega arith))
   where
-    go : (a b : Bool) → rowOf t (suc n) ≡ cond b (suc (rowOf t n)) (rowOf t n) → cond a (suc (rowOf t (suc n))) (rowOf t (suc n)) ≡ cond b (suc (cond a (suc (rowOf t n)) (rowOf t n))) (cond a (suc (rowOf t n)) (rowOf t n))
+    go : (a b : Bool) → rowOf t (suc n) ≡ cond b (suc (rowOf t n)) (rowOf t n) →
+        cond a (suc (rowOf t (suc n))) (rowOf t (suc n)) ≡ cond b (suc (cond a (suc (rowOf t n)) (rowOf t n))) (cond a (suc (rowOf t n)) (rowOf t n))
     go true true ih = ap suc ih
     go true false ih = ap suc ih
     go false true ih = ih

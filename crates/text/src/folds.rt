@@ -1,10 +1,12 @@
 // Folds over the rows of a text, lent as three numbers each: start, end, closed (0 or 1).
-// From document 01, refusal 5; `Fold::hides`, the visible rows of `SnapshotFoldProvider`, and `closed_fold_at` of motions.rs.
+// From document 01, refusal 5; `Fold::hides`, the visible rows of `SnapshotFoldProvider`, and
+// `closed_fold_at` of motions.rs.
 use crate::Span;
 use crate::Visible;
 ghost use mathlib.Core.Path.{_≡_};
 ghost use Prim.Native.Nat.{_<_};
-ghost use Rattle.text.specs.Folds.{badFold, foldRefusal, foldHides, hidden, nextVisible, prevVisible, closedFrom, closedFoldAt};
+ghost use Rattle.text.specs.Folds.{badFold, foldRefusal, foldHides, hidden};
+ghost use Rattle.text.specs.Folds.{nextVisible, prevVisible, closedFrom, closedFoldAt};
 ghost use Rattle.text.specs.Cover.{coverOf};
 
 // A fold that runs backwards, ends outside the rows, or is neither open nor closed.
@@ -68,8 +70,9 @@ pub fn is_row_hidden(folds: &[u32], row: usize) -> bool
     }
 }
 
-// The first row after `row` that no fold hides. From a hidden row it goes on behind the end of a fold that
-// hides it, so that each fold is passed at most once: a pass over the folds for each, not for each row.
+// The first row after `row` that no fold hides. From a hidden row it goes on behind the end of a fold
+// that hides it, so that each fold is passed at most once: a pass over the folds for each fold, not
+// for each row.
 pub fn next_visible_row(folds: &[u32], rows: usize, row: usize) -> Visible
     requires { ⌜ (foldRefusal (now folds) rows ≡ 0) × (row < rows) ⌝ }
     ensures { λ r. ⌜ r ≡ nextVisible (now (folds .entry)) rows row ⌝ }
@@ -88,7 +91,8 @@ pub fn next_visible_row(folds: &[u32], rows: usize, row: usize) -> Visible
     Visible::NoRow
 }
 
-// The last row before `row` that no fold hides. From a hidden row it goes on at the start of a fold that hides it.
+// The last row before `row` that no fold hides. From a hidden row it goes on at the start of a fold
+// that hides it.
 pub fn prev_visible_row(folds: &[u32], row: usize) -> Visible
     ensures { λ r. ⌜ r ≡ prevVisible (now (folds .entry)) row ⌝ }
 {
@@ -107,8 +111,8 @@ pub fn prev_visible_row(folds: &[u32], row: usize) -> Visible
     Visible::NoRow
 }
 
-// The closed fold at a row that shows: its first row is that row, and it ends before the next row that shows,
-// or with the last row with content.
+// The closed fold at a row that shows: its first row is that row, and it ends before the next row
+// that shows, or with the last row with content.
 fn closed_from(folds: &[u32], rows: usize, content: usize, first: usize) -> Span
     requires { ⌜ (foldRefusal (now folds) rows ≡ 0) × (first < rows) × (0 < content) ⌝ }
     ensures { λ r. ⌜ r ≡ closedFrom (now (folds .entry)) rows content (Visible.Row first) ⌝ }

@@ -1,5 +1,6 @@
 // What a text is: its check, its rows, and the rows with content.
-// From document 01, "Text, rows, carets" and "Refusal numbers", and `content_row_count` of motions.rs.
+// From document 01, "Text, rows, carets" and "Refusal numbers", and `content_row_count` of
+// motions.rs.
 ghost use mathlib.Core.Path.{_≡_};
 ghost use Prim.Native.Nat.{_+_, _-_, _≤_, _<_};
 ghost use lib.ListN.{length};

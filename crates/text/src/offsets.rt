@@ -1,4 +1,5 @@
-// Rows and offsets: walks from row to row, the ends of a row, a row as a part of the text, and where an offset stands.
+// Rows and offsets: walks from row to row, the ends of a row, a row as a part of the text, and where
+// an offset stands.
 // From document 01, "Text, rows, carets"; the Rust asks its rope for these.
 use crate::Line;
 ghost use mathlib.Core.Path.{_≡_};

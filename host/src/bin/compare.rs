@@ -4,7 +4,7 @@ use oracle::Outcome;
 use oracle::case::{Call, Case, FILLER};
 use oracle::generate::{self, Dice};
 use std::process::ExitCode;
-use tsivareza::{self as lib, Columns, Keywords, Offsets, Room};
+use tsivareza::{self as lib, Columns, Keywords, Offsets, Room, Seek};
 
 const HELP: &str = "\
 ./compare [--cases N] [--seed S] [--small MOST] [--scalars] [CALL..]
@@ -63,7 +63,31 @@ fn port(case: &Case, room: &mut Room) -> Option<Outcome> {
         _ => {}
     }
     let text = &case.text;
+    let k = lib::Caret { row: case.caret.row, col: case.caret.col, sticky: case.caret.sticky };
+    let caret = |k: lib::Caret| oracle::Caret { row: k.row, col: k.col, sticky: k.sticky };
+    if let Some(&(_, which)) = lib::MOTIONS.iter().find(|(name, _)| *name == case.call.name) {
+        let on_bytes = room.motion(which, &lib::bytes(text), k, case.count);
+        let moved = both(case, on_bytes, lib::motion(which, text, k, case.count));
+        return Some(moved.map_or_else(Outcome::Refused, |k| Outcome::Moved(caret(k))));
+    }
+    let mut seek = |which| {
+        let sought = both(case, room.seek(which, &lib::bytes(text), k), lib::seek(which, text, k));
+        Some(sought.map_or_else(Outcome::Refused, |(found, k)| Outcome::Told(found, caret(k))))
+    };
     match case.call.name {
+        "match_bracket" => return seek(Seek::MatchBracket),
+        "find_char_on_line" => {
+            let (forward, till, skip_adjacent) = (case.forward, case.till, case.skip);
+            return seek(Seek::FindCharOnLine { x, forward, till, skip_adjacent });
+        }
+        _ => {}
+    }
+    match case.call.name {
+        "matching_bracket_pos" => {
+            let on_bytes = room.matching_bracket_pos(&lib::bytes(text), k.row, k.col);
+            let place = both(case, on_bytes, lib::matching_bracket_pos(text, k.row, k.col));
+            Some(place.map_or_else(Outcome::Refused, Outcome::Place))
+        }
         "segment_for_col" => {
             let segments = &case.segments;
             let on_points = lib::segment_for_col(segments, col);

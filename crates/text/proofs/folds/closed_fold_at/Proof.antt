@@ -31,5 +31,6 @@ returns-3 c =
 pub closed-fold-at-spec : {M : Type 1} → statement M
 closed-fold-at-spec =
     tie.close
-    (tie.spec (λ c κs. search needs) (λ c κs. search needs) returns (λ c κs. search needs) (λ c. search needs) closed-from-requires-2 (λ c. search needs) returns-2
+    (tie.spec (λ c κs. search needs) (λ c κs. search needs) returns (λ c κs. search needs) (λ c. search needs) closed-from-requires-2
+    (λ c. search needs) returns-2
     returns-3)

@@ -64,5 +64,6 @@ returns-2 c =
 pub next-visible-row-spec : {M : Type 1} → statement M
 next-visible-row-spec =
     tie.close
-    (tie.spec Inv-loop μ-loop (λ c. search needs) loop-holds (λ c κs. search needs) (λ c. search needs) add-past loop-less loop-again (λ c. search needs) returns
+    (tie.spec Inv-loop μ-loop (λ c. search needs) loop-holds (λ c κs. search needs) (λ c. search needs) add-past loop-less loop-again
+    (λ c. search needs) returns
     returns-2)

@@ -51,5 +51,6 @@ returns-2 c = sym (c .before .loop .inv ∙ prev-none (c .before .before .before
 pub prev-visible-row-spec : {M : Type 1} → statement M
 prev-visible-row-spec =
     tie.close
-    (tie.spec Inv-loop μ-loop (λ c. search needs) (λ c. search needs) (λ c κs. search needs) (λ c. search needs) add-past loop-less loop-again (λ c. search needs)
+    (tie.spec Inv-loop μ-loop (λ c. search needs) (λ c. search needs) (λ c κs. search needs) (λ c. search needs) add-past loop-less loop-again
+    (λ c. search needs)
     returns returns-2)

@@ -47,5 +47,6 @@ returns-2 c =
 pub up-spec : {M : Type 1} → statement M
 up-spec =
     tie.close
-    (tie.spec Inv-loop μ-loop (λ c. search needs) (λ c. search needs) (λ c. search needs) (λ c. search needs) returns sub-r (λ c. search needs) (λ c. search needs)
+    (tie.spec Inv-loop μ-loop (λ c. search needs) (λ c. search needs) (λ c. search needs) (λ c. search needs) returns sub-r (λ c. search needs)
+    (λ c. search needs)
     loop-again (λ c. search needs) loop-again-2 returns-2)

@@ -1,0 +1,19 @@
+-- Laws of brackets, which the proofs of this crate and of the crates above it cite.
+pub mod Nearest
+pub mod Told
+pub mod Sides
+pub mod Depth
+pub mod Pairs
+pub mod Partners
+pub mod Answers
+pub mod Inner
+pub mod Ahead
+pub mod Behind
+pub mod Placed
+pub mod Call
+pub mod Positions
+pub mod Demand
+pub mod Plain
+pub mod Jump
+pub mod Finds
+pub mod Examples

@@ -1,0 +1,48 @@
+-- `brackets::matching::offset_of` meets its contract. The invariant of its loop: i stands in the row, `left` columns before the one sought.
+-- The measure is the text's length less i. Assumes nothing.
+use Prim.Native.Nat.{_+_, _-_}
+use mathlib.Core.Path.{_≡_}
+use native.Mathlib.Omega.{arith}
+use lib.ListN.{length}
+use borrow.Author.Needs.{needs}
+use Rattle.text.specs.Offsets.{Stands}
+use Rattle.text.proofs.Stands.{step-char}
+use Rattle.brackets.proofs.Placed.{column-at, column-nl, column-end}
+use Rattle.brackets.proofs.matching.offset_of.Statement.{statement}
+use Rattle.brackets.proofs.matching.offset_of.Tie as tie
+
+abbrev Inv-loop : tie.InvT-loop
+Inv-loop t row start col i₀ left₀ i left = Stands t row start i × (i + left ≡ start + col)
+
+abbrev μ-loop : tie.MeasureT-loop
+μ-loop t row start col i₀ left₀ i left = length t - i
+
+-- the row ends at a separator
+returns : tie.Need-returns Inv-loop μ-loop
+returns c =
+    let k = c .before .before in
+    let v = k .before .loop .inv in
+    column-nl (v .0) _ _ (v .1) (k .loop-test .taken) (c .if1 .taken)
+
+-- the column
+returns-2 : tie.Need-returns-2 Inv-loop μ-loop
+returns-2 c =
+    let k = c .before .before .before in
+    let v = k .before .loop .inv in
+    column-at (v .0) _ _ (v .1) (k .loop-test .taken) (c .before .if1 .left) (c .if2 .taken)
+
+loop-again : tie.Need-loop-again Inv-loop μ-loop
+loop-again c =
+    let k = c .before .before .before in
+    let v = k .before .loop .inv in
+    (step-char (v .0) (k .loop-test .taken) (c .before .if1 .left), omega (arith, v .1, c .if2 .left))
+
+-- or with the text
+returns-3 : tie.Need-returns-3 Inv-loop μ-loop
+returns-3 c = let v = c .before .loop .inv in column-end (v .0) _ _ (v .1) (c .loop-test .left)
+
+pub offset-of-spec : {M : Type 1} → statement M
+offset-of-spec =
+    tie.close
+    (tie.spec Inv-loop μ-loop (λ c. search needs) (λ c. search needs) (λ c. search needs) returns returns-2 (λ c. search needs) (λ c. search needs)
+    (λ c. search needs) loop-again returns-3)

@@ -1,0 +1,8 @@
+pub mod Kinds
+pub mod Nearest
+pub mod Pairs
+pub mod Matching
+pub mod Walk
+pub mod Demand
+pub mod Find
+pub mod Jump

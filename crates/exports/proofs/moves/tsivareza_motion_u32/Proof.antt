@@ -1,0 +1,19 @@
+-- `tsivareza_motion_u32` meets its contract: it hands on what the motion answers. Assumes nothing.
+use mathlib.Core.Path.{ap, _∙_}
+use borrow.Author.Needs.{needs}
+use Rattle.motions.specs.declared.Caret.{Caret}
+use Rattle.exports.specs.Moves.{motion}
+use Rattle.exports.specs.Carets.{moved}
+use Rattle.exports.proofs.Replies.{replied-of}
+use Rattle.exports.proofs.moves.tsivareza_motion_u32.Statement.{statement}
+use Rattle.exports.proofs.moves.tsivareza_motion_u32.Tie as tie
+
+returns : tie.Need-returns
+returns c =
+    let a = c .before .before .before .before .before .args in
+    replied-of moved (c .before .before .move-by .ensures ∙ ap (λ (k : Caret). motion (a .op) (a .count) k (a .text .now)) (c .before .before .before .caret-of .ensures))
+    (c .place .ensures)
+
+pub tsivareza-motion-u32-spec : {M : Type 1} → statement M
+tsivareza-motion-u32-spec =
+    tie.close (tie.spec (λ c κs. search needs) (λ c κs. search needs) (λ c κs. search needs) returns)

@@ -1,0 +1,13 @@
+-- `lines::toward::direction` meets its contract.
+use borrow.Author.Needs.{needs}
+use Rattle.lines.proofs.toward.direction.Statement.{statement}
+use Rattle.lines.proofs.toward.direction.Tie as tie
+
+returns : tie.Need-returns
+returns c = rw (c .if1 .taken)
+
+returns-2 : tie.Need-returns-2
+returns-2 c = rw (c .if1 .left)
+
+pub direction-spec : {M : Type 1} → statement M
+direction-spec = tie.close (tie.spec returns returns-2)

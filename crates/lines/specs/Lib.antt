@@ -1,0 +1,3 @@
+pub mod Toward
+pub mod Paragraphs
+pub mod Sections

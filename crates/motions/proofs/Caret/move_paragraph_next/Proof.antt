@@ -1,0 +1,27 @@
+-- `Caret::move_paragraph_next` meets its contract: the checks, then the rounds down.
+-- Assumes nothing.
+use borrow.Author.Needs.{needs}
+use Rattle.motions.proofs.Checks.{entered, refused, moved}
+use Rattle.motions.proofs.Caret.move_paragraph_next.Statement.{statement}
+use Rattle.motions.proofs.Caret.move_paragraph_next.Tie as tie
+
+returns : tie.Need-returns
+returns c =
+    let n = c .before .before in
+    let a = n .before .before .args in
+    refused (a .t .now) (a .self) _ (n .enter .ensures) _ (c .if1 .taken)
+
+paragraph-next-requires : tie.Need-paragraph-next-requires
+paragraph-next-requires c κs =
+    let n = c .before .before in
+    let a = n .before .before .args in
+    entered (a .t .now) (a .self) _ (n .enter .ensures) (c .if1 .left)
+
+returns-2 : tie.Need-returns-2
+returns-2 c =
+    let n = c .before .before .before in
+    let a = n .before .before .args in
+    moved (a .t .now) (a .self) _ (n .enter .ensures) _ _ (c .before .if1 .left) (c .paragraph-next .ensures)
+
+pub move-paragraph-next-spec : {M : Type 1} → statement M
+move-paragraph-next-spec = tie.close (tie.spec (λ c κs. search needs) returns paragraph-next-requires returns-2)

@@ -1,0 +1,27 @@
+-- `Caret::move_paragraph_prev` meets its contract: the checks, then the rounds up.
+-- Assumes nothing.
+use borrow.Author.Needs.{needs}
+use Rattle.motions.proofs.Checks.{entered, refused, moved}
+use Rattle.motions.proofs.Caret.move_paragraph_prev.Statement.{statement}
+use Rattle.motions.proofs.Caret.move_paragraph_prev.Tie as tie
+
+returns : tie.Need-returns
+returns c =
+    let n = c .before .before in
+    let a = n .before .before .args in
+    refused (a .t .now) (a .self) _ (n .enter .ensures) _ (c .if1 .taken)
+
+paragraph-prev-requires : tie.Need-paragraph-prev-requires
+paragraph-prev-requires c κs =
+    let n = c .before .before in
+    let a = n .before .before .args in
+    entered (a .t .now) (a .self) _ (n .enter .ensures) (c .if1 .left)
+
+returns-2 : tie.Need-returns-2
+returns-2 c =
+    let n = c .before .before .before in
+    let a = n .before .before .args in
+    moved (a .t .now) (a .self) _ (n .enter .ensures) _ _ (c .before .if1 .left) (c .paragraph-prev .ensures)
+
+pub move-paragraph-prev-spec : {M : Type 1} → statement M
+move-paragraph-prev-spec = tie.close (tie.spec (λ c κs. search needs) returns paragraph-prev-requires returns-2)

@@ -1,0 +1,55 @@
+-- `%` and the finds within a row, as motions.rs has them under "Find / match".
+-- Definitions only. Assumes nothing.
+use Prim.Native.Nat.{ℕ, _<_, _^_}
+use mathlib.Core.List.{List}
+use mathlib.Core.Bool.{Bool, cond}
+use lib.Dec.{eqb}
+use Rattle.chars.specs.Scalar.{isScalar}
+use Rattle.text.specs.Text.{rowAt}
+use Rattle.brackets.specs.declared.Found.{Found}
+use Rattle.brackets.specs.declared.Found.the-variants.{At, Nothing}
+use Rattle.brackets.specs.declared.Partner.{Partner}
+use Rattle.brackets.specs.declared.Partner.the-variants.{There, None, Refused as Partner·Refused}
+use Rattle.brackets.specs.Find.{keyFrom, findOnRow}
+use Rattle.motions.specs.declared.Caret.{Caret}
+use Rattle.motions.specs.declared.Sought.{Sought}
+use Rattle.motions.specs.declared.Sought.the-variants.{Found as Sought·Found, Missing, Refused}
+use Rattle.motions.specs.Carets.{refusalOf, placed}
+
+-- found and missing by document 01's number, the Rust's truth, and the caret
+abbrev pub numberOfSought : Sought → ℕ
+numberOfSought (Sought·Found k) = 0
+numberOfSought (Missing k) = 0
+numberOfSought (Refused f) = f
+
+-- the caret at the partner, or as it was
+unfoldable pub partnerTo : Caret → Partner → Sought
+partnerTo k (There p) = Sought·Found (placed k (p .row) (p .col))
+partnerTo k None = Missing k
+partnerTo k (Partner·Refused f) = Refused f
+
+-- the answer of a search, or the number that the call is refused with
+unfoldable pub seeking : ℕ → Sought → Sought
+seeking f m = cond (eqb f 0) m (Refused f)
+
+-- `%`: the partner of the first round, square or curly bracket at or after the caret in its row
+abbrev pub matchBracket : List ℕ → Caret → Sought
+matchBracket t k = seeking (refusalOf t k) (partnerTo k (keyFrom t (k .row) (k .col)))
+
+-- the caret at a column that was found in its row, or as it was
+unfoldable pub landsOn : Caret → Found → Sought
+landsOn k (At i) = Sought·Found (placed k (k .row) i)
+landsOn k Nothing = Missing k
+
+-- a column that was found fits a u32
+unfoldable pub Fits : Found → Type 0
+Fits (At i) = i < 2 ^ 32
+Fits Nothing = Unit
+
+-- a call's refusal f with the character sought: that is refused with 2, after a text that is too long and before all else
+unfoldable pub orSought : ℕ → Bool → ℕ
+orSought f scalar = cond (eqb f 1) 1 (cond scalar f 2)
+
+abbrev pub findCharOnLine : List ℕ → ℕ → Bool → Bool → Bool → Caret → Sought
+findCharOnLine t x forward till skip k =
+    seeking (orSought (refusalOf t k) (isScalar x)) (landsOn k (findOnRow (rowAt t (k .row)) (k .col) x forward till skip))
