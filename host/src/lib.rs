@@ -6,8 +6,8 @@
 //! little room, 103 an answer that no u32 holds.
 //!
 //! ```
-//! assert_eq!(tsivareza::content_row_count(&[0x61, 0x0A, 0x0A]), Ok(2));
-//! assert_eq!(tsivareza::content_row_count(&[0x61, 0x0D]), Err(3));
+//! assert_eq!(tsivareza::matching_bracket_pos(&[0x28, 0x5B, 0x29, 0x5D], 0, 0), Ok(Some((0, 2))));
+//! assert_eq!(tsivareza::matching_bracket_pos(&[0x28, 0x0D, 0x29], 0, 0), Err(3));
 //! let mut room = tsivareza::Room::new(2);
 //! assert_eq!(room.content_row_count(&tsivareza::bytes(&[0x61, 0x0A])), Ok(1));
 //! ```

@@ -447,6 +447,29 @@ pub fn limits(call: &'static Call) -> Vec<Case> {
             add(&|k| (k.caret.row, k.caret.col) = at);
         }
     }
+    // each refusal with each lower one
+    if takes(Input::Caret) {
+        for text in [vec![0xD800, 0x0D], vec![0x0D, 0x61], vec![0x61; 1_048_577]] {
+            add(&|k| (k.text, k.caret.row, k.character) = (text.clone(), 7, 0xD800));
+            add(&|k| (k.text, k.folds, k.tabstop, k.character) = (text.clone(), vec![1], 1_001, 0x61));
+        }
+        add(&|k| (k.caret.row, k.folds, k.tabstop, k.character) = (7, vec![1], 1_001, 0xD800));
+        add(&|k| (k.folds, k.tabstop, k.list) = (vec![1], 1_001, vec![0xD800]));
+        add(&|k| (k.folds, k.list) = (vec![1], points(&"a,".repeat(129))));
+    }
+    // deep nests, in one row and over many
+    if matches!(call.name, "matching_bracket_pos" | "match_bracket") {
+        for (pair, n) in [("()", 524_288), ("<>", 524_288), ("(\n)\n", 262_144)] {
+            let half = |s: &str| points(&s.repeat(n));
+            let (open, close) = pair.split_at(pair.len() / 2);
+            let nest = [half(open), half(close)].concat();
+            for row in [0, 1, (n - 1) as u32, n as u32, (2 * n - 1) as u32] {
+                for col in [0, 1, (n - 1) as u32, (2 * n - 1) as u32] {
+                    add(&|k| (k.text, k.caret.row, k.caret.col) = (nest.clone(), row, col));
+                }
+            }
+        }
+    }
     if takes(Input::Folds) {
         for n in [256, 257] {
             add(&|k| k.folds = [0, 1, 1].repeat(n));

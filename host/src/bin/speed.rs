@@ -88,4 +88,44 @@ fn main() {
             }
         }),
     );
+    let mut nest = vec![0x28; LONG / 2];
+    nest.resize(LONG, 0x29);
+    let view = View::new(&oracle::string(&nest), Pos { line: 0, col: 0 });
+    row(
+        "`matching_bracket_pos`, the outermost of 524,288 pairs (the library checks the text too)",
+        best(|| {
+            let _ = black_box(lib::matching_bracket_pos(black_box(&nest), 0, 0));
+        }),
+        best(|| {
+            black_box(motions::matching_bracket_pos(black_box(&view), 0, 0));
+        }),
+    );
+    let k = lib::Caret { row: 0, col: 0, sticky: None };
+    row(
+        "`move_last_non_blank`, the row of a million",
+        best(|| {
+            let _ = black_box(lib::motion(lib::Motion::move_last_non_blank, black_box(&points), k, 0));
+        }),
+        {
+            let mut view = View::new(&line, Pos { line: 0, col: 0 });
+            best(|| motions::move_last_non_blank(black_box(&mut view)))
+        },
+    );
+    row(
+        "`move_paragraph_next`, 17,476 rows",
+        best(|| {
+            let _ = black_box(lib::motion(lib::Motion::move_paragraph_next, black_box(&text), k, 1));
+        }),
+        {
+            let mut view = View::new(&string, Pos { line: 0, col: 0 });
+            best(|| {
+                view.at = Pos { line: 0, col: 0 };
+                motions::move_paragraph_next(black_box(&mut view), 1)
+            })
+        },
+    );
+    println!();
+    let start = Instant::now();
+    let moved = lib::motion(lib::Motion::move_space_fwd, &text, k, u32::MAX);
+    println!("`move_space_fwd` with the largest count over 1,048,576 code points: {:?} in {:?}.", moved, start.elapsed());
 }

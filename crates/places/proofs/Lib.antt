@@ -1,0 +1,5 @@
+pub mod Onto
+pub mod Ahead
+pub mod Back
+pub mod Walking
+pub mod High

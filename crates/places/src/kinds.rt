@@ -1,0 +1,59 @@
+// The kind of a character, by the bounds of a keyword list and a table of letters that are lent:
+// `is_word` and `char_kind` of motions.rs.
+use crate::Setting;
+ghost use mathlib.Core.Path.{_≡_};
+ghost use Prim.Native.Nat.{_+_, _≤_};
+ghost use lib.ListN.{length, take};
+ghost use Rattle.keywords.specs.Flat.{within};
+ghost use Rattle.places.specs.Lent.{wordBy, kindBy, Lends};
+
+// Whether one of the first n pairs of bounds holds x.
+fn in_pairs(bounds: &[u32], n: usize, x: u32) -> bool
+    requires { ⌜ n + n ≤ length (now bounds) ⌝ }
+    ensures { λ r. ⌜ r ≡ within (take (n + n) (now (bounds .entry))) x ⌝ }
+{
+    let mut i: usize = 0;
+    while i < n {
+        let lo = bounds[i + i];
+        let hi = bounds[i + i + 1];
+        if (lo <= x) & (x <= hi) {
+            return true;
+        }
+        i += 1;
+    }
+    false
+}
+
+// Whether x is a keyword character. Below U+00AA the table of letters is not read.
+fn is_word(bounds: &[u32], table: &[u32], s: Setting, x: u32) -> bool
+    requires { ⌜ Lends (now bounds) (now table) s x ⌝ }
+    ensures { λ r. ⌜ r ≡ wordBy (now (bounds .entry)) s x ⌝ }
+{
+    if x >= 0xaa {
+        return keywords::holds(bounds, s.pairs, s.letters, table, x);
+    }
+    if !s.letters {
+        return in_pairs(bounds, s.pairs, x);
+    }
+    if chars::is_letter(x) {
+        return true;
+    }
+    in_pairs(bounds, s.pairs, x)
+}
+
+// The kind of a character: 0 white space, 1 word, 2 punctuation.
+pub fn char_kind(bounds: &[u32], table: &[u32], s: Setting, x: u32) -> u32
+    requires { ⌜ Lends (now bounds) (now table) s x ⌝ }
+    ensures { λ r. ⌜ r ≡ kindBy (now (bounds .entry)) s x ⌝ }
+{
+    if chars::is_white(x) {
+        return 0;
+    }
+    if s.big {
+        return 1;
+    }
+    if is_word(bounds, table, s, x) {
+        return 1;
+    }
+    2
+}

@@ -1,0 +1,34 @@
+// Places of a text, their kinds, and the loops of the word motions from place to place, on offsets:
+// motions.rs, "Internals". The calls take what a caller has checked.
+mod kinds;
+pub mod steps;
+pub mod walks;
+
+// A place of the text: its row, and its offset, which is a separator's where the place is the row's
+// end.
+pub struct Spot {
+    pub row: usize,
+    pub at: usize,
+}
+
+// What a walk knows of the text and of the kinds: rows and rows with content, how many pairs of
+// bounds the keyword list has, whether letters are in it, and whether words are big.
+pub struct Setting {
+    pub rows: usize,
+    pub content: usize,
+    pub pairs: usize,
+    pub letters: bool,
+    pub big: bool,
+}
+
+// A place, where there is one.
+pub enum Step {
+    At(Spot),
+    NoStep,
+}
+
+// Where a loop ended: at the first place that fails its test, or at one that has no step.
+pub enum Halted {
+    Done(Spot),
+    Stood(Spot),
+}

@@ -1,0 +1,23 @@
+// The word walks, on offsets: "Word motions" of motions.rs. A place is a row and an offset; the
+// calls take what a caller has checked, and know no caret.
+mod entry;
+mod jumps;
+mod rounds;
+mod words;
+
+pub use entry::word_motion;
+use places::Spot;
+
+// A motion of this crate.
+pub enum Motion {
+    Fwd,
+    Back,
+    End,
+    EndBack,
+}
+
+// Where a round ended: the next goes on from there, or it was the last.
+pub enum Round {
+    Next(Spot),
+    Last(Spot),
+}

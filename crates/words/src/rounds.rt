@@ -1,0 +1,164 @@
+// The rounds of the word motions: of `move_word_fwd`, `move_word_back`, `move_word_end` and
+// `move_word_end_back` of motions.rs.
+use crate::Motion;
+use crate::Round;
+use crate::jumps;
+use crate::words;
+use places::Setting;
+use places::Spot;
+use places::Step;
+ghost use mathlib.Core.Path.{_≡_};
+ghost use mathlib.Core.Bool.{false};
+ghost use Rattle.words.specs.Rounds.{roundOf, counted};
+ghost use Rattle.words.specs.declared.Motion.the-variants as variant;
+ghost use Rattle.places.specs.Spots.{placeOf, IsSpot};
+ghost use Rattle.words.specs.Turns.{turnOf, RoundIn, turned, Set};
+ghost use Rattle.places.specs.Lent.{kindBy};
+
+// The round's answer: the word found, or the place from which none was found.
+fn turned(from: Spot, found: Step) -> Round
+    ensures { λ r. ⌜ r ≡ turned from found ⌝ }
+{
+    match found {
+        Step::At(q) => Round::Next(q),
+        Step::NoStep => Round::Last(from),
+    }
+}
+
+// A round of `move_word_fwd`.
+fn fwd_round(t: &[u32], folds: &[u32], bounds: &[u32], table: &[u32], s: Setting, p: Spot) -> Round
+    requires { ⌜ Set (now t) (now folds) (now bounds) (now table) s p ⌝ }
+    ensures { λ r.
+        ⌜ (turnOf (now (t .entry)) r ≡
+        roundOf (now (t .entry)) (now (folds .entry)) (kindBy (now (bounds .entry)) s) (s .big)
+        variant.Fwd false (placeOf (now (t .entry)) p)) ×
+        RoundIn (now (t .entry)) r ⌝ }
+{
+    let from = jumps::fold_jump_fwd(t, folds, s.rows, s.content, p);
+    turned(from, words::next_word_start(t, bounds, table, s, from))
+}
+
+// A round of `move_word_back`.
+fn back_round(t: &[u32], folds: &[u32], bounds: &[u32], table: &[u32], s: Setting, p: Spot) -> Round
+    requires { ⌜ Set (now t) (now folds) (now bounds) (now table) s p ⌝ }
+    ensures { λ r.
+        ⌜ (turnOf (now (t .entry)) r ≡
+        roundOf (now (t .entry)) (now (folds .entry)) (kindBy (now (bounds .entry)) s) (s .big)
+        variant.Back false (placeOf (now (t .entry)) p)) ×
+        RoundIn (now (t .entry)) r ⌝ }
+{
+    let from = jumps::fold_jump_back(t, folds, s.rows, s.content, p);
+    turned(from, words::prev_word_start(t, bounds, table, s, from))
+}
+
+// A round of `move_word_end`; `stop` holds it at the end of a word.
+fn end_round(
+    t: &[u32],
+    folds: &[u32],
+    bounds: &[u32],
+    table: &[u32],
+    s: Setting,
+    stop: bool,
+    p: Spot,
+) -> Round
+    requires { ⌜ Set (now t) (now folds) (now bounds) (now table) s p ⌝ }
+    ensures { λ r.
+        ⌜ (turnOf (now (t .entry)) r ≡
+        roundOf (now (t .entry)) (now (folds .entry)) (kindBy (now (bounds .entry)) s) (s .big)
+        variant.End stop (placeOf (now (t .entry)) p)) ×
+        RoundIn (now (t .entry)) r ⌝ }
+{
+    let from = jumps::fold_jump_fwd(t, folds, s.rows, s.content, p);
+    if stop {
+        if words::at_word_end(t, bounds, table, s, from) {
+            return Round::Next(from);
+        }
+        return turned(from, words::next_word_end(t, bounds, table, s, from));
+    }
+    turned(from, words::next_word_end(t, bounds, table, s, from))
+}
+
+// A round of `move_word_end_back`, which takes no folds.
+fn end_back_round(
+    t: &[u32],
+    folds: &[u32],
+    bounds: &[u32],
+    table: &[u32],
+    s: Setting,
+    p: Spot,
+) -> Round
+    requires { ⌜ Set (now t) (now folds) (now bounds) (now table) s p ⌝ }
+    ensures { λ r.
+        ⌜ (turnOf (now (t .entry)) r ≡
+        roundOf (now (t .entry)) (now (folds .entry)) (kindBy (now (bounds .entry)) s) (s .big)
+        variant.EndBack false (placeOf (now (t .entry)) p)) ×
+        RoundIn (now (t .entry)) r ⌝ }
+{
+    turned(p, words::prev_word_end(t, bounds, table, s, p))
+}
+
+// A round of a motion.
+pub fn round(
+    t: &[u32],
+    folds: &[u32],
+    bounds: &[u32],
+    table: &[u32],
+    s: Setting,
+    m: Motion,
+    stop: bool,
+    p: Spot,
+) -> Round
+    requires { ⌜ Set (now t) (now folds) (now bounds) (now table) s p ⌝ }
+    ensures { λ r.
+        ⌜ (turnOf (now (t .entry)) r ≡
+        roundOf (now (t .entry)) (now (folds .entry)) (kindBy (now (bounds .entry)) s) (s .big) m
+        stop (placeOf (now (t .entry)) p)) ×
+        RoundIn (now (t .entry)) r ⌝ }
+{
+    match m {
+        Motion::Fwd => fwd_round(t, folds, bounds, table, s, p),
+        Motion::Back => back_round(t, folds, bounds, table, s, p),
+        Motion::End => end_round(t, folds, bounds, table, s, stop, p),
+        Motion::EndBack => end_back_round(t, folds, bounds, table, s, p),
+    }
+}
+
+// Rounds up to a count. One that changes nothing ends them: where a closed fold covers the end of
+// the text, each round comes to the same place.
+pub fn rounds(
+    t: &[u32],
+    folds: &[u32],
+    bounds: &[u32],
+    table: &[u32],
+    s: Setting,
+    m: Motion,
+    count: u32,
+    p: Spot,
+) -> Spot
+    requires { ⌜ Set (now t) (now folds) (now bounds) (now table) s p ⌝ }
+    ensures { λ r.
+        ⌜ (placeOf (now (t .entry)) r ≡
+        counted
+        (roundOf (now (t .entry)) (now (folds .entry)) (kindBy (now (bounds .entry)) s) (s .big) m
+        false)
+        count (placeOf (now (t .entry)) p)) ×
+        IsSpot (now (t .entry)) r ⌝ }
+{
+    let mut cur = p;
+    let mut left = count;
+    while left > 0 {
+        match round(t, folds, bounds, table, s, m, false, cur) {
+            Round::Next(q) => {
+                if q.at == cur.at {
+                    return cur;
+                }
+                cur = q;
+                left -= 1;
+            }
+            Round::Last(q) => {
+                return q;
+            }
+        }
+    }
+    cur
+}
