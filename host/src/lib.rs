@@ -344,3 +344,53 @@ impl Room {
         .map(|[found, row, col]| (found == 1).then_some((row, col)))
     }
 }
+
+// ── Word motions ────────────────────────────────────────────────────
+
+/// A word motion.
+#[derive(Clone, Copy, Debug)]
+pub enum Word {
+    Fwd,
+    Back,
+    End { stop: bool },
+    /// It takes no folds.
+    EndBack,
+}
+
+/// What a word motion takes beside text, caret and count.
+#[derive(Clone, Copy, Debug)]
+pub struct Words<'a> {
+    pub folds: &'a [u32],
+    pub list: &'a [u32],
+    pub big: bool,
+}
+
+pub fn word(which: Word, text: &[u32], k: Caret, words: Words, count: u32) -> Result<Caret, u32> {
+    let op = match which {
+        Word::Fwd => 0,
+        Word::Back => 1,
+        Word::End { stop } => 2 + u32::from(stop),
+        Word::EndBack => 4,
+    };
+    let (held, sticky) = k.held();
+    let Words { folds, list, big } = words;
+    answer(|out| unsafe {
+        raw::tsivareza_word_u32(
+            op,
+            text.as_ptr(),
+            text.len(),
+            folds.as_ptr(),
+            folds.len(),
+            list.as_ptr(),
+            list.len(),
+            k.row,
+            k.col,
+            held,
+            sticky,
+            big.into(),
+            count,
+            out,
+        )
+    })
+    .map(Caret::of)
+}

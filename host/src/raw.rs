@@ -166,4 +166,21 @@ unsafe extern "C" {
         col: u32,
         out: *mut [u32; 3],
     ) -> u32;
+
+    pub fn tsivareza_word_u32(
+        op: u32,
+        text: *const u32,
+        text_len: usize,
+        folds: *const u32,
+        folds_len: usize,
+        list: *const u32,
+        list_len: usize,
+        row: u32,
+        col: u32,
+        held: u32,
+        sticky: u32,
+        big: u32,
+        count: u32,
+        out: *mut [u32; 4],
+    ) -> u32;
 }

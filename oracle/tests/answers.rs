@@ -1,5 +1,5 @@
 //! On accepted inputs the given Rust never stops but for the u16 sum, and writes only positions
-//! inside the text (the library asserts that of each); the corners are as document CORNERS has them.
+//! inside the text (the library asserts that of each); and its corners, by their smallest inputs.
 
 use oracle::case::{CALLS, Case};
 use oracle::generate::{Dice, limits, random, small};

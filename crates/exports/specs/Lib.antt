@@ -8,3 +8,4 @@ pub mod Carets
 pub mod Moves
 pub mod Partners
 pub mod Seeks
+pub mod Terms

@@ -14,6 +14,7 @@ mod pairs;
 mod rows;
 mod seeks;
 mod tabs;
+mod terms;
 mod wraps;
 
 ghost use mathlib.Core.Path.{_≡_};

@@ -49,7 +49,7 @@ pub fn column_of(s: Sticky) -> u32
 }
 
 // Puts a caret that moved into `out`, and answers 0 or the refusal's number.
-fn place(m: Moved, out: &mut [u32; 4]) -> u32
+pub fn place(m: Moved, out: &mut [u32; 4]) -> u32
     ensures { λ r. ⌜ Replied (moved m) (now (out .entry)) r (now (out .exit)) ⌝ }
 {
     match m {

@@ -7,3 +7,4 @@ pub mod Staying
 pub mod Landing
 pub mod Examples
 pub mod Finding
+pub mod Wording

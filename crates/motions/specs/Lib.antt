@@ -5,3 +5,4 @@ pub mod Steps
 pub mod Sections
 pub mod Paragraphs
 pub mod Finds
+pub mod WordMoves

@@ -13,6 +13,7 @@ mod paragraphs;
 mod rows;
 mod sections;
 mod steps;
+mod word_moves;
 
 // The column that vertical motions aim for, where one is kept.
 pub enum Sticky {

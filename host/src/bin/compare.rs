@@ -4,7 +4,7 @@ use oracle::Outcome;
 use oracle::case::{Call, Case, FILLER};
 use oracle::generate::{self, Dice};
 use std::process::ExitCode;
-use tsivareza::{self as lib, Columns, Keywords, Offsets, Room, Seek};
+use tsivareza::{self as lib, Columns, Keywords, Offsets, Room, Seek, Word, Words};
 
 const HELP: &str = "\
 ./compare [--cases N] [--seed S] [--small MOST] [--scalars] [CALL..]
@@ -68,6 +68,18 @@ fn port(case: &Case, room: &mut Room) -> Option<Outcome> {
     if let Some(&(_, which)) = lib::MOTIONS.iter().find(|(name, _)| *name == case.call.name) {
         let on_bytes = room.motion(which, &lib::bytes(text), k, case.count);
         let moved = both(case, on_bytes, lib::motion(which, text, k, case.count));
+        return Some(moved.map_or_else(Outcome::Refused, |k| Outcome::Moved(caret(k))));
+    }
+    let word = match case.call.name {
+        "move_word_fwd" => Some(Word::Fwd),
+        "move_word_back" => Some(Word::Back),
+        "move_word_end" => Some(Word::End { stop: case.stop }),
+        "move_word_end_back" => Some(Word::EndBack),
+        _ => None,
+    };
+    if let Some(which) = word {
+        let words = Words { folds: &case.folds, list: &case.list, big: case.big };
+        let moved = lib::word(which, text, k, words, case.count);
         return Some(moved.map_or_else(Outcome::Refused, |k| Outcome::Moved(caret(k))));
     }
     let mut seek = |which| {

@@ -1,0 +1,38 @@
+-- The word motions on carets: the refusals of a call, and where the walks of `words` lead to. Motions.rs, "Word motions".
+-- Definitions only. Assumes nothing.
+use Prim.Native.Nat.{ℕ, _≤_}
+use mathlib.Core.Path.{_≡_}
+use mathlib.Core.List.{List, [], _∷_}
+use mathlib.Core.Bool.{Bool}
+use Rattle.text.specs.Text.{textRefusal, rowCount}
+use Rattle.text.specs.Folds.{foldRefusal}
+use Rattle.keywords.specs.declared.KeywordSpec.{KeywordSpec}
+use Rattle.keywords.specs.Tokens.{inList}
+use Rattle.keywords.specs.Table.{parseOf}
+use Rattle.places.specs.Places.{Place, place, kindOf}
+use Rattle.words.specs.declared.Motion.{Motion}
+use Rattle.words.specs.Rounds.{wordMotion}
+use Rattle.motions.specs.declared.Caret.{Caret}
+use Rattle.motions.specs.declared.Moved.{Moved}
+use Rattle.motions.specs.Carets.{caretRefusal, lowest, moving, placed, Accepted}
+
+-- text, caret, folds, and then 7 or 8 of the list
+abbrev pub wordRefusal : List ℕ → List ℕ → List ℕ → Caret → ℕ
+wordRefusal t folds list k = lowest (textRefusal t ∷ caretRefusal t k ∷ foldRefusal folds (rowCount t) ∷ parseOf list .refusal ∷ [])
+
+-- a caret at a place
+abbrev pub atPlace : Caret → Place → Caret
+atPlace k p = placed k (p .row) (p .col)
+
+-- where the motion leads to, by what is a word character
+abbrev pub wordCaret : List ℕ → List ℕ → (ℕ → Bool) → Bool → Motion → Bool → ℕ → Caret → Caret
+wordCaret t folds word big m stop count k = atPlace k (wordMotion t folds (kindOf word big) big m stop count (place (k .row) (k .col)))
+
+abbrev pub moveWord : List ℕ → List ℕ → List ℕ → Bool → Motion → Bool → ℕ → Caret → Moved
+moveWord t folds list big m stop count k = moving (wordRefusal t folds list k) (wordCaret t folds (inList list) big m stop count k)
+
+-- what the walk requires of a call that no check refuses
+pub record WordReady (t folds : List ℕ) (spec : KeywordSpec) (k : Caret) (start : ℕ) : Type 0 where
+  pub accepted : Accepted t k start
+  pub folds-fit : foldRefusal folds (rowCount t) ≡ 0
+  pub few : spec .len ≤ 128

@@ -1,0 +1,62 @@
+-- A row of an accepted text is accepted. Assumes nothing.
+use mathlib.Core.Path.{_≡_, refl, ap, _∙_}
+use mathlib.Core.List.{List, [], _∷_}
+use mathlib.Core.Bool.{Bool, true, false, cond, not, _&&_, _||_}
+use Prim.Native.Nat.{ℕ, zero, suc, _+_, _-_, _≤_, _<_, min}
+use native.Mathlib.Omega.{arith}
+use lib.Dec.{ltb}
+use lib.ListN.{length, take, drop}
+use borrow.Author.Tests.{le-ltb, eq-eqb}
+use Rattle.chars.specs.Scalar.{isScalar}
+use Rattle.row.specs.Row.{all, rowRefusal}
+use Rattle.columns.specs.Columns.{columnRefusal}
+use Rattle.text.specs.Text.{any, notScalar, isBreak, textRefusal, rowCount, rowAt, rowLen}
+use Rattle.text.proofs.Hiding.{or-right}
+use Rattle.text.proofs.Parts.{row-part, row-fits}
+use Rattle.text.specs.Offsets.{rowStart, lineAt}
+use Rattle.text.specs.declared.Line.{Line}
+use Rattle.vertical.specs.Moves.{AcceptedRow}
+
+any-drop : (p : ℕ → Bool) (n : ℕ) (l : List ℕ) → any p l ≡ false → any p (drop n l) ≡ false
+unfolding any
+any-drop p zero l e = e
+any-drop p (suc n) [] e = e
+any-drop p (suc n) (x ∷ l) e = any-drop p n l (or-right (p x) (any p l) e)
+
+-- the front of a list in which none is wrong
+all-take : (n : ℕ) (l : List ℕ) → any notScalar l ≡ false → all isScalar (take n l) ≡ true
+unfolding any all
+all-take zero l e = refl
+all-take (suc n) [] e = refl
+all-take (suc n) (x ∷ l) e = go (isScalar x) refl e (all-take n l (or-right (notScalar x) (any notScalar l) e))
+  where
+    go : (b : Bool) → isScalar x ≡ b → (not b || any notScalar l) ≡ false → all isScalar (take n l) ≡ true → (isScalar x && all isScalar (take n l)) ≡ true
+    go true h f ih = rw (h, ih)
+    go false h f ih = let z : _≡_ {A = ℕ} 0 1 = cc in absurd (omega arith)
+
+all-scalar : (t : List ℕ) → textRefusal t ≡ 0 → any notScalar t ≡ false
+unfolding textRefusal
+all-scalar t e = go (ltb 1048576 (length t)) (any notScalar t) (any isBreak t) e
+  where
+    go : (a b d : Bool) → _≡_ {A = ℕ} (cond a 1 (cond b 2 (cond d 3 0))) 0 → b ≡ false
+    go true b d h = absurd (omega arith)
+    go false true d h = absurd (omega arith)
+    go false false d h = refl
+
+module _ {t : List ℕ} {row tabstop : ℕ} (a : AcceptedRow t row tabstop) where
+  row-accepted : rowRefusal (rowAt t row) ≡ 0
+  unfolding rowRefusal
+  row-accepted =
+      let scalars = all-take (rowLen t row) (drop (rowStart t row) t) (any-drop notScalar (rowStart t row) t (all-scalar t (a .good))) in
+      rw (le-ltb 1048576 (rowLen t row) (omega (arith, row-fits t row (a .in-rows), a .brief)), rw (← row-part t row (a .in-rows)) at scalars)
+
+  pub columns-accepted : columnRefusal (rowAt t row) tabstop ≡ 0
+  unfolding columnRefusal
+  columns-accepted = rw (eq-eqb (rowRefusal (rowAt t row)) 0 row-accepted, le-ltb 1000 tabstop (a .stop))
+
+  -- the row is found by its number, and another row of the text is as good
+  pub line-is : {l : Line} → l ≡ lineAt t (min row (rowCount t - 1)) → l ≡ lineAt t row
+  line-is e = e ∙ ap (lineAt t) (omega (arith, a .in-rows))
+
+  pub row-there : (other : ℕ) → other < rowCount t → AcceptedRow t other tabstop
+  row-there other h = record { good = a .good; brief = a .brief; in-rows = h; stop = a .stop }

@@ -1,0 +1,22 @@
+-- Where a vertical motion lands: the row stays, or another is reached. Assumes nothing.
+use mathlib.Core.Path.{_≡_, refl, ap, _∙_}
+use mathlib.Core.List.{List}
+use Prim.Native.Nat.{ℕ}
+use lib.IntN.{ℤ}
+use borrow.Author.Tests.{eq-eqb, ne-eqb}
+use Rattle.vertical.specs.declared.Target.{Target}
+use Rattle.vertical.specs.Moves.{landed, aimedCol}
+use Rattle.vertical.specs.Visible.{verticalRow}
+
+-- the row that is reached, from what the calls hand on
+pub reached : (folds : List ℕ) (row : ℕ) {m n : ℕ} {y z : ℤ} → m ≡ n → y ≡ z → verticalRow folds m y row ≡ verticalRow folds n z row
+reached folds row {m} {n} {y} {z} e q = ap (λ (k : ℕ). verticalRow folds k y row) e ∙ ap (λ (x : ℤ). verticalRow folds n x row) q
+
+module _ (t : List ℕ) (tabstop row col : ℕ) {want w target r : ℕ} (e : w ≡ want) (q : r ≡ target) where
+  pub stays-is : r ≡ row → record { row = row; col = col; want = w } ≡ landed t tabstop want row col target
+  unfolding landed
+  stays-is h = rw (← e, ← q, h, eq-eqb row row refl)
+
+  pub lands-is : {c : ℕ} → (r ≡ row → ⊥) → c ≡ aimedCol t tabstop w r → record { row = r; col = c; want = w } ≡ landed t tabstop want row col target
+  unfolding landed
+  lands-is n s = rw (← e, ← q, ne-eqb r row n, s)

@@ -1,0 +1,16 @@
+-- Laws of the vertical walks, which the proofs of this crate and of the crates above it cite.
+pub mod Rounds
+pub mod Free
+pub mod Visible
+pub mod Signed
+pub mod Accepted
+pub mod Columns
+pub mod Landed
+pub mod Seats
+pub mod ScreenRounds
+pub mod Finding
+pub mod Walking
+pub mod Landing
+pub mod Spans
+pub mod Inside
+pub mod Examples

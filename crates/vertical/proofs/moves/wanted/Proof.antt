@@ -1,0 +1,36 @@
+-- `vertical::moves::wanted` meets its contract. Assumes nothing.
+use mathlib.Core.Path.{_≡_, ap, sym, _∙_}
+use mathlib.Core.List.{List}
+use Prim.Native.Nat.{ℕ}
+use native.Mathlib.Omega.{arith}
+use borrow.Author.Needs.{needs}
+use Rattle.chars.specs.Width.{widthOf}
+use Rattle.columns.specs.Columns.{cursorCol}
+use Rattle.vertical.specs.Moves.{wantedCol}
+use Rattle.vertical.proofs.Accepted.{columns-accepted}
+use Rattle.vertical.proofs.moves.wanted.Statement.{statement}
+use Rattle.vertical.proofs.moves.wanted.Tie as tie
+
+cursor-col-requires : tie.Need-cursor-col-requires
+cursor-col-requires c κs = rw (c .row .ensures) (columns-accepted (c .before .before .before .before .before .pre .row-good))
+
+-- the sticky column
+returns : tie.Need-returns
+returns c =
+    let a = c .before .before .before .before .before .args in
+    sym (ap (wantedCol (a .t .now) (a .tabstop) (a .l .row) (a .col)) (c .before .sticky .given .1))
+
+-- the cursor's own
+returns-2 : tie.Need-returns-2
+returns-2 c =
+    let o = c .before in
+    let a = o .before .before .before .before .before .args in
+    c .cursor-col .ensures ∙
+    ap (λ (x : List ℕ). cursorCol widthOf (a .tabstop) x (a .col)) (o .row .ensures) ∙
+    sym (ap (wantedCol (a .t .now) (a .tabstop) (a .l .row) (a .col)) (o .before .enum-told .given .1))
+
+pub wanted-spec : {M : Type 1} → statement M
+wanted-spec =
+    tie.close
+    (tie.spec (λ c. search needs) (λ c. search needs) (λ c κs. c .before .before .before .before .pre .line)
+    (λ c. search needs) cursor-col-requires returns returns-2)

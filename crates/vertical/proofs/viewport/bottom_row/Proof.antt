@@ -1,0 +1,14 @@
+-- `vertical::viewport::bottom_row` meets its contract: a text has a row with content. Assumes nothing.
+use native.Mathlib.Omega.{arith}
+use borrow.Author.Needs.{needs}
+use Rattle.text.proofs.Content.{content-near}
+use Rattle.vertical.proofs.viewport.bottom_row.Statement.{statement}
+use Rattle.vertical.proofs.viewport.bottom_row.Tie as tie
+
+sub-last : tie.Need-sub-last
+sub-last c = omega (arith, c .content-rows .ensures, content-near (c .before .before .args .t .now))
+
+pub bottom-row-spec : {M : Type 1} → statement M
+bottom-row-spec =
+    tie.close
+    (tie.spec (λ c κs. search needs) sub-last (λ c κs. search needs) (λ c. search needs) (λ c κs. search needs) (λ c. search needs))

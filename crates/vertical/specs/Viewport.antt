@@ -1,0 +1,23 @@
+-- The rows that the viewport motions lead to, as motions.rs computes them under "Viewport-relative motions". Numbers don't wrap here.
+-- Definitions only. Assumes nothing.
+use Prim.Native.Nat.{ℕ, _+_, _-_, _/_, min, max}
+use mathlib.Core.List.{List}
+use Rattle.text.specs.Text.{contentRows}
+
+-- the last row with content
+abbrev pub lastRow : List ℕ → ℕ
+lastRow t = contentRows t - 1
+
+-- the last row that a viewport shows; a height of 0 acts as 1
+abbrev pub bottomRow : List ℕ → ℕ → ℕ → ℕ
+bottomRow t top height = min (top + (height - 1)) (lastRow t)
+
+-- `H`, `M` and `L`
+abbrev pub topRow : List ℕ → ℕ → ℕ → ℕ
+topRow t top offset = min (top + offset) (lastRow t)
+
+abbrev pub middleRow : List ℕ → ℕ → ℕ → ℕ
+middleRow t top height = min (top + (bottomRow t top height - top) / 2) (lastRow t)
+
+abbrev pub baseRow : List ℕ → ℕ → ℕ → ℕ → ℕ
+baseRow t top height offset = min (max (bottomRow t top height - offset) top) (lastRow t)

@@ -1,0 +1,41 @@
+// The rows that the viewport motions lead to: `H`, `M` and `L` of motions.rs, "Viewport-relative
+// motions". Rows and heights are 32 and 16 bits wide and the sums 64, so that none wraps.
+use crate::least;
+use crate::minus;
+use crate::most;
+use text::Line;
+ghost use mathlib.Core.Path.{_≡_};
+ghost use Rattle.text.specs.Offsets.{lineAt};
+ghost use Rattle.vertical.specs.Viewport.{bottomRow, topRow, middleRow, baseRow};
+
+// The last row of the viewport, or the last row with content.
+fn bottom_row(t: &[u32], top: u32, height: u16) -> usize
+    ensures { λ r. ⌜ r ≡ bottomRow (now (t .entry)) top height ⌝ }
+{
+    let last = text::content_rows(t) - 1;
+    least(top as usize + minus(height as usize, 1), last)
+}
+
+// `H`: so many rows below the viewport's first, or the last row with content.
+pub fn viewport_top(t: &[u32], top: u32, offset: u32) -> Line
+    ensures { λ r. ⌜ r ≡ lineAt (now (t .entry)) (topRow (now (t .entry)) top offset) ⌝ }
+{
+    text::offsets::content_line(t, top as usize + offset as usize)
+}
+
+// `M`: the row in the middle between the viewport's first row and its last.
+pub fn viewport_middle(t: &[u32], top: u32, height: u16) -> Line
+    ensures { λ r. ⌜ r ≡ lineAt (now (t .entry)) (middleRow (now (t .entry)) top height) ⌝ }
+{
+    let bottom = bottom_row(t, top, height);
+    text::offsets::content_line(t, top as usize + minus(bottom, top as usize) / 2)
+}
+
+// `L`: so many rows above the viewport's last, but not above its first, or the last row with
+// content.
+pub fn viewport_bottom(t: &[u32], top: u32, height: u16, offset: u32) -> Line
+    ensures { λ r. ⌜ r ≡ lineAt (now (t .entry)) (baseRow (now (t .entry)) top height offset) ⌝ }
+{
+    let bottom = bottom_row(t, top, height);
+    text::offsets::content_line(t, most(minus(bottom, offset as usize), top as usize))
+}
