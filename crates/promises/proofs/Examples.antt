@@ -1,0 +1,72 @@
+-- Document 01's P1 to P12, and a case of every call, each by one computation over what the contracts cite. Assumes nothing.
+use mathlib.Core.Path.{_≡_, refl}
+use Rattle.chars.specs.Letters.{letters, isLetter}
+use Rattle.chars.specs.White.{whites, isWhite}
+use Rattle.chars.specs.Width.{zeroWidths, doubleWidths, widthOf}
+use Rattle.row.specs.Row.{all, rowRefusal}
+use Rattle.row.specs.Row.{columnOf as columnAt}
+use Rattle.columns.specs.Columns.{columnRefusal, stopOf, visualFrom, charFrom, leadingFrom}
+use Rattle.wrap.specs.Segments.{fits, afterWhite, firstSegment, segmentsFrom}
+use Rattle.wrap.specs.Modes.{segmentsOf}
+use Rattle.wrap.specs.Calls.{wrapRefusal}
+use Rattle.wrap.specs.Offsets.{cellsIn, pairsBefore}
+use Rattle.wrap.specs.Room.{countOf, roomRefusal}
+use Rattle.text.specs.Text.{any, textRefusal, onFirst, rows}
+use Rattle.text.specs.Offsets.{startIn, rowOf}
+use Rattle.text.specs.Folds.{anyFold, foldRefusal, visibleFrom}
+use Rattle.keywords.specs.Numbers.{allDigits, value}
+use Rattle.keywords.specs.Parts.{parts, trimStart, trimEnd, upTo}
+use Rattle.keywords.specs.Refusals.{allScalar}
+use Rattle.keywords.specs.Tokens.{tokensIn}
+use Rattle.keywords.specs.Tokens.{any as anyOf}
+use Rattle.brackets.specs.Kinds.{sideOf, keyBracket}
+use Rattle.brackets.specs.Nearest.{firstFrom, lastBelow}
+use Rattle.brackets.specs.Pairs.{count, stretch}
+use Rattle.brackets.specs.Matching.{nearestOf, placed, matchingBracketPos}
+use Rattle.brackets.specs.Find.{keyTo, landing, findAhead}
+use Rattle.lines.specs.Paragraphs.{roundFrom, paragraphs}
+use Rattle.lines.specs.Sections.{sectionUp, sectionDown}
+use Rattle.places.specs.Places.{kindOf, kindAt, onEmptyRow, nextRow, stepForward, inc, dec, endOfBuffer}
+use Rattle.places.specs.Walks.{walk, goesOn}
+use Rattle.words.specs.Words.{nextWordStart, prevWordStart, nextWordEnd, prevWordEnd, atWordEnd}
+use Rattle.words.specs.Rounds.{roundOf, counted, wordMotion}
+use Rattle.motions.specs.Carets.{caretRefusal, lowest, moving}
+use Rattle.motions.specs.Columns.{indentOf, solidOf}
+use Rattle.motions.specs.Steps.{rounds, spaceFwd, backspaceBack}
+use Rattle.motions.specs.Finds.{partnerTo, seeking, landsOn, orSought}
+use Rattle.exports.specs.Carets.{moved}
+use Rattle.exports.specs.Characters.{fact}
+use Rattle.exports.specs.Lists.{tokenCount, byTable, inTable, keyword}
+use Rattle.exports.specs.Moves.{motion}
+use Rattle.exports.specs.Partners.{partnered}
+use Rattle.exports.specs.Seeks.{sought, seek}
+use Rattle.exports.specs.Tabs.{toldColumn, tabColumn}
+use Rattle.exports.specs.Terms.{word}
+use Rattle.exports.specs.Wraps.{toldSegment, toldSegments, offset, modeOf, segmented, segmentsLeft}
+use Rattle.promises.specs.Table.{table, given, asked}
+use Rattle.promises.specs.Calls.{calls, judged, good}
+
+pub examples : given table ≡ asked table
+unfolding table
+    letters isLetter whites isWhite zeroWidths doubleWidths widthOf all rowRefusal columnAt columnRefusal stopOf visualFrom charFrom
+    fits afterWhite firstSegment segmentsFrom segmentsOf any textRefusal onFirst rows startIn rowOf anyFold foldRefusal visibleFrom
+    allDigits value parts trimStart trimEnd upTo allScalar tokensIn anyOf
+    sideOf keyBracket firstFrom lastBelow count stretch nearestOf placed matchingBracketPos keyTo landing findAhead
+    roundFrom paragraphs kindOf kindAt onEmptyRow nextRow stepForward endOfBuffer walk goesOn nextWordStart roundOf counted wordMotion
+    caretRefusal lowest moving partnerTo seeking landsOn orSought
+    moved keyword motion partnered sought seek toldColumn tabColumn word
+examples = refl
+
+-- every call gives the right reply of its case, and neither of the two wrong ones
+pub right-alone : judged calls ≡ good calls
+unfolding calls
+    letters isLetter whites isWhite zeroWidths doubleWidths widthOf all rowRefusal columnAt columnRefusal stopOf visualFrom charFrom leadingFrom
+    fits afterWhite firstSegment segmentsFrom segmentsOf wrapRefusal cellsIn pairsBefore countOf roomRefusal any textRefusal onFirst rows startIn rowOf
+    anyFold foldRefusal visibleFrom allDigits value parts trimStart trimEnd upTo allScalar tokensIn anyOf
+    sideOf keyBracket firstFrom lastBelow count stretch nearestOf placed matchingBracketPos keyTo landing findAhead
+    roundFrom paragraphs sectionUp sectionDown kindOf kindAt onEmptyRow nextRow stepForward inc dec endOfBuffer walk goesOn
+    nextWordStart prevWordStart nextWordEnd prevWordEnd atWordEnd roundOf counted wordMotion
+    caretRefusal lowest moving indentOf solidOf rounds spaceFwd backspaceBack partnerTo seeking landsOn orSought
+    fact moved tokenCount byTable inTable keyword motion partnered sought seek toldColumn tabColumn word
+    toldSegment toldSegments offset modeOf segmented segmentsLeft
+right-alone = refl

@@ -1,0 +1,4 @@
+-- What is promised of all calls at once.
+pub mod Examples
+pub mod Results
+pub mod Positions

@@ -1,0 +1,16 @@
+-- No input of a public call has two results. Assumes nothing.
+use mathlib.Core.Path.{_≡_, sym, _∙_}
+use Rattle.promises.specs.Results.{OneResult}
+
+pub one-result : OneResult
+one-result =
+    record {
+      equal = λ v x y p q. p ∙ sym q;
+      wraps = λ mode width row out x y p q. λ i. ((p .answer ∙ sym (q .answer)) i, (p .left ∙ sym (q .left)) i);
+      replied = λ m out x y p q. λ i. ((p .numbered ∙ sym (q .numbered)) i, (p .out-left ∙ sym (q .out-left)) i);
+      answered = λ s room out m x y p q. λ i. (
+        (p .numbered ∙ sym (q .numbered)) i,
+        (p .room-left ∙ sym (q .room-left)) i,
+        (p .out-left ∙ sym (q .out-left)) i,
+      );
+    }

@@ -1,0 +1,132 @@
+-- One case of every public call, by the name that the Rust has for it: its reply, and two replies that its contract rules out.
+-- Definitions only; `proofs/Examples.antt` computes it. Assumes nothing.
+use Prim.Native.Nat.{ℕ}
+use Prim.Native.String.{String}
+use mathlib.Core.List.{List, [], _∷_}
+use mathlib.Core.Bool.{Bool, true, false, _&&_}
+use lib.Dec.{eqb}
+use Rattle.exports.specs.declared.Told.{Told}
+use Rattle.exports.specs.declared.Told.the-variants.{Value, Refused}
+use Rattle.exports.specs.Reply.{Reply, answer, refused, told}
+use Rattle.exports.specs.Carets.{caretOf}
+use Rattle.exports.specs.Characters.{fact}
+use Rattle.exports.specs.Lists.{keywords}
+use Rattle.exports.specs.Moves.{motions}
+use Rattle.exports.specs.Rows.{rowCount}
+use Rattle.exports.specs.Tabs.{tabColumns}
+use Rattle.exports.specs.Terms.{words}
+use Rattle.exports.specs.Wraps.{offsets, segmentOf, segmented, segmentsLeft}
+use Rattle.promises.specs.Table.{codes, pair, key, till, with, none, at, found, yes, no}
+
+pub record Case : Type 0 where
+  pub call : String
+  pub gives : Reply
+  pub right : Reply
+  pub wrong : Reply
+  pub wrong′ : Reply
+
+abbrev pub case : String → Reply → Reply → Reply → Reply → Case
+case call gives right wrong wrong′ = record { call = call; gives = gives; right = right; wrong = wrong; wrong′ = wrong′ }
+
+-- replies, told apart
+abbrev pub sameValues : List ℕ → List ℕ → Bool
+sameValues [] [] = true
+sameValues [] (y ∷ m) = false
+sameValues (x ∷ l) [] = false
+sameValues (x ∷ l) (y ∷ m) = eqb x y && sameValues l m
+
+abbrev pub same : Reply → Reply → Bool
+same (answer v) (answer w) = sameValues v w
+same (answer v) (refused f) = false
+same (refused f) (answer w) = false
+same (refused f) (refused g) = eqb f g
+
+-- the right reply is given, and neither of the wrong ones
+pub record Judged : Type 0 where
+  pub call : String
+  pub right : Bool
+  pub wrong : Bool
+  pub wrong′ : Bool
+
+abbrev pub judged : List Case → List Judged
+judged [] = []
+judged (c ∷ l) =
+    record { call = c .call; right = same (c .gives) (c .right); wrong = same (c .gives) (c .wrong); wrong′ = same (c .gives) (c .wrong′) } ∷ judged l
+
+abbrev pub good : List Case → List Judged
+good [] = []
+good (c ∷ l) = record { call = c .call; right = true; wrong = false; wrong′ = false } ∷ good l
+
+-- values, a caret and a search that found nothing as replies
+abbrev pub value : ℕ → Reply
+value n = answer (n ∷ [])
+
+abbrev pub caret : ℕ → ℕ → Reply
+caret r c = answer (at r c)
+
+abbrev pub missing : ℕ → ℕ → Reply
+missing r c = answer (0 ∷ at r c)
+
+-- the calls by what they ask: a motion, from a caret without a sticky column, with a count
+abbrev pub motion : ℕ → String → ℕ → ℕ → ℕ → Reply
+motion op t r c n = motions op n (caretOf r c 0 0) (codes t)
+
+abbrev pub word : ℕ → String → ℕ → ℕ → Reply
+word op t r c = words op false 1 (caretOf r c 0 0) (codes t) [] (codes "@,48-57,_")
+
+-- the count and the segments, in room for two that holds 9s
+abbrev pub counted : Told → List ℕ → Reply
+counted (Value n) segments = answer (n ∷ segments)
+counted (Refused f) segments = refused f
+
+abbrev pub wrapped : ℕ → ℕ → String → Reply
+wrapped mode width line =
+    counted (segmented mode width (9 ∷ 9 ∷ 9 ∷ 9 ∷ []) (codes line)) (segmentsLeft mode width (9 ∷ 9 ∷ 9 ∷ 9 ∷ []) (codes line))
+
+unfoldable pub calls : List Case
+calls =
+    case "is_scalar" (told (fact 0 0xd800)) (answer no) (answer yes) (refused 2) ∷
+    case "is_white" (told (fact 1 0xa0)) (answer yes) (answer no) (refused 2) ∷
+    case "is_letter" (told (fact 2 123)) (answer no) (answer yes) (refused 2) ∷
+    case "width" (told (fact 3 0x3042)) (value 2) (value 1) (value 0) ∷
+    case "parse" (keywords 0 0 (codes "@,48-57,_")) (value 3) (value 1) (refused 8) ∷
+    case "matches" (keywords 1 5 (codes "5")) (answer yes) (answer no) (refused 2) ∷
+    case "is_keyword_char" (keywords 2 50 (codes "57-48")) (answer no) (answer yes) (refused 7) ∷
+    case "visual_col_to_char_col" (tabColumns 0 7 8 (codes "\tx")) (value 0) (value 1) (value 7) ∷
+    case "char_col_to_visual_col" (tabColumns 1 1 8 (codes "\tx")) (value 8) (value 1) (value 7) ∷
+    case "cursor_visual_col" (tabColumns 2 0 8 (codes "\tx")) (value 7) (value 0) (value 8) ∷
+    case "leading_visual_width" (tabColumns 3 0 8 (codes "\tx")) (value 8) (value 1) (value 0) ∷
+    case "wrap_segments" (wrapped 2 4 "ab cd") (answer (2 ∷ 0 ∷ 3 ∷ 3 ∷ 5 ∷ [])) (answer (1 ∷ 0 ∷ 5 ∷ 9 ∷ 9 ∷ [])) (answer (2 ∷ 0 ∷ 4 ∷ 4 ∷ 5 ∷ [])) ∷
+    case "char_col_for_visual_offset" (offsets 0 3 5 1 (codes "ab cd")) (value 4) (value 1) (value 3) ∷
+    case "visual_offset_for_char_col" (offsets 1 3 0 4 (codes "ab cd")) (value 1) (value 4) (value 0) ∷
+    case "segment_for_col" (segmentOf 3 (0 ∷ 3 ∷ 3 ∷ 5 ∷ [])) (value 1) (value 0) (refused 10) ∷
+    case "content_row_count" (rowCount (codes "a\n")) (value 1) (value 2) (refused 3) ∷
+    case "move_left" (motion 0 "ab" 0 1 1) (caret 0 0) (caret 0 1) (refused 4) ∷
+    case "move_right_in_line" (motion 1 "ab" 0 0 5) (caret 0 1) (caret 0 2) (caret 0 0) ∷
+    case "move_right_to_end" (motion 2 "ab" 0 0 5) (caret 0 2) (caret 0 1) (caret 0 0) ∷
+    case "move_space_fwd" (motion 3 "a\nb" 0 0 1) (caret 1 0) (caret 0 0) (caret 0 1) ∷
+    case "move_backspace_back" (motion 4 "a\nb" 1 0 1) (caret 0 0) (caret 1 0) (caret 0 1) ∷
+    case "move_line_start" (motion 5 "ab" 0 1 0) (caret 0 0) (caret 0 1) (refused 4) ∷
+    case "move_first_non_blank" (motion 6 " a" 0 0 0) (caret 0 1) (caret 0 0) (caret 0 2) ∷
+    case "move_line_end" (motion 7 "ab" 0 0 0) (caret 0 1) (caret 0 2) (caret 0 0) ∷
+    case "move_goto_column" (motion 8 "abc" 0 0 2) (caret 0 1) (caret 0 2) (caret 0 0) ∷
+    case "move_last_non_blank" (motion 9 "a " 0 1 0) (caret 0 0) (caret 0 1) (caret 0 2) ∷
+    case "move_paragraph_prev" (motion 10 "a\n\nb" 2 0 1) (caret 1 0) (caret 0 0) (caret 2 0) ∷
+    case "move_paragraph_next" (motion 11 "a\n\nb" 0 0 3) (caret 0 0) (caret 1 0) (caret 2 0) ∷
+    case "move_section_backward" (motion 12 "{\na" 1 0 1) (caret 0 0) (caret 1 0) (refused 4) ∷
+    case "move_section_forward" (motion 13 "a\nb\n{" 0 0 1) (caret 2 0) (caret 1 0) (caret 0 0) ∷
+    case "move_section_end_backward" (motion 14 "}\na" 1 0 1) (caret 0 0) (caret 1 0) (refused 4) ∷
+    case "move_section_end_forward" (motion 15 "a\nb\n}" 0 0 1) (caret 2 0) (caret 1 0) (caret 0 0) ∷
+    case "move_first_non_blank_next_line" (motion 16 "a\n b" 0 0 1) (caret 1 1) (caret 1 0) (caret 0 0) ∷
+    case "move_first_non_blank_prev_line" (motion 17 "\ta\nb" 1 0 1) (caret 0 1) (caret 0 0) (caret 1 0) ∷
+    case "move_first_non_blank_line" (motion 18 "a\n" 1 0 1) (caret 0 0) (caret 1 0) (refused 4) ∷
+    case "move_top" (motion 19 "a\nb" 1 0 0) (caret 0 0) (caret 1 0) (refused 4) ∷
+    case "move_bottom" (motion 20 "a\nb\n" 0 0 0) (caret 1 0) (caret 2 0) (caret 0 0) ∷
+    case "move_word_fwd" (word 0 "ab" 0 0) (caret 0 2) (caret 0 1) (caret 0 0) ∷
+    case "move_word_back" (word 1 "a b" 0 2) (caret 0 0) (caret 0 1) (caret 0 2) ∷
+    case "move_word_end" (word 2 "ab\ncd" 0 0) (caret 0 1) (caret 1 1) (caret 0 0) ∷
+    case "move_word_end_back" (word 4 "ab cd" 0 4) (caret 0 1) (caret 0 3) (caret 0 0) ∷
+    case "matching_bracket_pos" (pair "([)]" 0 0) (answer (with 0 2)) (answer none) (answer (with 0 3)) ∷
+    case "match_bracket" (key "<(>)" 0 0) (answer (found 0 3)) (missing 0 0) (answer (found 0 2)) ∷
+    case "find_char_on_line" (till false "axx") (answer (found 0 0)) (missing 0 0) (answer (found 0 1)) ∷
+    []

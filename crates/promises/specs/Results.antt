@@ -1,0 +1,23 @@
+-- What "no input has two results" says of the forms that the public contracts have. A result is all that a call hands back:
+-- its answer, and what each lent slice holds afterwards. Definitions only; `one-result` is in `proofs/Results.antt`. Assumes nothing.
+use Prim.Native.Nat.{ℕ}
+use mathlib.Core.Path.{_≡_}
+use mathlib.Core.List.{List}
+use Rattle.wrap.specs.declared.Wrap.{Wrap}
+use Rattle.wrap.specs.declared.Segments.{Segments}
+use Rattle.wrap.specs.Calls.{Wraps}
+use Rattle.exports.specs.Reply.{Reply, Replied, Answered}
+
+-- a contract allows one result at most
+abbrev pub One : {A : Type 0} → (A → Type 0) → Type 0
+One {A = A} allows = (x y : A) → allows x → allows y → x ≡ y
+
+pub record OneResult : Type 1 where
+  -- `r ≡ definition`: every method of `Caret`, and all calls of `chars`, `keywords`, `columns`, `text`, `brackets`
+  pub equal : {A : Type 0} (v : A) → One (λ (r : A). r ≡ v)
+  -- `wrap_segments`: the answer, and the slice lent for segments
+  pub wraps : (mode : Wrap) (width : ℕ) (row out : List ℕ) → One (λ (x : Segments × List ℕ). Wraps mode width row out (x .0) (x .1))
+  -- an export on code points: the number, and the places for the answer
+  pub replied : (m : Reply) (out : List ℕ) → One (λ (x : ℕ × List ℕ). Replied m out (x .0) (x .1))
+  -- an export on bytes: the number, the room, and the places for the answer
+  pub answered : (s room out : List ℕ) (m : Reply) → One (λ (x : ℕ × List ℕ × List ℕ). Answered s room out m (x .0) (x .1) (x .2))
