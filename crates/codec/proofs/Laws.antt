@@ -5,9 +5,9 @@ use mathlib.Core.List.{List, [], _∷_, _++_, append-nil}
 use Prim.Native.Nat.{ℕ, zero, suc, _+_, _*_, _/_, _-_, _≤_, _<_}
 use native.Mathlib.Numerals.{add-one}
 use native.Mathlib.Omega.{arith}
-use lib.ListN.{length, getD, take, drop, set, length-take, length-drop, length-append, length-set, drop-of-length-le}
-use lib.Seq.{drop-cons, set-at, take-suc, append-snoc, length-take-le, length-front, take-at, take-all, drop-drop, drop-at as drop-seam}
-use Rattle.codec.specs.Points.{points, word, filled, Two}
+use lib.ListN.{length, getD, take, drop, set, length-take, length-drop, length-append, drop-of-length-le}
+use lib.Seq.{drop-cons, set-at, take-suc, append-snoc, length-take-le, take-at, take-all, drop-drop, drop-at as drop-seam}
+use Rattle.codec.specs.Points.{points, word, filled, filledTwo, filledAll, Two, Three}
 
 pub length-points : (s : List ℕ) → length (points s) ≡ length s / 4
 unfolding points
@@ -52,8 +52,9 @@ filled-all s d room e = e ∙ ap (λ (l : List ℕ). l ++ drop (length s / 4) d)
 pub take-filled : (s d room : List ℕ) → room ≡ filled s d → take (length s / 4) room ≡ points s
 take-filled s d room e = rw e (take-at (points s) (drop (length s / 4) d) (length s / 4) (length-points s))
 
--- a second list decoded behind the first: xs is the room after the first, ys its rest after the second
-module _ (s u room xs ys : List ℕ) (r : ℕ) (count : r ≡ length s / 4) (ex : xs ≡ filled s room) (ey : ys ≡ filled u (take (length xs - r) (drop r xs))) where
+-- more decoded behind a first list, by f: xs is the room after the first, ys its rest after f
+module _ (s room xs ys : List ℕ) (r : ℕ) (f : List ℕ → List ℕ) (count : r ≡ length s / 4) (ex : xs ≡ filled s room)
+    (ey : ys ≡ f (take (length xs - r) (drop r xs))) where
   front-is : take r xs ≡ points s
   front-is = rw count (take-filled s room xs ex)
 
@@ -66,19 +67,54 @@ module _ (s u room xs ys : List ℕ) (r : ℕ) (count : r ≡ length s / 4) (ex 
   none-is : drop (length xs - r) (drop r xs) ≡ []
   none-is = drop-of-length-le (drop r xs) {i = length xs - r} (omega (arith, length-drop r xs))
 
-  second-is : ys ≡ points u ++ drop (r + length u / 4) room
-  second-is = ey ∙ ap (λ (l : List ℕ). points u ++ drop (length u / 4) l) (all-is ∙ rest-is) ∙ ap (λ (l : List ℕ). points u ++ l) (drop-drop (length u / 4) r room)
+  behind-is : ys ≡ f (drop (length s / 4) room)
+  behind-is = ey ∙ ap f (all-is ∙ rest-is ∙ ap (λ (n : ℕ). drop n room) count)
 
-  whole-is : take r xs ++ (ys ++ drop (length xs - r) (drop r xs)) ≡ points s ++ (points u ++ drop (length s / 4 + length u / 4) room)
-  whole-is = rw (none-is, append-nil ys, front-is, second-is) (ap (λ (n : ℕ). points s ++ (points u ++ drop (n + length u / 4) room)) count)
+  pub whole-is : take r xs ++ (ys ++ drop (length xs - r) (drop r xs)) ≡ points s ++ f (drop (length s / 4) room)
+  whole-is = rw (none-is, append-nil ys, front-is, behind-is)
 
-  pub two-is : length s / 4 + length u / 4 ≤ length room → Two s u room (take r xs ++ (ys ++ drop (length xs - r) (drop r xs)))
-  two-is h =
-      let w = whole-is in
-      let p = points u ++ drop (length s / 4 + length u / 4) room in
-      record {
-        room-left = w;
-        within = rw w (simp (length-append, length-points, length-drop) (omega arith));
-        first = rw w (take-at (points s) p (length s / 4) (length-points s));
-        second = rw (w, drop-seam (points s) p (length s / 4) (length-points s)) (take-at (points u) _ (length u / 4) (length-points u));
-      }
+-- the parts of a room in which lists stand one after the other
+module _ (s p room : List ℕ) (e : room ≡ points s ++ p) where
+  part-first : take (length s / 4) room ≡ points s
+  part-first = rw e (take-at (points s) p (length s / 4) (length-points s))
+
+  part-rest : drop (length s / 4) room ≡ p
+  part-rest = rw e (drop-seam (points s) p (length s / 4) (length-points s))
+
+  part-length : length room ≡ length s / 4 + length p
+  part-length = rw e (simp (length-append, length-points))
+
+pub two-is : (s u room room′ : List ℕ) → room′ ≡ points s ++ filled u (drop (length s / 4) room) → length s / 4 + length u / 4 ≤ length room →
+    Two s u room room′
+two-is s u room room′ w h =
+    let rest = filled u (drop (length s / 4) room) in
+    let last = drop (length u / 4) (drop (length s / 4) room) in
+    let ls = length-drop (length s / 4) room in
+    let lu = length-drop (length u / 4) (drop (length s / 4) room) in
+    record {
+      room-left = w ∙ ap (λ (l : List ℕ). points s ++ (points u ++ l)) (drop-drop (length u / 4) (length s / 4) room);
+      within = omega (arith, part-length s rest room′ w, part-length u last rest refl, ls, lu);
+      first = part-first s rest room′ w;
+      second = rw (part-rest s rest room′ w) (part-first u last rest refl);
+    }
+
+pub three-is : (s u v room room′ : List ℕ) → room′ ≡ points s ++ filledTwo u v (drop (length s / 4) room) →
+    length s / 4 + (length u / 4 + length v / 4) ≤ length room → Three s u v room room′
+unfolding filledAll
+three-is s u v room room′ w h =
+    let rest = filledTwo u v (drop (length s / 4) room) in
+    let e = part-rest s rest room′ w in
+    let last = drop (length u / 4 + length v / 4) (drop (length s / 4) room) in
+    let k : drop (length u / 4) (drop (length s / 4) room′) ≡ points v ++ last = rw e (part-rest u (points v ++ last) rest refl) in
+    let ls = length-drop (length s / 4) room in
+    let luv = length-drop (length u / 4 + length v / 4) (drop (length s / 4) room) in
+    record {
+      room-left =
+          w ∙ ap (λ (l : List ℕ). points s ++ (points u ++ (points v ++ l))) (sym (drop-drop (length v / 4) (length u / 4) (drop (length s / 4) room)));
+      within =
+          omega
+          (arith, part-length s rest room′ w, part-length u (points v ++ last) rest refl, part-length v last (points v ++ last) refl, ls, luv);
+      first = part-first s rest room′ w;
+      second = rw e (part-first u (points v ++ last) rest refl);
+      third = rw (sym (drop-drop (length u / 4) (length s / 4) room′), k) (part-first v last (points v ++ last) refl);
+    }

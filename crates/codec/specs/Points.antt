@@ -25,6 +25,11 @@ filled s room = points s ++ drop (length s / 4) room
 abbrev pub filledTwo : List ℕ → List ℕ → List ℕ → List ℕ
 filledTwo s u room = points s ++ (points u ++ drop (length s / 4 + length u / 4) room)
 
+-- and for any number of them: each at the start of what the ones before it left
+unfoldable pub filledAll : List (List ℕ) → List ℕ → List ℕ
+filledAll [] room = room
+filledAll (s ∷ l) room = points s ++ filledAll l (drop (length s / 4) room)
+
 -- what `decode` answers and leaves; the last two follow from the first two
 pub record Decoded (s room : List ℕ) (r : ℕ) (room′ : List ℕ) : Type 0 where
   pub count : r ≡ length s / 4
@@ -38,3 +43,11 @@ pub record Two (s u room : List ℕ) (room′ : List ℕ) : Type 0 where
   pub within : length s / 4 + length u / 4 ≤ length room′
   pub first : take (length s / 4) room′ ≡ points s
   pub second : take (length u / 4) (drop (length s / 4) room′) ≡ points u
+
+-- what `decode_three` leaves; the last four follow from the first
+pub record Three (s u v room : List ℕ) (room′ : List ℕ) : Type 0 where
+  pub room-left : room′ ≡ filledAll (s ∷ u ∷ v ∷ []) room
+  pub within : length s / 4 + (length u / 4 + length v / 4) ≤ length room′
+  pub first : take (length s / 4) room′ ≡ points s
+  pub second : take (length u / 4) (drop (length s / 4) room′) ≡ points u
+  pub third : take (length v / 4) (drop (length s / 4 + length u / 4) room′) ≡ points v

@@ -2,7 +2,7 @@
 ghost use mathlib.Core.Path.{_≡_};
 ghost use Prim.Native.Nat.{_+_, _/_, _≤_};
 ghost use lib.ListN.{length};
-ghost use Rattle.codec.specs.Points.{Decoded, Two};
+ghost use Rattle.codec.specs.Points.{Decoded, Two, Three};
 ghost use Rattle.codec.specs.Points.{word as Points·word};
 
 // The number that four bytes make.
@@ -38,4 +38,14 @@ pub fn decode_two(first: &[u8], second: &[u8], room: &mut [u32])
 {
     let n = decode(first, room);
     decode(second, &mut room[n..]);
+}
+
+// The same for three.
+pub fn decode_three(first: &[u8], second: &[u8], third: &[u8], room: &mut [u32])
+    requires { ⌜ length (now first) / 4 + (length (now second) / 4 + length (now third) / 4) ≤
+        length (now room) ⌝ }
+    ensures { λ _. ⌜ Three (now (first .entry)) (now (second .entry)) (now (third .entry)) (now (room .entry)) (now (room .exit)) ⌝ }
+{
+    let n = decode(first, room);
+    decode_two(second, third, &mut room[n..]);
 }

@@ -1,2 +1,4 @@
 pub mod Replies
+pub mod Joins
+pub mod Twos
 pub mod Segments

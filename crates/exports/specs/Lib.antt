@@ -1,4 +1,5 @@
 pub mod Reply
+pub mod Joined
 pub mod Rows
 pub mod Characters
 pub mod Lists
@@ -9,3 +10,4 @@ pub mod Moves
 pub mod Partners
 pub mod Seeks
 pub mod Terms
+pub mod Upright

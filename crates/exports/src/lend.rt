@@ -18,7 +18,7 @@ pub fn reply(m: Told, out: &mut [u32; 1]) -> u32
 }
 
 // Why what was lent is unfit: 101 no whole code points, 102 too little room; 0 where it is fit.
-fn unfit(whole: bool, points: usize, room: usize) -> u32
+pub fn unfit(whole: bool, points: usize, room: usize) -> u32
     ensures { λ r. ⌜ r ≡ Reply·unfit whole points room ⌝ }
 {
     if !whole {

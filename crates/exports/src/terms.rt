@@ -1,10 +1,14 @@
 // Word motions.
+use crate::joined::fill_three;
 use crate::moves::caret_of;
 use crate::moves::place;
 use motions::Caret;
 use motions::Moved;
 ghost use mathlib.Core.Path.{_≡_};
+ghost use mathlib.Core.List.{[], _∷_};
+ghost use Rattle.codec.specs.Points.{points};
 ghost use Rattle.exports.specs.Reply.{Replied};
+ghost use Rattle.exports.specs.Joined.{AnsweredAll};
 ghost use Rattle.exports.specs.Carets.{caretOf};
 ghost use Rattle.exports.specs.Terms.{isBig, word, words};
 
@@ -52,4 +56,45 @@ pub extern "C" fn tsivareza_word_u32(
 {
     let k = caret_of(row, col, held, sticky);
     place(word_by(op, k, text, folds, list, big != 0, count), out)
+}
+
+// The same over a text, folds and a list of bytes, whose code points share the room.
+#[no_mangle]
+pub extern "C" fn tsivareza_word(
+    op: u32,
+    text: &[u8],
+    folds: &[u8],
+    list: &[u8],
+    room: &mut [u32],
+    row: u32,
+    col: u32,
+    held: u32,
+    sticky: u32,
+    big: u32,
+    count: u32,
+    out: &mut [u32; 4],
+) -> u32
+    ensures { λ r. ⌜ AnsweredAll (now (text .entry) ∷ now (folds .entry) ∷ now (list .entry) ∷ []) (now (room .entry)) (now (out .entry)) (words op (isBig big) count (caretOf row col held sticky) (points (now (text .entry))) (points (now (folds .entry))) (points (now (list .entry)))) r (now (room .exit)) (now (out .exit)) ⌝ }
+{
+    let f = fill_three(text, folds, list, room);
+    if f != 0 {
+        return f;
+    }
+    let n = text.len() / 4;
+    let m = n + folds.len() / 4;
+    let end = m + list.len() / 4;
+    let all: &[u32] = room;
+    tsivareza_word_u32(
+        op,
+        &all[..n],
+        &all[n..m],
+        &all[m..end],
+        row,
+        col,
+        held,
+        sticky,
+        big,
+        count,
+        out,
+    )
 }

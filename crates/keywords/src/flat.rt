@@ -68,7 +68,7 @@ pub fn letters_of(spec: KeywordSpec) -> bool
 }
 
 // Whether one of the first n pairs of bounds holds c.
-fn in_bounds(bounds: &[u32], n: usize, c: u32) -> bool
+pub fn in_bounds(bounds: &[u32], n: usize, c: u32) -> bool
     requires { ⌜ n + n ≤ length (now bounds) ⌝ }
     ensures { λ r. ⌜ r ≡ within (take (n + n) (now (bounds .entry))) c ⌝ }
 {

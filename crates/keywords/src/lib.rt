@@ -9,6 +9,7 @@ mod tokens;
 
 pub use flat::bounds_of;
 pub use flat::holds;
+pub use flat::in_bounds;
 pub use flat::letters_of;
 pub use keyword_spec::is_keyword_char;
 pub use tokens::EMPTY;

@@ -29,7 +29,7 @@ lowest-none f rest e = go (eqb f 0) refl e
 
 -- where no check refuses
 module _ (t : List ℕ) (k : Caret) where
-  inside-at : caretRefusal t k ≡ 0 → Inside t k
+  pub inside-at : caretRefusal t k ≡ 0 → Inside t k
   unfolding caretRefusal
   inside-at e = go (ltb (k .row) (rowCount t)) (leb (k .col) (rowLen t (k .row))) refl refl e
     where

@@ -34,16 +34,19 @@ use Rattle.motions.proofs.Staying.{either-in, placed-in, row-in, conten
 abbrev pub Lands : List ℕ → Moved → Type 0
 Lands t r = (c : Caret) → r ≡ To c → Inside t c
 
--- it does so only from a caret in the text
-lands : (t : List ℕ) (k m : Caret) → (Inside t k → Inside t m) → Lands t (moving (refusalOf t k) m)
+-- it does so only where no check refuses the call, and so from a caret in the text
+pub moving-lands : (t : List ℕ) (f : ℕ) (m : Caret) → (f ≡ 0 → Inside t m) → Lands t (moving f m)
 unfolding moving
-lands t k m h c e = go (eqb (refusalOf t k) 0) refl e
+moving-lands t f m h c e = go (eqb f 0) refl e
   where
-    go : (b : Bool) → eqb (refusalOf t k) 0 ≡ b → cond b (To m) (Refused (refusalOf t k)) ≡ To c → Inside t c
+    go : (b : Bool) → eqb f 0 ≡ b → cond b (To m) (Refused f) ≡ To c → Inside t c
     go true p q =
         let same : m ≡ c = cc in
-        rw same at (h (inside t k (eqb-true _ _ p)))
+        rw same at (h (eqb-true f 0 p))
     go false p q = let z : _≡_ {A = ℕ} 0 1 = cc in absurd (omega arith)
+
+lands : (t : List ℕ) (k m : Caret) → (Inside t k → Inside t m) → Lands t (moving (refusalOf t k) m)
+lands t k m h = moving-lands t (refusalOf t k) m (λ z. h (inside t k z))
 
 module _ (t : List ℕ) (k : Caret) where
   -- within the row

@@ -5,6 +5,9 @@ pub mod Rounds
 pub mod Stepping
 pub mod Staying
 pub mod Landing
+pub mod WordLanding
 pub mod Examples
 pub mod Finding
 pub mod Wording
+pub mod Upright
+pub mod Reaching

@@ -6,3 +6,5 @@ pub mod Sections
 pub mod Paragraphs
 pub mod Finds
 pub mod WordMoves
+pub mod UpDown
+pub mod ViewportMoves

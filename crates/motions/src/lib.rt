@@ -13,6 +13,8 @@ mod paragraphs;
 mod rows;
 mod sections;
 mod steps;
+mod up_down;
+mod viewport_moves;
 mod word_moves;
 
 // The column that vertical motions aim for, where one is kept.
@@ -81,7 +83,7 @@ impl Caret {
     }
 
     // The caret at another row and column.
-    pub fn placed(self, row: usize, col: usize) -> Caret
+    pub(crate) fn placed(self, row: usize, col: usize) -> Caret
         requires { ⌜ (row < 2 ^ 32) × (col < 2 ^ 32) ⌝ }
         ensures { λ r. ⌜ r ≡ placed self row col ⌝ }
     {

@@ -17,7 +17,7 @@ ghost use Rattle.motions.specs.Lines.{moveFirstNonBlankPrevLine, moveFir
 
 impl Caret {
     // The caret on the first character of a row that is no blank.
-    pub fn at_line(self, t: &[u32], l: Line) -> Caret
+    pub(crate) fn at_line(self, t: &[u32], l: Line) -> Caret
         requires { ⌜ IsLine (now t) l × (length (now t) ≤ 1048576) ⌝ }
         ensures { λ r. ⌜ r ≡ atRow (now (t .entry)) self (l .row) ⌝ }
     {

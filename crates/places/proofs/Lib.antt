@@ -3,3 +3,4 @@ pub mod Ahead
 pub mod Back
 pub mod Walking
 pub mod High
+pub mod Within

@@ -2,27 +2,7 @@
 // `is_word` and `char_kind` of motions.rs.
 use crate::Setting;
 ghost use mathlib.Core.Path.{_≡_};
-ghost use Prim.Native.Nat.{_+_, _≤_};
-ghost use lib.ListN.{length, take};
-ghost use Rattle.keywords.specs.Flat.{within};
 ghost use Rattle.places.specs.Lent.{wordBy, kindBy, Lends};
-
-// Whether one of the first n pairs of bounds holds x.
-fn in_pairs(bounds: &[u32], n: usize, x: u32) -> bool
-    requires { ⌜ n + n ≤ length (now bounds) ⌝ }
-    ensures { λ r. ⌜ r ≡ within (take (n + n) (now (bounds .entry))) x ⌝ }
-{
-    let mut i: usize = 0;
-    while i < n {
-        let lo = bounds[i + i];
-        let hi = bounds[i + i + 1];
-        if (lo <= x) & (x <= hi) {
-            return true;
-        }
-        i += 1;
-    }
-    false
-}
 
 // Whether x is a keyword character. Below U+00AA the table of letters is not read.
 fn is_word(bounds: &[u32], table: &[u32], s: Setting, x: u32) -> bool
@@ -33,12 +13,12 @@ fn is_word(bounds: &[u32], table: &[u32], s: Setting, x: u32) -> bool
         return keywords::holds(bounds, s.pairs, s.letters, table, x);
     }
     if !s.letters {
-        return in_pairs(bounds, s.pairs, x);
+        return keywords::in_bounds(bounds, s.pairs, x);
     }
     if chars::is_letter(x) {
         return true;
     }
-    in_pairs(bounds, s.pairs, x)
+    keywords::in_bounds(bounds, s.pairs, x)
 }
 
 // The kind of a character: 0 white space, 1 word, 2 punctuation.

@@ -13,7 +13,7 @@ use Rattle.wrap.specs.Offsets.{cellsIn, pairsBefore}
 use Rattle.wrap.specs.Room.{countOf, roomRefusal}
 use Rattle.text.specs.Text.{any, textRefusal, onFirst, rows}
 use Rattle.text.specs.Offsets.{startIn, rowOf}
-use Rattle.text.specs.Folds.{anyFold, foldRefusal, visibleFrom}
+use Rattle.text.specs.Folds.{anyFold, foldRefusal, visibleFrom, prevVisible}
 use Rattle.keywords.specs.Numbers.{allDigits, value}
 use Rattle.keywords.specs.Parts.{parts, trimStart, trimEnd, upTo}
 use Rattle.keywords.specs.Refusals.{allScalar}
@@ -28,7 +28,11 @@ use Rattle.lines.specs.Paragraphs.{roundFrom, paragraphs}
 use Rattle.lines.specs.Sections.{sectionUp, sectionDown}
 use Rattle.places.specs.Places.{kindOf, kindAt, onEmptyRow, nextRow, stepForward, inc, dec, endOfBuffer}
 use Rattle.places.specs.Walks.{walk, goesOn}
-use Rattle.words.specs.Words.{nextWordStart, prevWordStart, nextWordEnd, prevWordEnd, atWordEnd}
+use Rattle.vertical.specs.Rounds.{rounds as roundsOf}
+use Rattle.vertical.specs.Visible.{verticalRow}
+use Rattle.vertical.specs.Moves.{landed}
+use Rattle.screen.specs.Screen.{stepScreen}
+use Rattle.strides.specs.Words.{nextWordStart, prevWordStart, nextWordEnd, prevWordEnd, atWordEnd}
 use Rattle.words.specs.Rounds.{roundOf, counted, wordMotion}
 use Rattle.motions.specs.Carets.{caretRefusal, lowest, moving}
 use Rattle.motions.specs.Columns.{indentOf, solidOf}
@@ -42,6 +46,7 @@ use Rattle.exports.specs.Partners.{partnered}
 use Rattle.exports.specs.Seeks.{sought, seek}
 use Rattle.exports.specs.Tabs.{toldColumn, tabColumn}
 use Rattle.exports.specs.Terms.{word}
+use Rattle.exports.specs.Upright.{upright, vertical, viewport}
 use Rattle.exports.specs.Wraps.{toldSegment, toldSegments, offset, modeOf, segmented, segmentsLeft}
 use Rattle.promises.specs.Table.{table, given, asked}
 use Rattle.promises.specs.Calls.{calls, judged, good}
@@ -62,11 +67,11 @@ pub right-alone : judged calls ≡ good calls
 unfolding calls
     letters isLetter whites isWhite zeroWidths doubleWidths widthOf all rowRefusal columnAt columnRefusal stopOf visualFrom charFrom leadingFrom
     fits afterWhite firstSegment segmentsFrom segmentsOf wrapRefusal cellsIn pairsBefore countOf roomRefusal any textRefusal onFirst rows startIn rowOf
-    anyFold foldRefusal visibleFrom allDigits value parts trimStart trimEnd upTo allScalar tokensIn anyOf
+    anyFold foldRefusal visibleFrom prevVisible roundsOf verticalRow landed stepScreen allDigits value parts trimStart trimEnd upTo allScalar tokensIn anyOf
     sideOf keyBracket firstFrom lastBelow count stretch nearestOf placed matchingBracketPos keyTo landing findAhead
     roundFrom paragraphs sectionUp sectionDown kindOf kindAt onEmptyRow nextRow stepForward inc dec endOfBuffer walk goesOn
     nextWordStart prevWordStart nextWordEnd prevWordEnd atWordEnd roundOf counted wordMotion
     caretRefusal lowest moving indentOf solidOf rounds spaceFwd backspaceBack partnerTo seeking landsOn orSought
-    fact moved tokenCount byTable inTable keyword motion partnered sought seek toldColumn tabColumn word
+    fact moved tokenCount byTable inTable keyword motion partnered sought seek toldColumn tabColumn word upright vertical viewport
     toldSegment toldSegments offset modeOf segmented segmentsLeft
 right-alone = refl

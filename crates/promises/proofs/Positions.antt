@@ -4,7 +4,7 @@ use mathlib.Core.List.{List, [], _∷_}
 use mathlib.Core.Bool.{Bool, true, false, cond}
 use Prim.Native.Nat.{ℕ, _≤_}
 use native.Mathlib.Omega.{arith}
-use lib.Dec.{eqb}
+use lib.Dec.{eqb, leb}
 use lib.ListN.{length}
 use borrow.Author.Tests.{eqb-true}
 use Rattle.chars.specs.Scalar.{isScalar}
@@ -28,10 +28,18 @@ use Rattle.motions.specs.Carets.{Inside, caretRefusal, refusalOf}
 use Rattle.motions.specs.Finds.{matchBracket, findCharOnLine, seeking, partnerTo, landsOn, orSought}
 use Rattle.motions.proofs.Checks.{inside as caret-inside, lowest-none}
 use Rattle.motions.proofs.Landing
+use Rattle.motions.proofs.WordLanding.{word-lands as each-word-lands}
+use Rattle.motions.proofs.Reaching.{rows-lands, screen-lands, viewport-lands}
+use Rattle.words.specs.declared.Motion.the-variants.{Fwd, Back, End, EndBack}
+use Rattle.vertical.specs.declared.Edge.the-variants.{Top, Middle, Bottom}
+use Rattle.exports.specs.Wraps.{modeOf}
 use Rattle.motions.proofs.Landing.{Lands}
 use Rattle.exports.specs.Moves.{motion}
 use Rattle.exports.specs.Seeks.{seek}
-use Rattle.promises.specs.Positions.{Call, plain, search, partner, inMoved, inSought, inPartner, positions, In, AllIn, EveryPositionInside}
+use Rattle.exports.specs.Terms.{word}
+use Rattle.exports.specs.Upright.{vertical, viewport}
+use Rattle.exports.specs.Upright
+use Rattle.promises.specs.Positions.{Call, plain, by-word, upright, edge, search, partner, inMoved, inSought, inPartner, positions, In, AllIn, EveryPositionInside}
 
 -- one of two answers
 either : {A : Type 0} (P : A → Type 0) (b : Bool) (x y : A) → P x → P y → P (cond b x y)
@@ -76,6 +84,35 @@ module _ (t : List ℕ) where
       (either P (eqb op 19) _ _ (Landing.top-lands t k)
       (either P (eqb op 20) _ _ (Landing.bottom-lands t k n)
       (none-lands 100)))))))))))))))))))))
+
+  word-lands : (op : ℕ) (big : Bool) (n : ℕ) (folds list : List ℕ) (k : Caret) → Lands t (word op big n k t folds list)
+  unfolding word
+  word-lands op big n folds list k =
+      let P = Lands t in
+      either P (eqb op 0) _ _ (each-word-lands t folds list k big Fwd false n)
+      (either P (eqb op 1) _ _ (each-word-lands t folds list k big Back false n)
+      (either P (eqb op 2) _ _ (each-word-lands t folds list k big End false n)
+      (either P (eqb op 3) _ _ (each-word-lands t folds list k big End true n)
+      (either P (eqb op 4) _ _ (each-word-lands t [] list k big EndBack false n) (none-lands 100)))))
+
+  upright-lands : (op mode width n tabstop : ℕ) (folds : List ℕ) (k : Caret) → Lands t (vertical op mode width n tabstop k t folds)
+  unfolding vertical Upright.upright
+  upright-lands op mode width n tabstop folds k =
+      let P = Lands t in
+      either P (leb mode 2) _ _
+      (either P (eqb op 0) _ _ (rows-lands t folds tabstop k false n)
+      (either P (eqb op 1) _ _ (rows-lands t folds tabstop k true n)
+      (either P (eqb op 2) _ _ (screen-lands t folds tabstop k (modeOf mode) width false n)
+      (either P (eqb op 3) _ _ (screen-lands t folds tabstop k (modeOf mode) width true n) (none-lands 100)))))
+      (none-lands 100)
+
+  edge-lands : (op top height offset : ℕ) (k : Caret) → Lands t (viewport op top height offset k t)
+  unfolding viewport
+  edge-lands op top height offset k =
+      let P = Lands t in
+      either P (eqb op 0) _ _ (viewport-lands t k Top top 0 offset)
+      (either P (eqb op 1) _ _ (viewport-lands t k Middle top height 0)
+      (either P (eqb op 2) _ _ (viewport-lands t k Bottom top height offset) (none-lands 100)))
 
   -- by searches
   abbrev Sits : Sought → Type 0
@@ -156,5 +193,9 @@ module _ (t : List ℕ) where
 pub every-inside : EveryPositionInside
 unfolding positions
 every-inside (plain op count) k t = in-moved t (motion op count k t) (motion-lands t op count k)
+every-inside (by-word op big count folds list) k t = in-moved t (word op big count k t folds list) (word-lands t op big count folds list k)
+every-inside (upright op mode width count tabstop folds) k t =
+    in-moved t (vertical op mode width count tabstop k t folds) (upright-lands t op mode width count tabstop folds k)
+every-inside (edge op top height offset) k t = in-moved t (viewport op top height offset k t) (edge-lands t op top height offset k)
 every-inside (search op x) k t = seek-sits t k op x
 every-inside partner k t = pair-sits t (k .row) (k .col)

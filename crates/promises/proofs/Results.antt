@@ -1,5 +1,8 @@
 -- No input of a public call has two results. Assumes nothing.
-use mathlib.Core.Path.{_≡_, sym, _∙_}
+use Prim.Native.Nat.{ℕ}
+use mathlib.Core.Path.{_≡_, ap, sym, _∙_}
+use mathlib.Core.List.{_++_}
+use lib.ListN.{drop}
 use Rattle.promises.specs.Results.{OneResult}
 
 pub one-result : OneResult
@@ -13,4 +16,10 @@ one-result =
         (p .room-left ∙ sym (q .room-left)) i,
         (p .out-left ∙ sym (q .out-left)) i,
       );
+      answered-all = λ l room out m x y p q. λ i. (
+        (p .numbered ∙ sym (q .numbered)) i,
+        (p .room-left ∙ sym (q .room-left)) i,
+        (p .out-left ∙ sym (q .out-left)) i,
+      );
+      printed = λ out s x y p q. let e = p .count ∙ sym (q .count) in λ i. (e i, (p .front ∙ ap (λ (n : ℕ). s ++ drop n out) e ∙ sym (q .front)) i);
     }

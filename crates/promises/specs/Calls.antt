@@ -15,6 +15,7 @@ use Rattle.exports.specs.Moves.{motions}
 use Rattle.exports.specs.Rows.{rowCount}
 use Rattle.exports.specs.Tabs.{tabColumns}
 use Rattle.exports.specs.Terms.{words}
+use Rattle.exports.specs.Upright.{verticals, viewports}
 use Rattle.exports.specs.Wraps.{offsets, segmentOf, segmented, segmentsLeft}
 use Rattle.promises.specs.Table.{codes, pair, key, till, with, none, at, found, yes, no}
 
@@ -74,6 +75,16 @@ motion op t r c n = motions op n (caretOf r c 0 0) (codes t)
 abbrev pub word : ℕ → String → ℕ → ℕ → Reply
 word op t r c = words op false 1 (caretOf r c 0 0) (codes t) [] (codes "@,48-57,_")
 
+-- up, down and the screen of a width, by characters; a viewport of a top row and a height
+abbrev pub upright : ℕ → ℕ → String → ℕ → ℕ → Reply
+upright op width t r c = verticals op 1 width 1 8 (caretOf r c 0 0) (codes t) []
+
+abbrev pub viewport : ℕ → ℕ → ℕ → Reply
+viewport op top height = viewports op top height 0 (caretOf 0 0 0 0) (codes "a\nb\nc")
+
+abbrev pub caretTo : ℕ → ℕ → ℕ → Reply
+caretTo r c sticky = answer (r ∷ c ∷ 1 ∷ sticky ∷ [])
+
 -- the count and the segments, in room for two that holds 9s
 abbrev pub counted : Told → List ℕ → Reply
 counted (Value n) segments = answer (n ∷ segments)
@@ -126,6 +137,13 @@ calls =
     case "move_word_back" (word 1 "a b" 0 2) (caret 0 0) (caret 0 1) (caret 0 2) ∷
     case "move_word_end" (word 2 "ab\ncd" 0 0) (caret 0 1) (caret 1 1) (caret 0 0) ∷
     case "move_word_end_back" (word 4 "ab cd" 0 4) (caret 0 1) (caret 0 3) (caret 0 0) ∷
+    case "move_up" (upright 0 0 "ab\n\tc" 1 1) (caretTo 0 1 8) (caretTo 1 1 8) (caret 0 1) ∷
+    case "move_down" (upright 1 0 "a\n" 0 0) (caretTo 1 0 0) (caretTo 0 0 0) (caret 1 0) ∷
+    case "move_screen_up" (upright 2 2 "abcd" 0 3) (caretTo 0 1 3) (caretTo 0 3 3) (caretTo 0 0 3) ∷
+    case "move_screen_down" (upright 3 2 "abcd" 0 1) (caretTo 0 3 1) (caretTo 0 2 1) (caret 0 3) ∷
+    case "move_viewport_top" (viewport 0 1 2) (caret 1 0) (caret 0 0) (caret 2 0) ∷
+    case "move_viewport_middle" (viewport 1 0 3) (caret 1 0) (caret 0 0) (caret 2 0) ∷
+    case "move_viewport_bottom" (viewport 2 0 2) (caret 1 0) (caret 0 0) (caret 2 0) ∷
     case "matching_bracket_pos" (pair "([)]" 0 0) (answer (with 0 2)) (answer none) (answer (with 0 3)) ∷
     case "match_bracket" (key "<(>)" 0 0) (answer (found 0 3)) (missing 0 0) (answer (found 0 2)) ∷
     case "find_char_on_line" (till false "axx") (answer (found 0 0)) (missing 0 0) (answer (found 0 1)) ∷

@@ -14,10 +14,15 @@ use Rattle.motions.specs.declared.Sought.{Sought}
 use Rattle.motions.specs.declared.Sought.the-variants.{Found, Missing, Refused as Sought·Refused}
 use Rattle.exports.specs.Moves.{motion}
 use Rattle.exports.specs.Seeks.{seek}
+use Rattle.exports.specs.Terms.{word}
+use Rattle.exports.specs.Upright.{vertical, viewport}
 
 -- the calls by their argument lists, with all but the text and the caret
 pub data Call : Type 0 where
   plain : (op count : ℕ) → Call
+  by-word : (op : ℕ) (big : Bool) (count : ℕ) (folds list : List ℕ) → Call
+  upright : (op mode width count tabstop : ℕ) (folds : List ℕ) → Call
+  edge : (op top height offset : ℕ) → Call
   search : (op x : ℕ) → Call
   partner : Call
 
@@ -45,6 +50,9 @@ inPartner (Partner·Refused f) = []
 
 unfoldable pub positions : Call → Caret → List ℕ → List Position
 positions (plain op count) k t = inMoved (motion op count k t)
+positions (by-word op big count folds list) k t = inMoved (word op big count k t folds list)
+positions (upright op mode width count tabstop folds) k t = inMoved (vertical op mode width count tabstop k t folds)
+positions (edge op top height offset) k t = inMoved (viewport op top height offset k t)
 positions (search op x) k t = inSought (seek op x k t)
 positions partner k t = inPartner (matchingBracketPos t (k .row) (k .col))
 

@@ -6,7 +6,9 @@ use mathlib.Core.List.{List}
 use Rattle.wrap.specs.declared.Wrap.{Wrap}
 use Rattle.wrap.specs.declared.Segments.{Segments}
 use Rattle.wrap.specs.Calls.{Wraps}
+use Rattle.session.specs.Written.{Printed}
 use Rattle.exports.specs.Reply.{Reply, Replied, Answered}
+use Rattle.exports.specs.Joined.{AnsweredAll}
 
 -- a contract allows one result at most
 abbrev pub One : {A : Type 0} → (A → Type 0) → Type 0
@@ -21,3 +23,7 @@ pub record OneResult : Type 1 where
   pub replied : (m : Reply) (out : List ℕ) → One (λ (x : ℕ × List ℕ). Replied m out (x .0) (x .1))
   -- an export on bytes: the number, the room, and the places for the answer
   pub answered : (s room out : List ℕ) (m : Reply) → One (λ (x : ℕ × List ℕ × List ℕ). Answered s room out m (x .0) (x .1) (x .2))
+  -- an export on several byte strings, which share the room
+  pub answered-all : (l : List (List ℕ)) (room out : List ℕ) (m : Reply) → One (λ (x : ℕ × List ℕ × List ℕ). AnsweredAll l room out m (x .0) (x .1) (x .2))
+  -- a session: how many bytes it prints, and the places for them
+  pub printed : (out s : List ℕ) → One (λ (x : ℕ × List ℕ). Printed out s (x .0) (x .1))

@@ -1,5 +1,5 @@
 -- What a call on an accepted row answers: the column. Assumes nothing.
-use mathlib.Core.Path.{_≡_, refl, ap, _∙_}
+use mathlib.Core.Path.{_≡_, _∙_}
 use Prim.Native.Nat.{ℕ}
 use native.Mathlib.Omega.{arith}
 use Rattle.row.specs.Row.{columnOf}

@@ -1,5 +1,5 @@
 -- Rows that no fold hides, found in one pass over the folds. Assumes nothing.
-use mathlib.Core.Path.{_≡_, sym, ap, _∙_}
+use mathlib.Core.Path.{_≡_, _∙_}
 use mathlib.Core.List.{List}
 use mathlib.Core.Bool.{Bool, true, false, and-false}
 use Prim.Native.Nat.{ℕ, _+_, _-_, _≤_, _<_, min}

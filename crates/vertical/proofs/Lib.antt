@@ -6,11 +6,6 @@ pub mod Signed
 pub mod Accepted
 pub mod Columns
 pub mod Landed
-pub mod Seats
-pub mod ScreenRounds
-pub mod Finding
-pub mod Walking
-pub mod Landing
-pub mod Spans
 pub mod Inside
+pub mod Edges
 pub mod Examples

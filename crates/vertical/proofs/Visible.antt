@@ -1,12 +1,11 @@
 -- From visible row to visible row: rows that no fold hides are as many rounds. Assumes nothing.
-use mathlib.Core.Path.{_≡_, refl, sym, ap, _∙_}
+use mathlib.Core.Path.{_≡_, sym, ap, _∙_}
 use mathlib.Core.List.{List}
 use mathlib.Core.Bool.{Bool, true, false}
 use Prim.Native.Nat.{ℕ, zero, suc, _+_, _-_, _*_, _≤_, _<_}
 use native.Mathlib.Nat.{add-zero}
-use native.Mathlib.Numerals.{add-one}
 use native.Mathlib.Omega.{arith}
-use Rattle.text.specs.Folds.{hidden, nextVisible, prevVisible}
+use Rattle.text.specs.Folds.{hidden}
 use Rattle.text.specs.declared.Visible.{Visible}
 use Rattle.text.specs.declared.Visible.the-variants.{Row, NoRow}
 use Rattle.text.proofs.Past.{next-here, prev-here, visible-within, prev-within}

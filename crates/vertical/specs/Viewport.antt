@@ -3,6 +3,8 @@
 use Prim.Native.Nat.{ℕ, _+_, _-_, _/_, min, max}
 use mathlib.Core.List.{List}
 use Rattle.text.specs.Text.{contentRows}
+use Rattle.vertical.specs.declared.Edge.{Edge}
+use Rattle.vertical.specs.declared.Edge.the-variants.{Top, Middle, Bottom}
 
 -- the last row with content
 abbrev pub lastRow : List ℕ → ℕ
@@ -21,3 +23,8 @@ middleRow t top height = min (top + (bottomRow t top height - top) / 2) (lastRow
 
 abbrev pub baseRow : List ℕ → ℕ → ℕ → ℕ → ℕ
 baseRow t top height offset = min (max (bottomRow t top height - offset) top) (lastRow t)
+
+abbrev pub viewportRow : Edge → List ℕ → ℕ → ℕ → ℕ → ℕ
+viewportRow Top t top height offset = topRow t top offset
+viewportRow Middle t top height offset = middleRow t top height
+viewportRow Bottom t top height offset = baseRow t top height offset

@@ -1,6 +1,6 @@
 -- From visible row to visible row, as `move_vertical` of motions.rs goes, down or up.
 -- Definitions only; the laws are in `proofs/Visible.antt`. Assumes nothing.
-use Prim.Native.Nat.{ℕ, suc, _+_, _-_, _≤_, _<_, max}
+use Prim.Native.Nat.{ℕ, suc, _-_, _≤_, _<_, max}
 use mathlib.Core.Path.{_≡_}
 use mathlib.Core.List.{List}
 use mathlib.Core.Bool.{Bool, true, false, cond}

@@ -8,14 +8,11 @@ use crate::rows;
 use row::Column;
 use text::Line;
 ghost use mathlib.Core.Path.{_≡_};
-ghost use mathlib.Core.Bool.{true, false};
-ghost use Prim.Native.Nat.{_<_, _≤_};
 ghost use lib.IntN.{negℤ};
 ghost use mir.Syntax.{w64};
 ghost use mir.Val.{SFits};
 ghost use Rattle.chars.specs.Width.{widthOf};
 ghost use Rattle.columns.specs.Columns.{columnRefusal, cursorCol, charCol};
-ghost use Rattle.text.specs.Text.{rowCount};
 ghost use Rattle.vertical.specs.Visible.{deltaOf};
 ghost use Rattle.vertical.specs.Moves.{Accepted, AcceptedRow, wantedCol, aimedCol};
 ghost use Rattle.vertical.specs.Moves.{moveVertical};
@@ -75,7 +72,8 @@ fn move_vertical(
     tabstop: u32,
 ) -> Target
     requires { ⌜ Accepted (now t) (now folds) l col tabstop × SFits w64 (negℤ delta) ⌝ }
-    ensures { λ r. ⌜ r ≡ moveVertical (now (t .entry)) (now (folds .entry)) tabstop delta (l .row) col sticky ⌝ }
+    ensures { λ r. ⌜ r ≡ moveVertical (now (t .entry)) (now (folds .entry)) tabstop delta (l .row)
+        col sticky ⌝ }
 {
     let want = wanted(t, folds, l, col, sticky, tabstop);
     let from = l.row;
@@ -107,7 +105,8 @@ pub fn move_rows(
     tabstop: u32,
 ) -> Target
     requires { ⌜ Accepted (now t) (now folds) l col tabstop ⌝ }
-    ensures { λ r. ⌜ r ≡ moveVertical (now (t .entry)) (now (folds .entry)) tabstop (deltaOf down count) (l .row) col sticky ⌝ }
+    ensures { λ r. ⌜ r ≡ moveVertical (now (t .entry)) (now (folds .entry)) tabstop
+        (deltaOf down count) (l .row) col sticky ⌝ }
 {
     move_vertical(
         t,

@@ -9,7 +9,7 @@ use text::Visible;
 ghost use mathlib.Core.Path.{_≡_};
 ghost use mathlib.Core.Bool.{false};
 ghost use Prim.Native.Nat.{_+_, _≤_, _<_};
-ghost use lib.IntN.{ℤ, pos, negℤ, natAbs};
+ghost use lib.IntN.{pos, negℤ, natAbs};
 ghost use lib.Signed.{ltZ};
 ghost use mir.Syntax.{w64};
 ghost use mir.Val.{SFits};
@@ -81,7 +81,8 @@ pub fn visible_row(folds: &[u32], rows: usize, down: bool, row: usize) -> Visibl
 // The nearest visible row, where it is known how many rows come next that no fold hides: the folds
 // are asked only where there are none.
 pub fn hop(folds: &[u32], rows: usize, down: bool, row: usize, free: usize) -> Hop
-    requires { ⌜ (foldRefusal (now folds) rows ≡ 0) × (row < rows) × (rows ≤ 1048577) × Free (now folds) rows down row free ⌝ }
+    requires { ⌜ (foldRefusal (now folds) rows ≡ 0) × (row < rows) × (rows ≤ 1048577) ×
+        Free (now folds) rows down row free ⌝ }
     ensures { λ r. ⌜ HopTo (now (folds .entry)) rows down row r ⌝ }
 {
     if free > 0 {
@@ -174,7 +175,8 @@ fn shown_row(folds: &[u32], rows: usize, row: usize) -> usize
 // The row that a signed step of visible rows leads to; the way up starts from the first row of the
 // fold that hides the row, the way down from the row itself.
 pub fn vertical_row(folds: &[u32], rows: usize, row: usize, delta: i64) -> usize
-    requires { ⌜ (foldRefusal (now folds) rows ≡ 0) × (row < rows) × (rows ≤ 1048577) × SFits w64 (negℤ delta) ⌝ }
+    requires { ⌜ (foldRefusal (now folds) rows ≡ 0) × (row < rows) × (rows ≤ 1048577) × SFits w64
+        (negℤ delta) ⌝ }
     ensures { λ r. ⌜ (r ≡ verticalRow (now (folds .entry)) rows delta row) × (r < rows) ⌝ }
 {
     if delta < 0 {

@@ -1,5 +1,6 @@
 // The rows that the viewport motions lead to: `H`, `M` and `L` of motions.rs, "Viewport-relative
 // motions". Rows and heights are 32 and 16 bits wide and the sums 64, so that none wraps.
+use crate::Edge;
 use crate::least;
 use crate::minus;
 use crate::most;
@@ -7,6 +8,7 @@ use text::Line;
 ghost use mathlib.Core.Path.{_≡_};
 ghost use Rattle.text.specs.Offsets.{lineAt};
 ghost use Rattle.vertical.specs.Viewport.{bottomRow, topRow, middleRow, baseRow};
+ghost use Rattle.vertical.specs.Viewport.{viewportRow};
 
 // The last row of the viewport, or the last row with content.
 fn bottom_row(t: &[u32], top: u32, height: u16) -> usize
@@ -17,14 +19,14 @@ fn bottom_row(t: &[u32], top: u32, height: u16) -> usize
 }
 
 // `H`: so many rows below the viewport's first, or the last row with content.
-pub fn viewport_top(t: &[u32], top: u32, offset: u32) -> Line
+fn viewport_top(t: &[u32], top: u32, offset: u32) -> Line
     ensures { λ r. ⌜ r ≡ lineAt (now (t .entry)) (topRow (now (t .entry)) top offset) ⌝ }
 {
     text::offsets::content_line(t, top as usize + offset as usize)
 }
 
 // `M`: the row in the middle between the viewport's first row and its last.
-pub fn viewport_middle(t: &[u32], top: u32, height: u16) -> Line
+fn viewport_middle(t: &[u32], top: u32, height: u16) -> Line
     ensures { λ r. ⌜ r ≡ lineAt (now (t .entry)) (middleRow (now (t .entry)) top height) ⌝ }
 {
     let bottom = bottom_row(t, top, height);
@@ -33,9 +35,21 @@ pub fn viewport_middle(t: &[u32], top: u32, height: u16) -> Line
 
 // `L`: so many rows above the viewport's last, but not above its first, or the last row with
 // content.
-pub fn viewport_bottom(t: &[u32], top: u32, height: u16, offset: u32) -> Line
+fn viewport_bottom(t: &[u32], top: u32, height: u16, offset: u32) -> Line
     ensures { λ r. ⌜ r ≡ lineAt (now (t .entry)) (baseRow (now (t .entry)) top height offset) ⌝ }
 {
     let bottom = bottom_row(t, top, height);
     text::offsets::content_line(t, most(minus(bottom, offset as usize), top as usize))
+}
+
+// The row of a viewport's edge, and where it starts. `M` has no offset.
+pub fn viewport_line(t: &[u32], edge: Edge, top: u32, height: u16, offset: u32) -> Line
+    ensures { λ r. ⌜ r ≡ lineAt (now (t .entry))
+        (viewportRow edge (now (t .entry)) top height offset) ⌝ }
+{
+    match edge {
+        Edge::Top => viewport_top(t, top, offset),
+        Edge::Middle => viewport_middle(t, top, height),
+        Edge::Bottom => viewport_bottom(t, top, height, offset),
+    }
 }

@@ -10,7 +10,7 @@ use Rattle.text.specs.Folds.{anyFold, visibleFrom}
 use Rattle.words.specs.declared.Motion.the-variants.{Fwd, End}
 use Rattle.places.specs.Places.{place, kindAt, nextRow, stepForward, endOfBuffer}
 use Rattle.places.specs.Walks.{walk, goesOn}
-use Rattle.words.specs.Words.{nextWordStart, nextWordEnd, atWordEnd}
+use Rattle.strides.specs.Words.{nextWordStart, nextWordEnd, atWordEnd}
 use Rattle.words.specs.Rounds.{roundOf, counted, wordMotion}
 
 -- a space, and words

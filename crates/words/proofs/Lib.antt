@@ -1,6 +1,9 @@
-pub mod Starts
 pub mod Folding
+pub mod Bare
+pub mod Again
 pub mod Counts
+pub mod Adding
 pub mod Turning
+pub mod Inside
 pub mod Classes
 pub mod Examples

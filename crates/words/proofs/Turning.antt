@@ -12,10 +12,11 @@ use Rattle.words.specs.declared.Round.{Round}
 use Rattle.words.specs.declared.Round.the-variants.{Next, Last}
 use Rattle.places.specs.Places.{Place, Went}
 use Rattle.words.specs.Rounds.{Turn, On, Off, turn, endTurn}
-use Rattle.words.specs.Words.{nextWordEnd, atWordEnd}
+use Rattle.strides.specs.Words.{nextWordEnd, atWordEnd}
 use Rattle.places.specs.declared.Setting.{Setting}
 use Rattle.places.specs.Spots.{placeOf, IsSpot, wentOf, WentIn}
-use Rattle.words.specs.Turns.{turnOf, RoundIn, turned, Set, Ready}
+use Rattle.words.specs.Turns.{turnOf, RoundIn, turned, Set}
+use Rattle.strides.specs.Ready.{Ready}
 
 -- the code's rounds at the places of spots
 module _ (t : List ℕ) (from : Spot) {r : Round} where

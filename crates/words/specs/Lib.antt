@@ -1,3 +1,3 @@
-pub mod Words
 pub mod Rounds
 pub mod Turns
+pub mod Stretches

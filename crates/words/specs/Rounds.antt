@@ -8,7 +8,7 @@ use Rattle.text.specs.Folds.{closedFoldAt}
 use Rattle.text.specs.declared.Span.{Span}
 use Rattle.text.specs.declared.Span.the-variants.{Of, NoSpan}
 use Rattle.places.specs.Places.{Place, place, Went, To, Nowhere}
-use Rattle.words.specs.Words.{nextWordStart, prevWordStart, nextWordEnd, prevWordEnd, atWordEnd}
+use Rattle.strides.specs.Words.{nextWordStart, prevWordStart, nextWordEnd, prevWordEnd, atWordEnd}
 use Rattle.words.specs.declared.Motion.{Motion}
 use Rattle.words.specs.declared.Motion.the-variants.{Fwd, Back, End, EndBack}
 

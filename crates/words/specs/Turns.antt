@@ -30,13 +30,6 @@ abbrev pub RoundIn : List ℕ → Round → Type 0
 RoundIn t (Next q) = IsSpot t q
 RoundIn t (Last q) = IsSpot t q
 
--- what a walk requires: the bounds and the table lent, the rows counted, and a spot of the text
-pub record Ready (t bounds table : List ℕ) (s : Setting) (p : Spot) : Type 0 where
-  pub lent : Bounds t bounds table s
-  pub rows : s .rows ≡ rowCount t
-  pub content : s .content ≡ contentRows t
-  pub spot : IsSpot t p
-
 -- what a jump out of a fold requires, and a round
 pub record Folded (t folds : List ℕ) (rows content : ℕ) (p : Spot) : Type 0 where
   pub good : foldRefusal folds rows ≡ 0

@@ -1,9 +1,9 @@
-// The word walks, on offsets: "Word motions" of motions.rs. A place is a row and an offset; the
-// calls take what a caller has checked, and know no caret.
+// The word motions round by round, on offsets: "Word motions" of motions.rs. A place is a row and
+// an offset; the calls take what a caller has checked, and know no caret.
 mod entry;
 mod jumps;
 mod rounds;
-mod words;
+mod stretches;
 
 pub use entry::word_motion;
 use places::Spot;
@@ -20,4 +20,10 @@ pub enum Motion {
 pub enum Round {
     Next(Spot),
     Last(Spot),
+}
+
+// Rows from lo up to hi, hi not among them.
+pub struct Stretch {
+    pub lo: usize,
+    pub hi: usize,
 }

@@ -2,8 +2,9 @@
 // `move_word_end_back` of motions.rs.
 use crate::Motion;
 use crate::Round;
+use crate::Stretch;
 use crate::jumps;
-use crate::words;
+use crate::stretches;
 use places::Setting;
 use places::Spot;
 use places::Step;
@@ -14,6 +15,7 @@ ghost use Rattle.words.specs.declared.Motion.the-variants as variant;
 ghost use Rattle.places.specs.Spots.{placeOf, IsSpot};
 ghost use Rattle.words.specs.Turns.{turnOf, RoundIn, turned, Set};
 ghost use Rattle.places.specs.Lent.{kindBy};
+ghost use Rattle.words.specs.Stretches.{NoFold};
 
 // The round's answer: the word found, or the place from which none was found.
 fn turned(from: Spot, found: Step) -> Round
@@ -35,7 +37,7 @@ fn fwd_round(t: &[u32], folds: &[u32], bounds: &[u32], table: &[u32], s: Setting
         RoundIn (now (t .entry)) r ⌝ }
 {
     let from = jumps::fold_jump_fwd(t, folds, s.rows, s.content, p);
-    turned(from, words::next_word_start(t, bounds, table, s, from))
+    turned(from, strides::next_word_start(t, bounds, table, s, from))
 }
 
 // A round of `move_word_back`.
@@ -48,7 +50,7 @@ fn back_round(t: &[u32], folds: &[u32], bounds: &[u32], table: &[u32], s: Settin
         RoundIn (now (t .entry)) r ⌝ }
 {
     let from = jumps::fold_jump_back(t, folds, s.rows, s.content, p);
-    turned(from, words::prev_word_start(t, bounds, table, s, from))
+    turned(from, strides::prev_word_start(t, bounds, table, s, from))
 }
 
 // A round of `move_word_end`; `stop` holds it at the end of a word.
@@ -70,12 +72,12 @@ fn end_round(
 {
     let from = jumps::fold_jump_fwd(t, folds, s.rows, s.content, p);
     if stop {
-        if words::at_word_end(t, bounds, table, s, from) {
+        if strides::at_word_end(t, bounds, table, s, from) {
             return Round::Next(from);
         }
-        return turned(from, words::next_word_end(t, bounds, table, s, from));
+        return turned(from, strides::next_word_end(t, bounds, table, s, from));
     }
-    turned(from, words::next_word_end(t, bounds, table, s, from))
+    turned(from, strides::next_word_end(t, bounds, table, s, from))
 }
 
 // A round of `move_word_end_back`, which takes no folds.
@@ -94,7 +96,7 @@ fn end_back_round(
         variant.EndBack false (placeOf (now (t .entry)) p)) ×
         RoundIn (now (t .entry)) r ⌝ }
 {
-    turned(p, words::prev_word_end(t, bounds, table, s, p))
+    turned(p, strides::prev_word_end(t, bounds, table, s, p))
 }
 
 // A round of a motion.
@@ -123,8 +125,38 @@ pub fn round(
     }
 }
 
+// A round after the first, where a stretch of rows without closed folds is known: outside it the
+// folds are lent, and in it none.
+fn round_near(
+    t: &[u32],
+    folds: &[u32],
+    bounds: &[u32],
+    table: &[u32],
+    s: Setting,
+    m: Motion,
+    w: Stretch,
+    p: Spot,
+) -> Round
+    requires { ⌜ Set (now t) (now folds) (now bounds) (now table) s p × NoFold (now folds) w ⌝ }
+    ensures { λ r.
+        ⌜ (turnOf (now (t .entry)) r ≡
+        roundOf (now (t .entry)) (now (folds .entry)) (kindBy (now (bounds .entry)) s) (s .big) m
+        false (placeOf (now (t .entry)) p)) ×
+        RoundIn (now (t .entry)) r ⌝ }
+{
+    if (w.lo <= p.row) & (p.row < w.hi) {
+        let none = &folds[..0];
+        return round(t, none, bounds, table, s, m, false, p);
+    }
+    round(t, folds, bounds, table, s, m, false, p)
+}
+
 // Rounds up to a count. One that changes nothing ends them: where a closed fold covers the end of
-// the text, each round comes to the same place.
+// the text, each round comes to the same place. Any other passes places that no later round passes
+// again; a jump passes the rows of a fold, and the next round starts outside it. The folds are
+// asked where a round leaves a stretch of rows without closed folds: some twice for each fold, a
+// pass over them each time. So the cost is linear in the text, and some passes over the folds for
+// each fold, whatever the count.
 pub fn rounds(
     t: &[u32],
     folds: &[u32],
@@ -146,8 +178,10 @@ pub fn rounds(
 {
     let mut cur = p;
     let mut left = count;
+    let mut w = stretches::around(folds, s.rows, p.row);
     while left > 0 {
-        match round(t, folds, bounds, table, s, m, false, cur) {
+        w = stretches::near(folds, s.rows, w, cur.row);
+        match round_near(t, folds, bounds, table, s, m, w, cur) {
             Round::Next(q) => {
                 if q.at == cur.at {
                     return cur;

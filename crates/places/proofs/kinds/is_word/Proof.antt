@@ -14,7 +14,7 @@ holds-requires c κs =
 returns-2 : tie.Need-returns-2
 returns-2 c =
     let s = c .before .before .before .before .before .before in
-    rw (not-true s.args.s.letters (c .before .if2 .taken)) (c .in-pairs .ensures)
+    rw (not-true s.args.s.letters (c .before .if2 .taken)) (c .in-bounds .ensures)
 
 returns-3 : tie.Need-returns-3
 returns-3 c =
@@ -25,7 +25,7 @@ returns-4 : tie.Need-returns-4
 returns-4 c =
     let b3 = c .before .before .before in
     let s = b3 .before .before .before .before .before in
-    rw (not-false s.args.s.letters (b3 .if2 .left), sym (c .before .before .is-letter .ensures) ∙ c .before .if3 .left) (c .in-pairs2 .ensures)
+    rw (not-false s.args.s.letters (b3 .if2 .left), sym (c .before .before .is-letter .ensures) ∙ c .before .if3 .left) (c .in-bounds2 .ensures)
 
 pub is-word-spec : {M : Type 1} → statement M
 is-word-spec =

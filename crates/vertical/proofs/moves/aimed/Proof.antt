@@ -1,14 +1,8 @@
 -- `vertical::moves::aimed` meets its contract. Assumes nothing.
-use mathlib.Core.Path.{_≡_, ap, sym, _∙_}
-use mathlib.Core.List.{List}
-use Prim.Native.Nat.{ℕ, _-_, min}
-use native.Mathlib.Omega.{arith}
+use mathlib.Core.Path.{_≡_, ap, _∙_}
+use Prim.Native.Nat.{_-_}
 use borrow.Author.Needs.{needs}
-use lib.ListN.{length}
-use Rattle.chars.specs.Width.{widthOf}
-use Rattle.columns.specs.Columns.{columnRefusal, charCol}
 use Rattle.text.specs.Text.{rowAt}
-use Rattle.text.specs.Offsets.{lineAt}
 use Rattle.text.specs.declared.Line.{Line}
 use Rattle.text.proofs.Stands.{line-there}
 use Rattle.vertical.proofs.Accepted.{columns-accepted, line-is}

@@ -1,6 +1,6 @@
 -- `vertical::moves::move_vertical` meets its contract: the row stays and so does the column, or the column is sought in the new row.
 -- Assumes nothing.
-use mathlib.Core.Path.{_≡_, sym, ap, _∙_}
+use mathlib.Core.Path.{_∙_}
 use native.Mathlib.Omega.{arith}
 use borrow.Author.Needs.{needs}
 use mir.Facts.{toZ-ofZ}

@@ -1,8 +1,7 @@
 -- `vertical::moves::wanted` meets its contract. Assumes nothing.
-use mathlib.Core.Path.{_≡_, ap, sym, _∙_}
+use mathlib.Core.Path.{ap, sym, _∙_}
 use mathlib.Core.List.{List}
 use Prim.Native.Nat.{ℕ}
-use native.Mathlib.Omega.{arith}
 use borrow.Author.Needs.{needs}
 use Rattle.chars.specs.Width.{widthOf}
 use Rattle.columns.specs.Columns.{cursorCol}

@@ -1,6 +1,5 @@
 -- `vertical::rows::clear_of` meets its contract: a fold that is open or lies behind hides nothing, one ahead nothing before its first hidden row.
 -- Assumes nothing.
-use mathlib.Core.Path.{_≡_}
 use native.Mathlib.Omega.{arith}
 use borrow.Author.Needs.{needs}
 use Rattle.vertical.proofs.Free.{clear-open, clear-behind, clear-ahead, clear-behind-up, clear-ahead-up}

@@ -1,7 +1,7 @@
 -- `vertical::rows::free_rows` meets its contract. The invariant of its loop: the folds before i hide none of the next `free` rows.
 -- The measure is the folds' length less i. Assumes nothing.
 use Prim.Native.Nat.{_+_, _-_, _≤_}
-use mathlib.Core.Path.{_≡_, refl}
+use mathlib.Core.Path.{refl}
 use native.Mathlib.Omega.{arith}
 use borrow.Author.Needs.{needs}
 use lib.ListN.{length}

@@ -1,6 +1,5 @@
 -- `vertical::rows::hop` meets its contract. Assumes nothing.
-use mathlib.Core.Path.{_≡_, sym, _∙_}
-use native.Mathlib.Omega.{arith}
+use mathlib.Core.Path.{sym, _∙_}
 use borrow.Author.Needs.{needs}
 use Rattle.vertical.proofs.Visible.{toward-within, hop-free, hop-past, hop-none}
 use Rattle.vertical.proofs.rows.hop.Statement.{statement}

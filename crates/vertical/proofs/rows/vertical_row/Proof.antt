@@ -1,5 +1,5 @@
 -- `vertical::rows::vertical_row` meets its contract: a step below 0 goes up from the row that shows, any other down. Assumes nothing.
-use mathlib.Core.Path.{_≡_, sym, ap, _∙_}
+use mathlib.Core.Path.{ap, _∙_}
 use mathlib.Core.Bool.{false}
 use borrow.Author.Needs.{needs}
 use Rattle.vertical.specs.Rounds.{rounds}

@@ -1,6 +1,6 @@
 -- `words::rounds::back_round` meets its contract. Assumes nothing.
 use mathlib.Core.Path.{_∙_}
-use Rattle.words.specs.Words.{prevWordStart}
+use Rattle.strides.specs.Words.{prevWordStart}
 use Rattle.words.specs.Rounds.{roundOf}
 use Rattle.places.specs.Lent.{kindBy}
 use Rattle.words.proofs.Turning.{turned-turn, turned-in, round-from, set-ready}

@@ -1,6 +1,6 @@
 -- `words::rounds::end_back_round` meets its contract. Assumes nothing.
 use mathlib.Core.Path.{refl, _∙_}
-use Rattle.words.specs.Words.{prevWordEnd}
+use Rattle.strides.specs.Words.{prevWordEnd}
 use Rattle.words.specs.Rounds.{roundOf}
 use Rattle.places.specs.Lent.{kindBy}
 use Rattle.words.proofs.Turning.{turned-turn, turned-in, round-from, set-ready}

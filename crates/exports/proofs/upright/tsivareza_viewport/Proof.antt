@@ -1,0 +1,38 @@
+-- `tsivareza_viewport` meets its contract: the room is filled, and the call on code points answers. Assumes nothing.
+use borrow.Author.Needs.{needs}
+use Rattle.exports.specs.Carets.{caretOf}
+use Rattle.exports.specs.Upright.{viewports}
+use Rattle.exports.proofs.Replies.{answered-unfit, front-count, answered-one}
+use Rattle.exports.proofs.upright.tsivareza_viewport.Statement.{statement}
+use Rattle.exports.proofs.upright.tsivareza_viewport.Tie as tie
+
+-- what was lent is unfit
+returns : tie.Need-returns
+returns c = answered-unfit (c .before .before .before .fill .ensures) (c .if1 .taken)
+
+part : tie.Need-slice-reshare-prefix-tsivareza-viewport-u32
+part c = c .before .before .before .fill .ensures .fit (c .if1 .left) .within
+
+part-length : tie.Need-slice-aggregate-tsivareza-viewport-u32
+part-length c = front-count (c .before .before .before .before .fill .ensures) (c .before .if1 .left)
+
+-- the call on code points answers
+returns-2 : tie.Need-returns-2
+returns-2 c =
+    let b = c .before .before .before in
+    let a = b .before .before .before .before .before .before .before .args in
+    answered-one (b .before .before .before .fill .ensures)
+    (viewports (a .op) (a .top) (a .height) (a .offset) (caretOf (a .row) (a .col) (a .held) (a .sticky))) (b .if1 .left) (c .tsivareza-viewport-u32 .ensures)
+
+pub tsivareza-viewport-spec : {M : Type 1} → statement M
+tsivareza-viewport-spec =
+    tie.close
+    (tie.spec
+    (λ c κs. search needs)
+    (λ c. search needs)
+    returns
+    part
+    part-length
+    (λ c κs. search needs)
+    (λ c. search needs)
+    returns-2)

@@ -1,0 +1,39 @@
+-- From a call that no check refuses, a word motion leads to a caret in the text. Assumes nothing.
+use mathlib.Core.Path.{_≡_}
+use mathlib.Core.List.{List, [], _∷_}
+use mathlib.Core.Bool.{Bool}
+use Prim.Native.Nat.{ℕ}
+use borrow.Author.Tests.{eq-eqb}
+use Rattle.text.specs.Text.{textRefusal, rowCount}
+use Rattle.text.specs.Folds.{foldRefusal}
+use Rattle.keywords.specs.Tokens.{inList}
+use Rattle.keywords.specs.Table.{parseOf}
+use Rattle.places.specs.Places.{place, kindOf}
+use Rattle.places.proofs.Within.{In}
+use Rattle.words.specs.declared.Motion.{Motion}
+use Rattle.words.specs.Rounds.{wordMotion}
+use Rattle.words.proofs.Inside.{word-motion-in}
+use Rattle.motions.specs.declared.Caret.{Caret}
+use Rattle.motions.specs.Carets.{caretRefusal, lowest, Inside}
+use Rattle.motions.specs.WordMoves.{wordRefusal, wordCaret, moveWord}
+use Rattle.motions.proofs.Checks.{lowest-none, inside}
+use Rattle.motions.proofs.Landing.{Lands, moving-lands}
+
+-- the first two of a list of refusals
+lowest-two : (a b : ℕ) (rest : List ℕ) → lowest (a ∷ b ∷ rest) ≡ 0 → lowest (a ∷ b ∷ []) ≡ 0
+unfolding lowest
+lowest-two a b rest e =
+    let p = lowest-none a (b ∷ rest) e in
+    rw (eq-eqb a 0 (p .0), eq-eqb b 0 (lowest-none b rest (p .1) .0))
+
+module _ (t folds list : List ℕ) (k : Caret) where
+  pub word-lands : (big : Bool) (m : Motion) (stop : Bool) (count : ℕ) → Lands t (moveWord t folds list big m stop count k)
+  word-lands big m stop count = moving-lands t (wordRefusal t folds list k) (wordCaret t folds (inList list) big m stop count k) there
+    where
+      there : wordRefusal t folds list k ≡ 0 → Inside t (wordCaret t folds (inList list) big m stop count k)
+      there e =
+          let i = inside t k (lowest-two (textRefusal t) (caretRefusal t k) (foldRefusal folds (rowCount t) ∷ parseOf list .refusal ∷ []) e) in
+          let j : In t (wordMotion t folds (kindOf (inList list) big) big m stop count (place (k .row) (k .col))) =
+          word-motion-in t folds (kindOf (inList list) big) big m stop count (place (k .row) (k .col))
+          (record { in-row = i .in-row; in-col = i .in-col }) in
+          record { in-row = j .in-row; in-col = j .in-col }

@@ -1,0 +1,54 @@
+-- Up, down and the screen on carets: the refusals of a call, and where the walks of `vertical` and `screen` lead to. Motions.rs, "Vertical motions".
+-- Definitions only; the laws are in `proofs/Upright.antt`. Assumes nothing.
+use Prim.Native.Nat.{ℕ}
+use mathlib.Core.List.{List, [], _∷_}
+use mathlib.Core.Bool.{Bool, cond}
+use lib.Dec.{ltb}
+use Rattle.text.specs.Text.{textRefusal, rowCount}
+use Rattle.text.specs.Folds.{foldRefusal}
+use Rattle.wrap.specs.declared.Wrap.{Wrap}
+use Rattle.vertical.specs.declared.Sticky.{Sticky as Aim}
+use Rattle.vertical.specs.declared.Sticky.the-variants as aim
+use Rattle.vertical.specs.declared.Target.{Target}
+use Rattle.vertical.specs.Visible.{deltaOf}
+use Rattle.vertical.specs.Moves.{moveVertical}
+use Rattle.vertical.specs.Moves
+use Rattle.screen.specs.Screen.{moveScreen}
+use Rattle.motions.specs.declared.Caret.{Caret}
+use Rattle.motions.specs.declared.Moved.{Moved}
+use Rattle.motions.specs.declared.Sticky.{Sticky}
+use Rattle.motions.specs.declared.Sticky.the-variants.{Absent, At}
+use Rattle.motions.specs.Carets.{caretRefusal, lowest, moving}
+
+-- 6: a tabstop above 1,000
+abbrev pub stopRefusal : ℕ → ℕ
+stopRefusal tabstop = cond (ltb 1000 tabstop) 6 0
+
+-- text, caret, folds and tabstop
+abbrev pub verticalRefusal : List ℕ → List ℕ → ℕ → Caret → ℕ
+verticalRefusal t folds tabstop k = lowest (textRefusal t ∷ caretRefusal t k ∷ foldRefusal folds (rowCount t) ∷ stopRefusal tabstop ∷ [])
+
+-- a sticky column, as the walks take it
+abbrev pub aimOf : Sticky → Aim
+aimOf Absent = aim.Absent
+aimOf (At col) = aim.At col
+
+-- the caret where a walk has ended: what it aimed for is the sticky column
+abbrev pub atTarget : Target → Caret
+atTarget p = record { row = p .row; col = p .col; sticky = At (p .want) }
+
+-- `j` and `k`
+abbrev pub moveRows : List ℕ → List ℕ → ℕ → Bool → ℕ → Caret → Moved
+moveRows t folds tabstop down count k =
+    moving (verticalRefusal t folds tabstop k) (atTarget (moveVertical t folds tabstop (deltaOf down count) (k .row) (k .col) (aimOf (k .sticky))))
+
+-- `gj` and `gk`
+abbrev pub screenCaret : List ℕ → List ℕ → ℕ → Wrap → ℕ → Bool → ℕ → Caret → Caret
+screenCaret t folds tabstop mode width down count k = atTarget (moveScreen t folds tabstop mode width down count (k .row) (k .col) (aimOf (k .sticky)))
+
+abbrev pub moveScreenRows : List ℕ → List ℕ → ℕ → Wrap → ℕ → Bool → ℕ → Caret → Moved
+moveScreenRows t folds tabstop mode width down count k = moving (verticalRefusal t folds tabstop k) (screenCaret t folds tabstop mode width down count k)
+
+-- what the walks require of a call that no check refuses
+abbrev pub Ready : List ℕ → List ℕ → ℕ → Caret → ℕ → Type 0
+Ready t folds tabstop k start = Moves.Accepted t folds (record { row = k .row; start = start }) (k .col) tabstop

@@ -1,0 +1,140 @@
+// `j`, `k`, `gj` and `gk`: motions.rs, "Vertical motions". The walks are those of `screen`.
+// `j` and `k` are the screen moves of a viewport that doesn't wrap.
+use crate::Caret;
+use crate::Moved;
+use crate::Sticky;
+use text::Line;
+use wrap::Wrap;
+ghost use mathlib.Core.Path.{_≡_};
+ghost use mathlib.Core.Bool.{true, false};
+ghost use Rattle.motions.specs.UpDown.{aimOf, screenCaret, moveRows, moveScreenRows, Ready};
+
+// A sticky column, as the walks take it.
+fn aim_of(s: Sticky) -> vertical::Sticky
+    ensures { λ r. ⌜ r ≡ aimOf s ⌝ }
+{
+    match s {
+        Sticky::Absent => vertical::Sticky::Absent,
+        Sticky::At(col) => vertical::Sticky::At(col),
+    }
+}
+
+impl Caret {
+    // Where a vertical motion of an accepted call leads to.
+    fn by_rows(
+        self,
+        t: &[u32],
+        folds: &[u32],
+        mode: Wrap,
+        width: u16,
+        down: bool,
+        count: u32,
+        tabstop: u32,
+        start: usize,
+    ) -> Caret
+        requires { ⌜ Ready (now t) (now folds) tabstop self start ⌝ }
+        ensures { λ r. ⌜ r ≡ screenCaret (now (t .entry)) (now (folds .entry)) tabstop mode width
+            down count self ⌝ }
+    {
+        let l = Line {
+            row: self.row as usize,
+            start: start,
+        };
+        let s = self.sticky;
+        let a = aim_of(s);
+        let p = screen::wrapped::move_screen(
+            t,
+            folds,
+            l,
+            self.col as usize,
+            a,
+            down,
+            count,
+            tabstop,
+            mode,
+            width,
+        );
+        let c = self.placed(p.row, p.col);
+        Caret {
+            row: c.row,
+            col: c.col,
+            sticky: Sticky::At(p.want),
+        }
+    }
+
+    // The checks of a vertical motion, 1 to 6, and the motion.
+    fn upright(
+        self,
+        t: &[u32],
+        folds: &[u32],
+        mode: Wrap,
+        width: u16,
+        down: bool,
+        count: u32,
+        tabstop: u32,
+    ) -> Moved
+        ensures { λ r. ⌜ r ≡ moveScreenRows (now (t .entry)) (now (folds .entry)) tabstop mode width
+            down count self ⌝ }
+    {
+        let e = self.enter(t);
+        if e.refusal != 0 {
+            return Moved::Refused(e.refusal);
+        }
+        let f = text::folds::fold_refusal(folds, text::row_count(t));
+        if f != 0 {
+            return Moved::Refused(f);
+        }
+        if tabstop > 1000 {
+            return Moved::Refused(6);
+        }
+        Moved::To(self.by_rows(t, folds, mode, width, down, count, tabstop, e.start))
+    }
+
+    // `k`: so many visible rows up, or the first that is left.
+    pub fn move_up(self, t: &[u32], folds: &[u32], count: u32, tabstop: u32) -> Moved
+        ensures { λ r. ⌜ r ≡ moveRows (now (t .entry)) (now (folds .entry)) tabstop false count self
+            ⌝ }
+    {
+        self.upright(t, folds, Wrap::None, 0, false, count, tabstop)
+    }
+
+    // `j`: so many visible rows down, or the last that is left.
+    pub fn move_down(self, t: &[u32], folds: &[u32], count: u32, tabstop: u32) -> Moved
+        ensures { λ r. ⌜ r ≡ moveRows (now (t .entry)) (now (folds .entry)) tabstop true count self
+            ⌝ }
+    {
+        self.upright(t, folds, Wrap::None, 0, true, count, tabstop)
+    }
+
+    // `gk`: so many segments up; in a viewport that doesn't wrap, or that is 0 cells wide, as `k`.
+    pub fn move_screen_up(
+        self,
+        t: &[u32],
+        folds: &[u32],
+        mode: Wrap,
+        width: u16,
+        count: u32,
+        tabstop: u32,
+    ) -> Moved
+        ensures { λ r. ⌜ r ≡ moveScreenRows (now (t .entry)) (now (folds .entry)) tabstop mode width
+            false count self ⌝ }
+    {
+        self.upright(t, folds, mode, width, false, count, tabstop)
+    }
+
+    // `gj`: so many segments down, as `gk` goes up.
+    pub fn move_screen_down(
+        self,
+        t: &[u32],
+        folds: &[u32],
+        mode: Wrap,
+        width: u16,
+        count: u32,
+        tabstop: u32,
+    ) -> Moved
+        ensures { λ r. ⌜ r ≡ moveScreenRows (now (t .entry)) (now (folds .entry)) tabstop mode width
+            true count self ⌝ }
+    {
+        self.upright(t, folds, mode, width, true, count, tabstop)
+    }
+}

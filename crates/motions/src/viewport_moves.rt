@@ -1,0 +1,52 @@
+// `H`, `M` and `L`: motions.rs, "Viewport-relative motions". The rows are those of `vertical`. A
+// viewport is its top row and its height; its width and wrap mode play no part here.
+use crate::Caret;
+use crate::Moved;
+use vertical::Edge;
+ghost use mathlib.Core.Path.{_≡_};
+ghost use Prim.Native.Nat.{_≤_};
+ghost use lib.ListN.{length};
+ghost use Rattle.motions.specs.ViewportMoves.{viewportCaret, moveViewport};
+
+impl Caret {
+    // The caret at an edge of a viewport over an accepted text.
+    fn at_edge(self, t: &[u32], edge: Edge, top: u32, height: u16, offset: u32) -> Caret
+        requires { ⌜ length (now t) ≤ 1048576 ⌝ }
+        ensures { λ r. ⌜ r ≡ viewportCaret (now (t .entry)) edge top height offset self ⌝ }
+    {
+        let l = vertical::viewport::viewport_line(t, edge, top, height, offset);
+        self.at_line(t, l)
+    }
+
+    // The checks of a viewport motion, 1 to 4, and the motion.
+    fn to_edge(self, t: &[u32], edge: Edge, top: u32, height: u16, offset: u32) -> Moved
+        ensures { λ r. ⌜ r ≡ moveViewport (now (t .entry)) edge top height offset self ⌝ }
+    {
+        let e = self.enter(t);
+        if e.refusal != 0 {
+            return Moved::Refused(e.refusal);
+        }
+        Moved::To(self.at_edge(t, edge, top, height, offset))
+    }
+
+    // `H`: so many rows below the viewport's first, or the last row with content.
+    pub fn move_viewport_top(self, t: &[u32], top: u32, offset: u32) -> Moved
+        ensures { λ r. ⌜ r ≡ moveViewport (now (t .entry)) Edge.Top top 0 offset self ⌝ }
+    {
+        self.to_edge(t, Edge::Top, top, 0, offset)
+    }
+
+    // `M`: the row in the middle between the viewport's first row and its last with content.
+    pub fn move_viewport_middle(self, t: &[u32], top: u32, height: u16) -> Moved
+        ensures { λ r. ⌜ r ≡ moveViewport (now (t .entry)) Edge.Middle top height 0 self ⌝ }
+    {
+        self.to_edge(t, Edge::Middle, top, height, 0)
+    }
+
+    // `L`: so many rows above the viewport's last with content, but not above its first.
+    pub fn move_viewport_bottom(self, t: &[u32], top: u32, height: u16, offset: u32) -> Moved
+        ensures { λ r. ⌜ r ≡ moveViewport (now (t .entry)) Edge.Bottom top height offset self ⌝ }
+    {
+        self.to_edge(t, Edge::Bottom, top, height, offset)
+    }
+}

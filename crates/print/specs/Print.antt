@@ -1,0 +1,31 @@
+-- Bytes written one after another into lent room, texts as bytes, and numbers as text.
+-- What the contracts of `print` and `session` cite. Definitions only; the laws are in `proofs/Laws.antt`. Assumes nothing.
+use Prim.Native.Nat.{ℕ, zero, suc, _+_, _/_, _%_}
+use Prim.Native.Char.{code}
+use Prim.Native.String.{String, [] as ended, _∷_ as _then_}
+use mathlib.Core.Path.{_≡_}
+use mathlib.Core.List.{List, [], _∷_, _++_}
+use mathlib.Core.Bool.{cond}
+use lib.ListN.{length}
+use lib.Seq.{sets}
+use lib.Dec.{ltb}
+
+-- a text as bytes
+unfoldable pub bytes : String → List ℕ
+bytes ended = []
+bytes (c then s) = code c ∷ bytes s
+
+-- at most k decimal digits of n, in ASCII, with no zero in front
+unfoldable pub spell : ℕ → ℕ → List ℕ
+spell zero n = []
+spell (suc k) n = cond (ltb n 10) ((48 + n) ∷ []) (spell k (n / 10) ++ ((48 + n % 10) ∷ []))
+
+-- a u32 has at most 10
+unfoldable pub decimal : ℕ → List ℕ
+decimal n = spell 10 n
+
+-- s was written into out from index at on: the next index, and what stands in out then. The last follows
+pub record Wrote (out : List ℕ) (at : ℕ) (s : List ℕ) (at′ : ℕ) (out′ : List ℕ) : Type 0 where
+  pub next : at′ ≡ at + length s
+  pub left : out′ ≡ sets out at s
+  pub size : length out′ ≡ length out

@@ -1,0 +1,24 @@
+-- `calls::vertical` meets its contract: what the call answers and leaves is compared. Assumes nothing.
+use borrow.Author.Needs.{needs}
+use borrow.Author.Tests.{le-leb, lt-leb}
+use Rattle.replay.specs.Calls.{verticalVerdict}
+use Rattle.replay.proofs.Comparing.{replied-compared, places-count, moved-sized}
+use Rattle.replay.proofs.calls.vertical.Statement.{statement}
+use Rattle.replay.proofs.calls.vertical.Tie as tie
+
+returns : tie.Need-returns
+unfolding verticalVerdict
+returns c = rw (lt-leb _ 65535 (c .if1 .taken))
+
+places : tie.Need-slice-aggregate-compared
+places c = places-count 4 (c .before .tsivareza-vertical-u32 .ensures) (moved-sized _)
+
+returns-2 : tie.Need-returns-2
+unfolding verticalVerdict
+returns-2 c =
+    let b = c .before .before in
+    rw (le-leb _ 65535 (b .before .before .if1 .left)) (replied-compared 4 _ (b .tsivareza-vertical-u32 .ensures) (c .compared .ensures))
+
+pub vertical-spec : {M : Type 1} → statement M
+vertical-spec =
+    tie.close (tie.spec returns (λ c. search needs) (λ c κs. search needs) places (λ c κs. search needs) returns-2)

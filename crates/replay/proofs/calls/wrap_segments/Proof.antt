@@ -1,0 +1,42 @@
+-- `calls::wrap_segments` meets its contract: the tests of the definition in their order. Assumes nothing.
+use mathlib.Core.Path.{sym}
+use borrow.Author.Needs.{needs}
+use borrow.Author.Tests.{le-leb, lt-leb}
+use lib.ListN.{replicate}
+use lib.Seq.{length-take-le}
+use Rattle.replay.specs.Calls.{wrapVerdict}
+use Rattle.replay.specs.Answers.{filler}
+use Rattle.replay.proofs.Comparing.{take-replicate}
+use Rattle.replay.proofs.calls.wrap_segments.Statement.{statement}
+use Rattle.replay.proofs.calls.wrap_segments.Tie as tie
+
+returns : tie.Need-returns
+unfolding wrapVerdict
+returns c = rw (lt-leb _ 65535 (c .if1 .taken))
+
+returns-2 : tie.Need-returns-2
+unfolding wrapVerdict
+returns-2 c = rw (le-leb _ 65535 (c .before .if1 .left), lt-leb _ 64 (c .if2 .taken))
+
+lent : tie.Need-slice-aggregate-wrap-into
+lent c = sym (length-take-le _ (replicate 64 filler) (c .before .if2 .left))
+
+returns-3 : tie.Need-returns-3
+unfolding wrapVerdict
+returns-3 c =
+    let b = c .before .before .before in
+    let k = b .before .before .before .before .before .args .k in
+    rw (le-leb _ 65535 (b .before .if1 .left), le-leb _ 64 (b .if2 .left), ← take-replicate (k .b) 64 filler (b .if2 .left)) (c .before .wrap-into .ensures)
+
+pub wrap-segments-spec : {M : Type 1} → statement M
+wrap-segments-spec =
+    tie.close
+    (tie.spec
+    (λ c. search needs)
+    returns
+    returns-2
+    (λ c. search needs)
+    (λ c. search needs)
+    lent
+    (λ c κs. search needs)
+    returns-3)

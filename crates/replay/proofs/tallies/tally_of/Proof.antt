@@ -1,0 +1,77 @@
+-- `tallies::tally_of` meets its contract. The invariant of its loop, `Tallying`: the rows before `at` are counted. The measure is the length
+-- less `at`. Assumes nothing.
+use Prim.Native.Nat.{ℕ, _-_}
+use mathlib.Core.Path.{sym}
+use native.Mathlib.Omega.{arith}
+use borrow.Author.Needs.{needs}
+use lib.ListN.{length, replicate, length-replicate}
+use Rattle.replay.proofs.Counting.{Tallying, tallying-start, tallying-countable, tallying-on, tallying-end, row-within}
+use Rattle.replay.proofs.tallies.tally_of.Statement.{statement}
+use Rattle.replay.proofs.tallies.tally_of.Tie as tie
+
+abbrev Inv-loop : tie.InvT-loop
+Inv-loop bytes room₀ t₀ at₀ room t at = Tallying bytes room t at
+
+abbrev μ-loop : tie.MeasureT-loop
+μ-loop bytes room₀ t₀ at₀ room t at = length bytes - at
+
+loop-holds : tie.Need-loop-holds Inv-loop μ-loop
+loop-holds c = tallying-start (c .before .args .bytes .now) (replicate {A = ℕ} 1048832 0) (length-replicate {A = ℕ} 1048832 0)
+
+-- the row lies within the bytes
+sub : tie.Need-sub-row-verdict Inv-loop μ-loop
+sub c =
+    let l = c .before .before in
+    omega (arith, row-within (l .before .before .args .bytes .now) (l .loop .at) _ (c .before .loop-test .taken) (c .row-end .ensures))
+
+start : tie.Need-part-row-verdict-start Inv-loop μ-loop
+start c =
+    let l = c .before .before in
+    omega (arith, row-within (l .before .before .args .bytes .now) (l .loop .at) _ (c .before .loop-test .taken) (c .row-end .ensures))
+
+end : tie.Need-part-row-verdict-end Inv-loop μ-loop
+end c =
+    let l = c .before .before in
+    omega (arith, row-within (l .before .before .args .bytes .now) (l .loop .at) _ (c .before .loop-test .taken) (c .row-end .ensures))
+
+lent : tie.Need-slice-aggregate-row-verdict Inv-loop μ-loop
+lent c = sym (c .before .before .before .before .loop .inv .kept)
+
+counted-requires : tie.Need-counted-requires Inv-loop μ-loop
+counted-requires c κs =
+    let t = c .before .before .before .before .before in
+    tallying-countable (t .before .loop .inv) (t .loop-test .taken) (omega arith)
+
+loop-less : tie.Need-loop-less Inv-loop μ-loop
+loop-less c =
+    let e = c .before .before .before .before .before in
+    let l = e .before .before in
+    omega (arith, row-within (l .before .before .args .bytes .now) (l .loop .at) _ (e .before .loop-test .taken) (e .row-end .ensures))
+
+-- one row more
+loop-again : tie.Need-loop-again Inv-loop μ-loop
+loop-again c =
+    let e = c .before .before .before .before .before in
+    rw (c .counted .ensures)
+    (tallying-on (e .before .before .loop .inv) (e .before .loop-test .taken) _ (e .row-end .ensures) (c .before .before .row-verdict .ensures))
+
+returns : tie.Need-returns Inv-loop μ-loop
+returns c = tallying-end (c .before .loop .inv) (c .loop-test .left)
+
+pub tally-of-spec : {M : Type 1} → statement M
+tally-of-spec =
+    tie.close
+    (tie.spec
+    Inv-loop
+    μ-loop
+    loop-holds
+    (λ c κs. search needs)
+    sub
+    start
+    end
+    lent
+    (λ c κs. search needs)
+    counted-requires
+    loop-less
+    loop-again
+    returns)

@@ -1,0 +1,187 @@
+// The exported calls on the numbers of a case, each compared with the stored answer: the number
+// that the call answers, and what it leaves in the places lent to it.
+use crate::Head;
+use crate::Verdict;
+use crate::answers::FILLER;
+use crate::answers::compared;
+use crate::answers::compared_two;
+ghost use mathlib.Core.Path.{_≡_};
+ghost use Rattle.replay.specs.Answers.{compared as Answers·compared};
+ghost use Rattle.replay.specs.Calls.{characterOf, keywordsOf, columnsOf, offsetsOf};
+ghost use Rattle.replay.specs.Calls.{segmentForColOf, wrappedIn, wrapVerdict};
+ghost use Rattle.replay.specs.Calls.{contentRowCountOf, matchingBracketPosOf};
+ghost use Rattle.replay.specs.Calls.{motionOf, seekOf, wordOf};
+ghost use Rattle.replay.specs.Calls.{verticalVerdict, viewportVerdict};
+
+pub fn character(k: Head, stored: &[u32]) -> Verdict
+    ensures { λ r. ⌜ r ≡ Answers·compared (characterOf k) (now (stored .entry)) ⌝ }
+{
+    let mut out = [FILLER; 1];
+    let n = exports::tsivareza_character(k.op, k.a, &mut out);
+    compared(n, &out, stored)
+}
+
+pub fn keywords(k: Head, list: &[u32], stored: &[u32]) -> Verdict
+    ensures { λ r. ⌜ r ≡ Answers·compared (keywordsOf k (now (list .entry)))
+        (now (stored .entry)) ⌝ }
+{
+    let mut out = [FILLER; 1];
+    let n = exports::tsivareza_keywords_u32(k.op, list, k.a, &mut out);
+    compared(n, &out, stored)
+}
+
+pub fn columns(k: Head, row: &[u32], stored: &[u32]) -> Verdict
+    ensures { λ r. ⌜ r ≡ Answers·compared (columnsOf k (now (row .entry))) (now (stored .entry)) ⌝ }
+{
+    let mut out = [FILLER; 1];
+    let n = exports::tsivareza_columns_u32(k.op, row, k.a, k.b, &mut out);
+    compared(n, &out, stored)
+}
+
+pub fn offsets(k: Head, row: &[u32], stored: &[u32]) -> Verdict
+    ensures { λ r. ⌜ r ≡ Answers·compared (offsetsOf k (now (row .entry))) (now (stored .entry)) ⌝ }
+{
+    let mut out = [FILLER; 1];
+    let n = exports::tsivareza_offsets_u32(k.op, row, k.a, k.b, k.c, &mut out);
+    compared(n, &out, stored)
+}
+
+pub fn segment_for_col(k: Head, segments: &[u32], stored: &[u32]) -> Verdict
+    ensures { λ r. ⌜ r ≡ Answers·compared (segmentForColOf k (now (segments .entry)))
+        (now (stored .entry)) ⌝ }
+{
+    let mut out = [FILLER; 1];
+    let n = exports::tsivareza_segment_for_col_u32(segments, k.a, &mut out);
+    compared(n, &out, stored)
+}
+
+// The places lent for segments are compared too.
+fn wrap_into(mode: u32, row: &[u32], width: u16, segments: &mut [u32], stored: &[u32]) -> Verdict
+    ensures { λ r. ⌜ r ≡ Answers·compared (wrappedIn mode width (now (segments .entry))
+        (now (row .entry))) (now (stored .entry)) ⌝ }
+{
+    let mut out = [FILLER; 1];
+    let n = exports::tsivareza_wrap_segments_u32(mode, row, width, segments, &mut out);
+    compared_two(n, out[0], segments, stored)
+}
+
+pub fn wrap_segments(k: Head, row: &[u32], stored: &[u32]) -> Verdict
+    ensures { λ r. ⌜ r ≡ wrapVerdict k (now (row .entry)) (now (stored .entry)) ⌝ }
+{
+    let width = k.a;
+    let room = k.b as usize;
+    if width > 65535 {
+        return Verdict::Malformed;
+    }
+    if room > 64 {
+        return Verdict::Malformed;
+    }
+    let mut segments = [FILLER; 64];
+    wrap_into(k.op, row, width as u16, &mut segments[..room], stored)
+}
+
+pub fn content_row_count(text: &[u32], stored: &[u32]) -> Verdict
+    ensures { λ r. ⌜ r ≡ Answers·compared (contentRowCountOf (now (text .entry)))
+        (now (stored .entry)) ⌝ }
+{
+    let mut out = [FILLER; 1];
+    let n = exports::tsivareza_content_row_count_u32(text, &mut out);
+    compared(n, &out, stored)
+}
+
+pub fn matching_bracket_pos(k: Head, text: &[u32], stored: &[u32]) -> Verdict
+    ensures { λ r. ⌜ r ≡ Answers·compared (matchingBracketPosOf k (now (text .entry)))
+        (now (stored .entry)) ⌝ }
+{
+    let mut out = [FILLER; 3];
+    let n = exports::tsivareza_matching_bracket_pos_u32(text, k.a, k.b, &mut out);
+    compared(n, &out, stored)
+}
+
+pub fn motion(k: Head, text: &[u32], stored: &[u32]) -> Verdict
+    ensures { λ r. ⌜ r ≡ Answers·compared (motionOf k (now (text .entry))) (now (stored .entry)) ⌝ }
+{
+    let mut out = [FILLER; 4];
+    let n = exports::tsivareza_motion_u32(k.op, text, k.a, k.b, k.c, k.d, k.e, &mut out);
+    compared(n, &out, stored)
+}
+
+pub fn seek(k: Head, text: &[u32], stored: &[u32]) -> Verdict
+    ensures { λ r. ⌜ r ≡ Answers·compared (seekOf k (now (text .entry))) (now (stored .entry)) ⌝ }
+{
+    let mut out = [FILLER; 5];
+    let n = exports::tsivareza_seek_u32(k.op, text, k.a, k.b, k.c, k.d, k.e, &mut out);
+    compared(n, &out, stored)
+}
+
+pub fn word(k: Head, text: &[u32], folds: &[u32], list: &[u32], stored: &[u32]) -> Verdict
+    ensures { λ r. ⌜ r ≡ Answers·compared (wordOf k (now (text .entry)) (now (folds .entry))
+        (now (list .entry))) (now (stored .entry)) ⌝ }
+{
+    let mut out = [FILLER; 4];
+    let n = exports::tsivareza_word_u32(
+        k.op,
+        text,
+        folds,
+        list,
+        k.a,
+        k.b,
+        k.c,
+        k.d,
+        k.f,
+        k.e,
+        &mut out,
+    );
+    compared(n, &out, stored)
+}
+
+// A width above 65535 is no width.
+pub fn vertical(k: Head, text: &[u32], folds: &[u32], stored: &[u32]) -> Verdict
+    ensures { λ r. ⌜ r ≡ verticalVerdict k (now (text .entry)) (now (folds .entry))
+        (now (stored .entry)) ⌝ }
+{
+    let width = k.h;
+    if width > 65535 {
+        return Verdict::Malformed;
+    }
+    let mut out = [FILLER; 4];
+    let n = exports::tsivareza_vertical_u32(
+        k.op,
+        text,
+        folds,
+        k.a,
+        k.b,
+        k.c,
+        k.d,
+        k.g,
+        width as u16,
+        k.e,
+        k.f,
+        &mut out,
+    );
+    compared(n, &out, stored)
+}
+
+// Nor is a height.
+pub fn viewport(k: Head, text: &[u32], stored: &[u32]) -> Verdict
+    ensures { λ r. ⌜ r ≡ viewportVerdict k (now (text .entry)) (now (stored .entry)) ⌝ }
+{
+    let height = k.g;
+    if height > 65535 {
+        return Verdict::Malformed;
+    }
+    let mut out = [FILLER; 4];
+    let n = exports::tsivareza_viewport_u32(
+        k.op,
+        text,
+        k.a,
+        k.b,
+        k.c,
+        k.d,
+        k.f,
+        height as u16,
+        k.e,
+        &mut out,
+    );
+    compared(n, &out, stored)
+}

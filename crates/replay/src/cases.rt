@@ -1,0 +1,80 @@
+// A case is a row of numbers: the group of calls, the operation in it, eight numbers, how many
+// numbers follow of a text or row, of folds and of a list, those, and then the stored answer.
+use crate::Head;
+use crate::Verdict;
+use crate::calls;
+ghost use mathlib.Core.Path.{_≡_};
+ghost use Prim.Native.Nat.{_≤_};
+ghost use lib.ListN.{length};
+ghost use Rattle.replay.specs.Cases.{headOf, byGroup, verdictOf};
+
+fn head_of(ns: &[u32]) -> Head
+    requires { ⌜ 13 ≤ length (now ns) ⌝ }
+    ensures { λ r. ⌜ r ≡ headOf (now (ns .entry)) ⌝ }
+{
+    Head {
+        op: ns[1],
+        a: ns[2],
+        b: ns[3],
+        c: ns[4],
+        d: ns[5],
+        e: ns[6],
+        f: ns[7],
+        g: ns[8],
+        h: ns[9],
+    }
+}
+
+// The verdict by the group of calls.
+fn by_group(
+    group: u32,
+    k: Head,
+    text: &[u32],
+    folds: &[u32],
+    list: &[u32],
+    stored: &[u32],
+) -> Verdict
+    ensures { λ r. ⌜ r ≡ byGroup group k (now (text .entry)) (now (folds .entry))
+        (now (list .entry)) (now (stored .entry)) ⌝ }
+{
+    match group {
+        0 => calls::character(k, stored),
+        1 => calls::keywords(k, list, stored),
+        2 => calls::columns(k, text, stored),
+        3 => calls::offsets(k, text, stored),
+        4 => calls::segment_for_col(k, list, stored),
+        5 => calls::wrap_segments(k, text, stored),
+        6 => calls::content_row_count(text, stored),
+        7 => calls::matching_bracket_pos(k, text, stored),
+        8 => calls::motion(k, text, stored),
+        9 => calls::seek(k, text, stored),
+        10 => calls::word(k, text, folds, list, stored),
+        11 => calls::vertical(k, text, folds, stored),
+        12 => calls::viewport(k, text, stored),
+        _ => Verdict::Malformed,
+    }
+}
+
+// The verdict of a case.
+pub fn verdict_of(ns: &[u32]) -> Verdict
+    ensures { λ r. ⌜ r ≡ verdictOf (now (ns .entry)) ⌝ }
+{
+    let end = ns.len();
+    if end < 13 {
+        return Verdict::Malformed;
+    }
+    let folds = 13 + ns[10] as usize;
+    let list = folds + ns[11] as usize;
+    let stored = list + ns[12] as usize;
+    if stored > end {
+        return Verdict::Malformed;
+    }
+    by_group(
+        ns[0],
+        head_of(ns),
+        &ns[13..folds],
+        &ns[folds..list],
+        &ns[list..stored],
+        &ns[stored..end],
+    )
+}

@@ -1,0 +1,84 @@
+// The verdicts of a list of cases, counted.
+use crate::Numbers;
+use crate::Tally;
+use crate::Verdict;
+use crate::cases::verdict_of;
+use crate::rows::read_row;
+use crate::rows::row_end;
+ghost use mathlib.Core.Path.{_≡_};
+ghost use Rattle.replay.specs.Tallies.{tallyOf, Judged, Countable};
+ghost use Rattle.replay.specs.Tallies.{counted as Tallies·counted};
+ghost use Rattle.replay.specs.Tallies.{faulted as Tallies·faulted};
+
+impl Tally {
+    // One verdict more.
+    fn counted(self, v: Verdict) -> Tally
+        requires { ⌜ Countable self ⌝ }
+        ensures { λ r. ⌜ r ≡ Tallies·counted self v ⌝ }
+    {
+        match v {
+            Verdict::Agrees => Tally {
+                cases: self.cases + 1,
+                agree: self.agree + 1,
+                first: self.first,
+                malformed: self.malformed,
+            },
+            Verdict::Differs => self.faulted(false),
+            Verdict::Malformed => self.faulted(true),
+        }
+    }
+
+    // One case more that doesn't agree; the first such is kept.
+    fn faulted(self, malformed: bool) -> Tally
+        requires { ⌜ Countable self ⌝ }
+        ensures { λ r. ⌜ r ≡ Tallies·faulted self malformed ⌝ }
+    {
+        let n = self.cases + 1;
+        if self.first == 0 {
+            return Tally {
+                cases: n,
+                agree: self.agree,
+                first: n,
+                malformed: malformed,
+            };
+        }
+        Tally {
+            cases: n,
+            agree: self.agree,
+            first: self.first,
+            malformed: self.malformed,
+        }
+    }
+}
+
+// The verdict of one row, whose numbers are put into `room`.
+fn row_verdict(row: &[u8], room: &mut [u32]) -> Verdict
+    ensures { λ r. ⌜ Judged (now (row .entry)) (now (room .entry)) r (now (room .exit)) ⌝ }
+{
+    match read_row(row, room) {
+        Numbers::Count(n) => verdict_of(&room[..n]),
+        Numbers::Malformed => Verdict::Malformed,
+    }
+}
+
+// The verdicts of all rows.
+pub fn tally_of(bytes: &[u8]) -> Tally
+    ensures { λ r. ⌜ r ≡ tallyOf (now (bytes .entry)) ⌝ }
+{
+    // A text one over its limit, and what stands beside it in a row.
+    let mut room = [0u32; 1048832];
+    let mut t = Tally {
+        cases: 0,
+        agree: 0,
+        first: 0,
+        malformed: false,
+    };
+    let mut at: usize = 0;
+    while at < bytes.len() {
+        let end = row_end(bytes, at);
+        let v = row_verdict(&bytes[at..end], &mut room);
+        t = t.counted(v);
+        at = end;
+    }
+    t
+}

@@ -1,0 +1,80 @@
+-- From a place in the text every screen motion leads to a place in the text. Assumes nothing.
+use mathlib.Core.Path.{_≡_, refl}
+use mathlib.Core.List.{List}
+use mathlib.Core.Bool.{Bool, true, false, cond, _||_}
+use Prim.Native.Nat.{ℕ, _+_, _-_, _≤_, _<_, max}
+use native.Mathlib.Decide.{ℕ-discrete}
+use native.Mathlib.Omega.{arith}
+use lib.Dec.{eqb, ltb}
+use borrow.Author.Tests.{eq-eqb, ne-eqb}
+use Rattle.chars.specs.White.{isWhite}
+use Rattle.chars.specs.Width.{widthOf}
+use Rattle.wrap.specs.declared.Wrap.{Wrap}
+use Rattle.wrap.specs.Modes.{isNone, segmentsOf}
+use Rattle.text.specs.Text.{rowCount, rowAt, contentRows}
+use Rattle.text.specs.Folds.{closedFoldAt}
+use Rattle.text.specs.declared.Span.{Span}
+use Rattle.text.specs.declared.Span.the-variants.{Of, NoSpan}
+use Rattle.text.specs.declared.Visible.{Visible}
+use Rattle.text.specs.declared.Visible.the-variants.{Row, NoRow}
+use Rattle.text.proofs.Content.{content-near}
+use Rattle.vertical.specs.declared.Sticky.{Sticky}
+use Rattle.vertical.specs.declared.Target.{Target}
+use Rattle.vertical.specs.Rounds.{shift}
+use Rattle.vertical.specs.Visible.{toward, deltaOf}
+use Rattle.vertical.specs.Moves.{moveVertical}
+use Rattle.vertical.proofs.Visible.{toward-within}
+use Rattle.vertical.proofs.Inside.{Inside, rounds-keep, rows-inside}
+use Rattle.screen.specs.declared.Place.{Place}
+use Rattle.screen.specs.Screen.{segmentCount, aheadOf, seatOf, onSegment, entered, stepScreen, jumpedTo, outOf, jumped}
+use Rattle.screen.specs.Screen.{screenFrom, screenTarget, moveScreen}
+use Rattle.screen.proofs.Spans.{end-within}
+
+-- `gj` and `gk`, whatever the way that rows are broken
+module _ (t folds : List ℕ) (lay : List ℕ → List ℕ) (down : Bool) where
+  segment-inside : (offset row j : ℕ) → row < rowCount t → Inside t row (onSegment t lay offset row j .col)
+  segment-inside offset row j h = record { in-row = h; in-col = omega arith }
+
+  pub round-inside : (offset : ℕ) (p : Place) → Inside t (p .row) (p .col) →
+      Inside t (stepScreen t folds lay down offset p .row) (stepScreen t folds lay down offset p .col)
+  unfolding stepScreen
+  round-inside offset p i = go (ltb 0 (aheadOf down (segmentCount (lay (rowAt t (p .row)))) (seatOf t lay p)))
+    where
+      into : (v : Visible) → toward folds (rowCount t) down (p .row) ≡ v → Inside t (entered t lay down offset p v .row) (entered t lay down offset p v .col)
+      into (Row x) e = segment-inside offset x _ (toward-within folds (rowCount t) down (p .row) x (i .in-row) e)
+      into NoRow e = i
+
+      go : (b : Bool) → let q = cond b (onSegment t lay offset (p .row) (shift down (seatOf t lay p) 1))
+          (entered t lay down offset p (toward folds (rowCount t) down (p .row))) in Inside t (q .row) (q .col)
+      go true = segment-inside offset (p .row) (shift down (seatOf t lay p) 1) (i .in-row)
+      go false = into (toward folds (rowCount t) down (p .row)) refl
+
+  pub screen-inside : (n : ℕ) (p : Place) → Inside t (p .row) (p .col) → Inside t (screenFrom t folds lay down n p .row) (screenFrom t folds lay down n p .col)
+  screen-inside n p i = rounds-keep (λ q. Inside t (q .row) (q .col)) _ (round-inside _) n p i
+
+pub jump-inside : (t folds : List ℕ) (down : Bool) (p : Place) → Inside t (p .row) (p .col) → Inside t (jumped t folds down p .row) (jumped t folds down p .col)
+jump-inside t folds down p i = go (closedFoldAt folds (rowCount t) (contentRows t) (p .row)) refl
+  where
+    near : (rowCount t ≤ contentRows t + 1) × (contentRows t ≤ rowCount t) × (0 < contentRows t)
+    near = content-near t
+
+    to : (row : ℕ) → row < rowCount t → Dec (row ≡ p .row) → Inside t (jumpedTo t p row .row) (jumpedTo t p row .col)
+    to row h (yes e) = rw (eq-eqb row (p .row) e) i
+    to row h (no n) = rw (ne-eqb row (p .row) n) (record { in-row = h; in-col = omega arith })
+
+    go : (s : Span) → closedFoldAt folds (rowCount t) (contentRows t) (p .row) ≡ s → Inside t (outOf t down p s .row) (outOf t down p s .col)
+    go NoSpan e = i
+    go (Of a b) e =
+        let row = cond down b a in
+        to row (end-within folds (rowCount t) (contentRows t) (omega (arith, near)) (omega (arith, near)) down (p .row) a b (i .in-row) e)
+        (ℕ-discrete row (p .row))
+
+-- a whole call
+pub move-inside : (t folds : List ℕ) (tabstop row col : ℕ) (sticky : Sticky) (mode : Wrap) (width : ℕ) (down : Bool) (count : ℕ) → Inside t row col →
+    let p = moveScreen t folds tabstop mode width down count row col sticky in Inside t (p .row) (p .col)
+move-inside t folds tabstop row col sticky mode width down count i = go (eqb width 0 || isNone mode)
+  where
+    go : (b : Bool) → let p = cond b (moveVertical t folds tabstop (deltaOf down count) row col sticky)
+        (screenTarget t folds tabstop (segmentsOf widthOf isWhite mode width) down count row col sticky) in Inside t (p .row) (p .col)
+    go true = rows-inside t folds tabstop row col sticky (deltaOf down count) i
+    go false = screen-inside t folds _ down (max count 1) _ (jump-inside t folds down (record { row = row; col = col }) i)

@@ -1,0 +1,9 @@
+-- Laws of the screen walks, which the proofs of this crate and of the crates above it cite.
+pub mod Seats
+pub mod ScreenRounds
+pub mod Finding
+pub mod Walking
+pub mod Landing
+pub mod Spans
+pub mod Inside
+pub mod Examples

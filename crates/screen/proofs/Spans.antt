@@ -1,0 +1,81 @@
+-- The rows of a closed fold are rows of the text, and a jump to one of them. Assumes nothing.
+use mathlib.Core.Path.{_≡_, refl, ap, sym, _∙_}
+use mathlib.Core.List.{List}
+use mathlib.Core.Bool.{Bool, true, false, cond}
+use Prim.Native.Nat.{ℕ, _+_, _-_, _≤_, _<_, min, max}
+use native.Mathlib.Omega.{arith}
+use borrow.Author.Tests.{eq-eqb, ne-eqb}
+use Rattle.text.specs.Text.{rowCount, rowLen, contentRows}
+use Rattle.text.specs.Offsets.{lineAt, IsLine}
+use Rattle.text.specs.Folds.{hidden, prevVisible, nextVisible, lastBefore, closedFrom, closedFoldAt}
+use Rattle.text.specs.declared.Line.{Line}
+use Rattle.text.specs.declared.Span.{Span}
+use Rattle.text.specs.declared.Span.the-variants.{Of, NoSpan}
+use Rattle.text.specs.declared.Visible.{Visible}
+use Rattle.text.specs.declared.Visible.the-variants.{Row, NoRow}
+use Rattle.text.proofs.Past.{visible-within, prev-within}
+use Rattle.text.proofs.Stands.{line-there}
+use Rattle.screen.specs.declared.Place.{Place}
+use Rattle.vertical.specs.declared.Sticky.{Sticky}
+use Rattle.vertical.specs.Moves.{wantedCol}
+use Rattle.screen.specs.Screen.{jumpedTo, outOf, jumped, screenFrom, landedAt, screenTarget}
+use Rattle.screen.specs.Walks.{JumpedTo}
+
+module _ (folds : List ℕ) (rows content : ℕ) (some : 0 < content) (most : content ≤ rows) where
+  last-inside : (first : ℕ) → first < rows → lastBefore content (nextVisible folds rows first) < rows
+  last-inside first h = go (nextVisible folds rows first) refl
+    where
+      go : (v : Visible) → nextVisible folds rows first ≡ v → lastBefore content v < rows
+      go (Row next) e = omega (arith, visible-within folds (first + 1) (rows - (first + 1)) next e)
+      go NoRow e = omega arith
+
+  from-first : (down : Bool) (v : Visible) → ((x : ℕ) → v ≡ Row x → x < rows) → (a b : ℕ) → closedFrom folds rows content v ≡ Of a b → cond down b a < rows
+  from-first down NoRow f a b e = let q : _≡_ {A = ℕ} 0 1 = cc in absurd (omega arith)
+  from-first down (Row first) f a b e = go (hidden folds (first + 1)) down e
+    where
+      go : (s d : Bool) → cond s (Of first (lastBefore content (nextVisible folds rows first))) NoSpan ≡ Of a b → cond d b a < rows
+      go false d w = let q : _≡_ {A = ℕ} 0 1 = cc in absurd (omega arith)
+      go true true w = let q : lastBefore content (nextVisible folds rows first) ≡ b = cc in rw q at (last-inside first (f first refl))
+      go true false w = let q : first ≡ a = cc in rw q at (f first refl)
+
+  pub end-within : (down : Bool) (row a b : ℕ) → row < rows → closedFoldAt folds rows content row ≡ Of a b → cond down b a < rows
+  end-within down row a b h e = go (hidden folds row) refl
+    where
+      go : (s : Bool) → hidden folds row ≡ s → cond down b a < rows
+      go true s = from-first down (prevVisible folds row) (λ x v. omega (arith, prev-within folds row x v)) a b (rw s at e)
+      go false s = from-first down (Row row) (λ x v. let q : row ≡ x = cc in omega arith) a b (rw s at e)
+
+module _ (t : List ℕ) (l : Line) (col row : ℕ) where
+  pub jump-own : IsLine t l → col ≤ 1048576 → row ≡ l .row → JumpedTo t (jumpedTo t (record { row = l .row; col = col }) row)
+      (record { row = l .row; start = l .start; col = col })
+  jump-own i n e = (rw (eq-eqb row (l .row) e), i, n)
+
+  pub jump-other :
+      (m : Line) (len c : ℕ) → row < rowCount t → col ≤ 1048576 → (row ≡ l .row → ⊥) → m ≡ lineAt t row → len ≡ rowLen t (m .row) → c ≡ min col (len - 1) →
+      JumpedTo t (jumpedTo t (record { row = l .row; col = col }) row) (record { row = m .row; start = m .start; col = c })
+  jump-other m len c h n e q s w =
+      let r : m .row ≡ row = ap (λ (x : Line). x .row) q in
+      let k : c ≡ min col (rowLen t row - 1) = w ∙ ap (λ (x : ℕ). min col (x - 1)) (s ∙ ap (rowLen t) r) in
+      (rw (ne-eqb row (l .row) e) (λ i. record { row = r i; col = k i }), line-there t m row q h, omega (arith, w))
+
+-- the jump, by what the calls find
+module _ (t folds : List ℕ) (down : Bool) (p : Place) {rows content : ℕ} {s : Span} (all : rows ≡ rowCount t) (con : content ≡ contentRows t)
+    (e : s ≡ closedFoldAt folds rows content (p .row)) where
+  read : s ≡ closedFoldAt folds (rowCount t) (contentRows t) (p .row)
+  read = e ∙ ap (λ (n : ℕ). closedFoldAt folds n content (p .row)) all ∙ ap (λ (n : ℕ). closedFoldAt folds (rowCount t) n (p .row)) con
+
+  pub jumped-out : (a b : ℕ) → s ≡ Of a b → jumped t folds down p ≡ jumpedTo t p (cond down b a)
+  jumped-out a b q = ap (outOf t down p) (sym read ∙ q)
+
+  pub jumped-not : s ≡ NoSpan → jumped t folds down p ≡ p
+  jumped-not q = ap (outOf t down p) (sym read ∙ q)
+
+-- the target, by what the calls find
+pub target-made :
+    (t folds : List ℕ) (tabstop : ℕ) (lay : List ℕ → List ℕ) (down : Bool) (count row col : ℕ) (sticky : Sticky) {w n : ℕ} {j p : Place} →
+    w ≡ wantedCol t tabstop row col sticky → n ≡ max count 1 → j ≡ jumped t folds down (record { row = row; col = col }) → p ≡ screenFrom t folds lay down n j →
+    landedAt w p ≡ screenTarget t folds tabstop lay down count row col sticky
+target-made t folds tabstop lay down count row col sticky {w} {n} {j} {p} a b c d =
+    ap (λ (x : ℕ). landedAt x p) a ∙
+    ap (landedAt (wantedCol t tabstop row col sticky))
+    (d ∙ ap (λ (x : ℕ). screenFrom t folds lay down x j) b ∙ ap (screenFrom t folds lay down (max count 1)) c)

@@ -1,0 +1,57 @@
+-- `wrapped::move_broken` meets its contract. Assumes nothing.
+use mathlib.Core.Path.{refl}
+use native.Mathlib.Omega.{arith}
+use borrow.Author.Needs.{needs}
+use Rattle.chars.specs.White.{whites}
+use Rattle.chars.specs.Width.{zeroWidths, doubleWidths}
+use Rattle.text.proofs.Parts.{row-fits}
+use Rattle.screen.specs.Walks.{layOf}
+use Rattle.screen.proofs.Spans.{target-made}
+use Rattle.screen.proofs.wrapped.move_broken.Statement.{statement}
+use Rattle.screen.proofs.wrapped.move_broken.Tie as tie
+
+jump-requires : tie.Need-jump-requires
+jump-requires c κs =
+    let s = c .before .before .before .before in
+    let p = s .pre .0 in (
+      c .row-count .ensures,
+      rw (c .row-count .ensures) (p .folds-good),
+      p .line,
+      omega (arith, p .here .in-col, row-fits (s .args .t .now) (s .args .l .row) (p .row-good .in-rows), p .row-good .brief),
+    )
+
+screen-from-requires : tie.Need-screen-from-requires
+unfolding zeroWidths doubleWidths whites
+screen-from-requires c κs =
+    let m = c .before .before .before in
+    let j = m .before in
+    let k = j .before in
+    let s = k .before .before .before .before in
+    let p = s .pre .0 in (
+      (
+        record {
+          tables = record { widths = record { none = refl; two = refl }; whites-are = refl };
+          wide = s .pre .1;
+          brief = p .row-good .brief;
+          all-rows = k .row-count .ensures;
+          folds-good = rw (k .row-count .ensures) (p .folds-good);
+        },
+        omega (arith, m .most .ensures),
+      ),
+      (j .jump .ensures .2, j .jump .ensures .1),
+    )
+
+returns : tie.Need-returns
+returns c =
+    let m = c .before .before .before .before in
+    let j = m .before in
+    let w = j .before .before in
+    let a = w .before .before .before .args in
+    target-made (a .t .now) (a .folds .now) (a .tabstop) (layOf (a .word) (a .width)) (a .down) (a .count) (a .l .row) (a .col) (a .sticky)
+    (w .wanted .ensures) (m .most .ensures) (j .jump .ensures .0) (c .screen-from .ensures)
+
+pub move-broken-spec : {M : Type 1} → statement M
+move-broken-spec =
+    tie.close
+    (tie.spec (λ c κs. search needs) (λ c κs. search needs) jump-requires (λ c κs. search needs) (λ c. search needs) (λ c. search needs) (λ c. search needs)
+    screen-from-requires returns)

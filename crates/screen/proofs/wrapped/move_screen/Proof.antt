@@ -1,0 +1,23 @@
+-- `wrapped::move_screen` meets its contract, mode by mode. Assumes nothing.
+use borrow.Author.Needs.{needs}
+use borrow.Author.Tests.{eq-eqb, ne-eqb}
+use Rattle.screen.proofs.wrapped.move_screen.Statement.{statement}
+use Rattle.screen.proofs.wrapped.move_screen.Tie as tie
+
+returns : tie.Need-returns
+returns c = rw (eq-eqb _ 0 (c .before .if1 .taken)) (c .move-rows .ensures)
+
+returns-2 : tie.Need-returns-2
+returns-2 c = rw (ne-eqb _ 0 (c .before .before .before .if1 .left), c .before .enum-told .given .1) (c .move-rows2 .ensures)
+
+returns-3 : tie.Need-returns-3
+returns-3 c = rw (ne-eqb _ 0 (c .before .before .before .if1 .left), c .before .enum-told2 .given .1) (c .move-broken .ensures)
+
+returns-4 : tie.Need-returns-4
+returns-4 c = rw (ne-eqb _ 0 (c .before .before .before .if1 .left), c .before .enum-told3 .given .1) (c .move-broken2 .ensures)
+
+pub move-screen-spec : {M : Type 1} → statement M
+move-screen-spec =
+    tie.close
+    (tie.spec (λ c κs. search needs) returns (λ c. search needs) (λ c κs. search needs) (λ c. search needs) (λ c κs. search needs) (λ c. search needs)
+    (λ c κs. search needs) returns-2 returns-3 returns-4)

@@ -1,0 +1,87 @@
+-- `gj` and `gk` under wrap: `move_screen_vertical` and `step_screen` of motions.rs, round by round. `lay` is how a row is broken: start, end, start, end ..
+-- Definitions only; the laws are in `proofs/Seats.antt` and `proofs/ScreenRounds.antt`. Assumes nothing.
+use Prim.Native.Nat.{ℕ, _+_, _-_, _*_, _/_, min, max}
+use mathlib.Core.List.{List}
+use mathlib.Core.Bool.{Bool, cond, _||_}
+use lib.Dec.{eqb, ltb}
+use lib.ListN.{length, getD}
+use Rattle.chars.specs.White.{isWhite}
+use Rattle.chars.specs.Width.{widthOf}
+use Rattle.wrap.specs.declared.Wrap.{Wrap}
+use Rattle.wrap.specs.Modes.{isNone, segmentsOf}
+use Rattle.wrap.specs.Offsets.{segmentIndex}
+use Rattle.text.specs.Text.{rowCount, rowAt, rowLen, contentRows}
+use Rattle.text.specs.Folds.{closedFoldAt}
+use Rattle.text.specs.declared.Span.{Span}
+use Rattle.text.specs.declared.Span.the-variants.{Of, NoSpan}
+use Rattle.text.specs.declared.Visible.{Visible}
+use Rattle.text.specs.declared.Visible.the-variants.{Row, NoRow}
+use Rattle.screen.specs.declared.Place.{Place}
+use Rattle.vertical.specs.declared.Sticky.{Sticky}
+use Rattle.vertical.specs.declared.Target.{Target}
+use Rattle.vertical.specs.Rounds.{rounds, shift}
+use Rattle.vertical.specs.Visible.{toward, deltaOf}
+use Rattle.vertical.specs.Moves.{lastCol, wantedCol, moveVertical}
+
+-- `clamp_to_segment`: so many characters behind the segment's start, within the segment and the row of `len` characters
+abbrev pub clampTo : ℕ → ℕ → ℕ → ℕ → ℕ
+clampTo start end offset len = max (min (min (start + offset) (cond (ltb start end) (end - 1) start)) (len - 1)) (min start (len - 1))
+
+-- how many segments there are, and how many come after segment j, down or up; so also the segment that has so many ahead of it
+abbrev pub segmentCount : List ℕ → ℕ
+segmentCount segs = length segs / 2
+
+abbrev pub aheadOf : Bool → ℕ → ℕ → ℕ
+aheadOf down count j = cond down (count - 1 - j) j
+
+-- the place at that offset in segment j of a row
+abbrev pub onSegment : List ℕ → (List ℕ → List ℕ) → ℕ → ℕ → ℕ → Place
+onSegment t lay offset row j =
+    let segs = lay (rowAt t row) in record { row = row; col = clampTo (getD segs (2 * j) 0) (getD segs (2 * j + 1) 0) offset (rowLen t row) }
+
+-- into another row by its first segment, or upwards by its last; no row is left, and the place stays
+abbrev pub entered : List ℕ → (List ℕ → List ℕ) → Bool → ℕ → Place → Visible → Place
+entered t lay down offset p (Row row) = onSegment t lay offset row (aheadOf down (segmentCount (lay (rowAt t row))) (segmentCount (lay (rowAt t row)) - 1))
+entered t lay down offset p NoRow = p
+
+abbrev pub seatOf : List ℕ → (List ℕ → List ℕ) → Place → ℕ
+seatOf t lay p = segmentIndex (lay (rowAt t (p .row))) (p .col)
+
+-- one round: the next segment of the row, or a row further
+unfoldable pub stepScreen : List ℕ → List ℕ → (List ℕ → List ℕ) → Bool → ℕ → Place → Place
+stepScreen t folds lay down offset p =
+    cond (ltb 0 (aheadOf down (segmentCount (lay (rowAt t (p .row)))) (seatOf t lay p))) (onSegment t lay offset (p .row) (shift down (seatOf t lay p) 1))
+    (entered t lay down offset p (toward folds (rowCount t) down (p .row)))
+
+-- from a closed fold the way goes on from its last row, and upwards from its first, at the column or the row's last one
+abbrev pub jumpedTo : List ℕ → Place → ℕ → Place
+jumpedTo t p row = cond (eqb row (p .row)) p (record { row = row; col = min (p .col) (lastCol t row) })
+
+abbrev pub outOf : List ℕ → Bool → Place → Span → Place
+outOf t down p NoSpan = p
+outOf t down p (Of first last) = jumpedTo t p (cond down last first)
+
+abbrev pub jumped : List ℕ → List ℕ → Bool → Place → Place
+jumped t folds down p = outOf t down p (closedFoldAt folds (rowCount t) (contentRows t) (p .row))
+
+-- the character offset of a column in its segment, which all rounds keep
+abbrev pub offsetIn : List ℕ → List ℕ → ℕ → ℕ
+offsetIn segs row col = col - getD segs (2 * segmentIndex segs col) 0
+
+-- the rounds of a count
+abbrev pub screenFrom : List ℕ → List ℕ → (List ℕ → List ℕ) → Bool → ℕ → Place → Place
+screenFrom t folds lay down n p = rounds (stepScreen t folds lay down (offsetIn (lay (rowAt t (p .row))) (rowAt t (p .row)) (p .col))) n p
+
+-- the sticky column is set and not used
+abbrev pub landedAt : ℕ → Place → Target
+landedAt want p = record { row = p .row; col = p .col; want = want }
+
+abbrev pub screenTarget : List ℕ → List ℕ → ℕ → (List ℕ → List ℕ) → Bool → ℕ → ℕ → ℕ → Sticky → Target
+screenTarget t folds tabstop lay down count row col sticky =
+    landedAt (wantedCol t tabstop row col sticky) (screenFrom t folds lay down (max count 1) (jumped t folds down (record { row = row; col = col })))
+
+-- with mode None or width 0 the move is that of `j` and `k`
+abbrev pub moveScreen : List ℕ → List ℕ → ℕ → Wrap → ℕ → Bool → ℕ → ℕ → ℕ → Sticky → Target
+moveScreen t folds tabstop mode width down count row col sticky =
+    cond (eqb width 0 || isNone mode) (moveVertical t folds tabstop (deltaOf down count) row col sticky)
+    (screenTarget t folds tabstop (segmentsOf widthOf isWhite mode width) down count row col sticky)

@@ -1,0 +1,72 @@
+-- What the walks of `src/screen.rt` require and answer: segments by their number, in a row that is broken by characters or by words.
+-- Definitions only. Assumes nothing.
+use Prim.Native.Nat.{ℕ, _+_, _-_, _*_, _≤_, _<_, min}
+use mathlib.Core.Path.{_≡_}
+use mathlib.Core.List.{List}
+use mathlib.Core.Bool.{Bool, cond}
+use lib.ListN.{length, getD}
+use Rattle.chars.specs.White.{isWhite}
+use Rattle.chars.specs.Width.{widthOf}
+use Rattle.wrap.specs.declared.Wrap.{Wrap}
+use Rattle.wrap.specs.declared.Wrap.the-variants.{Char, Word}
+use Rattle.wrap.specs.Modes.{segmentsOf}
+use Rattle.wrap.specs.Offsets.{segmentIndex}
+use Rattle.wrap.specs.Lent.{Tables}
+use Rattle.text.specs.Text.{rowCount, rowAt}
+use Rattle.text.specs.Offsets.{Stands}
+use Rattle.text.specs.Folds.{foldRefusal}
+use Rattle.screen.specs.declared.Jump.{Jump}
+use Rattle.screen.specs.declared.Part.{Part}
+use Rattle.screen.specs.declared.Seat.{Seat}
+use Rattle.screen.specs.declared.Spot.{Spot}
+use Rattle.screen.specs.declared.Place.{Place}
+use Rattle.vertical.specs.Rounds.{rounds}
+use Rattle.screen.specs.Screen.{segmentCount, aheadOf, onSegment, seatOf, stepScreen}
+
+abbrev pub modeOf : Bool → Wrap
+modeOf word = cond word Word Char
+
+-- how a row is broken
+abbrev pub layOf : Bool → ℕ → List ℕ → List ℕ
+layOf word width row = segmentsOf widthOf isWhite (modeOf word) width row
+
+-- segment j with its start and end
+abbrev pub partAt : List ℕ → ℕ → Part
+partAt segs j = record { index = j; start = getD segs (2 * j) 0; end = getD segs (2 * j + 1) 0 }
+
+-- the segment of a column, or an earlier one that has the number
+abbrev pub partFor : List ℕ → ℕ → ℕ → Part
+partFor segs col index = partAt segs (min index (segmentIndex segs col))
+
+-- the place in a row with so many segments ahead, and how many a place has
+abbrev pub placeAt : List ℕ → (List ℕ → List ℕ) → Bool → ℕ → ℕ → ℕ → Place
+placeAt t lay down offset row a = onSegment t lay offset row (aheadOf down (segmentCount (lay (rowAt t row))) a)
+
+abbrev pub aheadAt : List ℕ → (List ℕ → List ℕ) → Bool → Place → ℕ
+aheadAt t lay down p = aheadOf down (segmentCount (lay (rowAt t (p .row)))) (seatOf t lay p)
+
+-- that, and the character offset of a place in its segment
+abbrev pub seatAt : List ℕ → (List ℕ → List ℕ) → Bool → Place → Seat
+seatAt t lay down p = record { ahead = aheadAt t lay down p; offset = p .col - getD (lay (rowAt t (p .row))) (2 * seatOf t lay p) 0 }
+
+-- what the checks have shown of all that a screen walk takes, with the tables that it is lent
+pub record Ready (zeros doubles white t folds : List ℕ) (rows width : ℕ) : Type 0 where
+  pub tables : Tables zeros doubles white
+  pub wide : 0 < width
+  pub brief : length t ≤ 1048576
+  pub all-rows : rows ≡ rowCount t
+  pub folds-good : foldRefusal folds rows ≡ 0
+
+-- a row with its start, and so many segments ahead in it
+pub record IsSpot (t : List ℕ) (lay : List ℕ → List ℕ) (s : Spot) : Type 0 where
+  pub line : Stands t (s .row) (s .start) (s .start)
+  pub inside : s .ahead < segmentCount (lay (rowAt t (s .row)))
+
+-- n rounds from one spot lead to the other, whatever offset is kept
+abbrev pub Leads : List ℕ → List ℕ → (List ℕ → List ℕ) → Bool → ℕ → Spot → Spot → Type 0
+Leads t folds lay down n s r =
+    (offset : ℕ) → rounds (stepScreen t folds lay down offset) n (placeAt t lay down offset (s .row) (s .ahead)) ≡ placeAt t lay down offset (r .row) (r .ahead)
+
+-- a place with its row's start
+abbrev pub JumpedTo : List ℕ → Place → Jump → Type 0
+JumpedTo t p r = (record { row = r .row; col = r .col } ≡ p) × Stands t (r .row) (r .start) (r .start) × (r .col ≤ 1048576)

@@ -1,0 +1,62 @@
+// Out of a closed fold, as `move_screen_vertical` of motions.rs does before its rounds: to the
+// fold's last row, or upwards to its first.
+use crate::Jump;
+use text::Line;
+use text::Span;
+use vertical::least;
+use vertical::minus;
+ghost use mathlib.Core.Path.{_≡_};
+ghost use mathlib.Core.Bool.{cond};
+ghost use Prim.Native.Nat.{_-_, _≤_, _<_};
+ghost use Rattle.text.specs.Text.{rowCount};
+ghost use Rattle.text.specs.Offsets.{IsLine};
+ghost use Rattle.text.specs.Folds.{foldRefusal};
+ghost use Rattle.screen.specs.Screen.{jumped, jumpedTo};
+ghost use Rattle.screen.specs.Walks.{JumpedTo};
+
+fn pick(down: bool, last: usize, first: usize) -> usize
+    ensures { λ r. ⌜ r ≡ cond down last first ⌝ }
+{
+    if down { last } else { first }
+}
+
+// The place in another row, at the column or the row's last one; the place itself where the row is
+// its own.
+fn jump_to(t: &[u32], l: Line, col: usize, row: usize) -> Jump
+    requires { ⌜ IsLine (now t) l × (row < rowCount (now t)) × (col ≤ 1048576) ⌝ }
+    ensures { λ r. ⌜ JumpedTo (now (t .entry))
+        (jumpedTo (now (t .entry)) (record { row = l .row; col = col }) row) r ⌝ }
+{
+    let from = l.row;
+    if row == from {
+        return Jump {
+            row: from,
+            start: l.start,
+            col: col,
+        };
+    }
+    let m = crate::walks::line_toward(t, l, row);
+    let n = text::offsets::row_len(t, m);
+    Jump {
+        row: m.row,
+        start: m.start,
+        col: least(col, minus(n, 1)),
+    }
+}
+
+// From a closed fold to its last row, or upwards to its first; elsewhere the place stays.
+pub fn jump(t: &[u32], folds: &[u32], rows: usize, down: bool, l: Line, col: usize) -> Jump
+    requires { ⌜ (rows ≡ rowCount (now t)) × (foldRefusal (now folds) rows ≡ 0) × IsLine (now t) l ×
+        (col ≤ 1048576) ⌝ }
+    ensures { λ r. ⌜ JumpedTo (now (t .entry))
+        (jumped (now (t .entry)) (now (folds .entry)) down (record { row = l .row; col = col })) r ⌝ }
+{
+    match text::folds::closed_fold_at(folds, rows, text::content_rows(t), l.row) {
+        Span::Of(first, last) => jump_to(t, l, col, pick(down, last, first)),
+        Span::NoSpan => Jump {
+            row: l.row,
+            start: l.start,
+            col: col,
+        },
+    }
+}

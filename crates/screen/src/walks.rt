@@ -1,0 +1,251 @@
+// `gj` and `gk` under wrap: the rounds of `move_screen_vertical` of motions.rs. A row is walked
+// once to count its segments and once to come to the one wanted, whatever the count; no room for
+// segments is needed.
+use crate::Place;
+use crate::Seat;
+use crate::Spot;
+use crate::segments;
+use text::Line;
+use text::Visible;
+use vertical::minus;
+use vertical::rows;
+ghost use mathlib.Core.Path.{_≡_};
+ghost use Prim.Native.Nat.{_≤_, _<_};
+ghost use lib.ListN.{length};
+ghost use Rattle.wrap.specs.Lent.{Tables};
+ghost use Rattle.text.specs.Text.{rowCount};
+ghost use Rattle.text.specs.Offsets.{IsLine, lineAt};
+ghost use Rattle.vertical.specs.Rounds.{rounds};
+ghost use Rattle.screen.specs.Screen.{stepScreen, screenFrom};
+ghost use Rattle.screen.specs.Walks.{layOf, placeAt, seatAt, Ready, IsSpot, Leads};
+
+// Another row of the text, from a row with its start: only what lies between them is walked.
+pub fn line_toward(t: &[u32], from: Line, row: usize) -> Line
+    requires { ⌜ IsLine (now t) from × (row < rowCount (now t)) ⌝ }
+    ensures { λ r. ⌜ r ≡ lineAt (now (t .entry)) row ⌝ }
+{
+    if row < from.row {
+        return text::offsets::up(t, from.row, from.start, from.row - row);
+    }
+    text::offsets::down(t, from, row - from.row)
+}
+
+// So many rounds from a spot: segments of its row, and then from row to visible row.
+fn walk(
+    zeros: &[u32],
+    doubles: &[u32],
+    white: &[u32],
+    t: &[u32],
+    folds: &[u32],
+    rows: usize,
+    width: u32,
+    word: bool,
+    down: bool,
+    from: Spot,
+    n: usize,
+) -> Spot
+    requires { ⌜ Ready (now zeros) (now doubles) (now white) (now t) (now folds) rows width ×
+        IsSpot (now t) (layOf word width) from ⌝ }
+    ensures { λ r. ⌜ Leads (now (t .entry)) (now (folds .entry)) (layOf word width) down n from r ⌝ }
+    ensures { λ r. ⌜ IsSpot (now (t .entry)) (layOf word width) r ⌝ }
+{
+    let mut row = from.row;
+    let mut start = from.start;
+    let mut ahead = from.ahead;
+    let mut left = n;
+    let mut free = rows::free_rows(folds, rows, down, from.row);
+    while left > ahead {
+        let hop = rows::hop(folds, rows, down, row, free);
+        let seen = hop.next;
+        match seen {
+            Visible::Row(x) => {
+                let here = Line {
+                    row: row,
+                    start: start,
+                };
+                let next = line_toward(t, here, x);
+                let line = text::offsets::row(t, next);
+                left = left - ahead - 1;
+                free = hop.free;
+                row = next.row;
+                start = next.start;
+                ahead = segments::segment_count(zeros, doubles, white, line, width, word) - 1;
+            }
+            Visible::NoRow => {
+                return Spot {
+                    row: row,
+                    start: start,
+                    ahead: 0,
+                };
+            }
+        }
+    }
+    Spot {
+        row: row,
+        start: start,
+        ahead: ahead - left,
+    }
+}
+
+// The place at a spot: so many characters behind the start of its segment.
+fn land(
+    zeros: &[u32],
+    doubles: &[u32],
+    white: &[u32],
+    t: &[u32],
+    width: u32,
+    word: bool,
+    down: bool,
+    s: Spot,
+    offset: usize,
+) -> Place
+    requires { ⌜ Tables (now zeros) (now doubles) (now white) × (0 < width) ×
+        (length (now t) ≤ 1048576) × (offset ≤ 1048576) ⌝ }
+    requires { ⌜ IsSpot (now t) (layOf word width) s ⌝ }
+    ensures { λ r. ⌜ r ≡ placeAt (now (t .entry)) (layOf word width) down offset (s .row) (s .ahead)
+        ⌝ }
+{
+    let l = Line {
+        row: s.row,
+        start: s.start,
+    };
+    let row = text::offsets::row(t, l);
+    let n = row.len();
+    let count = segments::segment_count(zeros, doubles, white, row, width, word);
+    let index = segments::ahead_of(down, count, s.ahead);
+    let part = segments::find_segment(zeros, doubles, white, row, width, word, n, index);
+    Place {
+        row: s.row,
+        col: segments::clamp_to_segment(part.start, part.end, offset, n),
+    }
+}
+
+// So many rounds from a spot, with the offset that they keep.
+fn glide(
+    zeros: &[u32],
+    doubles: &[u32],
+    white: &[u32],
+    t: &[u32],
+    folds: &[u32],
+    rows: usize,
+    width: u32,
+    word: bool,
+    down: bool,
+    from: Spot,
+    offset: usize,
+    n: usize,
+) -> Place
+    requires { ⌜ Ready (now zeros) (now doubles) (now white) (now t) (now folds) rows width ×
+        (offset ≤ 1048576) ⌝ }
+    requires { ⌜ IsSpot (now t) (layOf word width) from ⌝ }
+    ensures { λ r. ⌜ r ≡ rounds
+        (stepScreen (now (t .entry)) (now (folds .entry)) (layOf word width) down offset) n
+        (placeAt (now (t .entry)) (layOf word width) down offset (from .row) (from .ahead)) ⌝ }
+{
+    let s = walk(
+        zeros,
+        doubles,
+        white,
+        t,
+        folds,
+        rows,
+        width,
+        word,
+        down,
+        from,
+        n,
+    );
+    land(zeros, doubles, white, t, width, word, down, s, offset)
+}
+
+// How many segments lie ahead of a place in its row, and its character offset in its segment.
+fn seat(
+    zeros: &[u32],
+    doubles: &[u32],
+    white: &[u32],
+    t: &[u32],
+    width: u32,
+    word: bool,
+    down: bool,
+    l: Line,
+    col: usize,
+) -> Seat
+    requires { ⌜ Tables (now zeros) (now doubles) (now white) × (0 < width) × IsLine (now t) l ⌝ }
+    ensures { λ r. ⌜ r ≡ seatAt (now (t .entry)) (layOf word width) down
+        (record { row = l .row; col = col }) ⌝ }
+{
+    let row = text::offsets::row(t, l);
+    let n = row.len();
+    let part = segments::find_segment(zeros, doubles, white, row, width, word, col, n);
+    let count = segments::segment_count(zeros, doubles, white, row, width, word);
+    Seat {
+        ahead: segments::ahead_of(down, count, part.index),
+        offset: minus(col, part.start),
+    }
+}
+
+// The rounds of a count from a place. Where no segment and no row lies ahead the place stays, even
+// behind the row's last character.
+pub fn screen_from(
+    zeros: &[u32],
+    doubles: &[u32],
+    white: &[u32],
+    t: &[u32],
+    folds: &[u32],
+    rows: usize,
+    width: u32,
+    word: bool,
+    down: bool,
+    l: Line,
+    col: usize,
+    n: usize,
+) -> Place
+    requires { ⌜ Ready (now zeros) (now doubles) (now white) (now t) (now folds) rows width ×
+        (0 < n) ⌝ }
+    requires { ⌜ (col ≤ 1048576) × IsLine (now t) l ⌝ }
+    ensures { λ r. ⌜ r ≡ screenFrom (now (t .entry)) (now (folds .entry)) (layOf word width) down n
+        (record { row = l .row; col = col }) ⌝ }
+{
+    let s = seat(zeros, doubles, white, t, width, word, down, l, col);
+    let from = Spot {
+        row: l.row,
+        start: l.start,
+        ahead: s.ahead,
+    };
+    if s.ahead > 0 {
+        return glide(
+            zeros,
+            doubles,
+            white,
+            t,
+            folds,
+            rows,
+            width,
+            word,
+            down,
+            from,
+            s.offset,
+            n,
+        );
+    }
+    match rows::visible_row(folds, rows, down, l.row) {
+        Visible::Row(x) => glide(
+            zeros,
+            doubles,
+            white,
+            t,
+            folds,
+            rows,
+            width,
+            word,
+            down,
+            from,
+            s.offset,
+            n,
+        ),
+        Visible::NoRow => Place {
+            row: l.row,
+            col: col,
+        },
+    }
+}

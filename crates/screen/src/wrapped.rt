@@ -1,0 +1,90 @@
+// `gj` and `gk`: the target of `move_screen_vertical` of motions.rs. The text, the place, the
+// folds and the tabstop were accepted.
+use crate::jumps;
+use crate::walks;
+use text::Line;
+use vertical::Sticky;
+use vertical::Target;
+use vertical::most;
+use vertical::moves;
+use wrap::Wrap;
+ghost use mathlib.Core.Path.{_≡_};
+ghost use Prim.Native.Nat.{_<_};
+ghost use Rattle.vertical.specs.Moves.{Accepted};
+ghost use Rattle.screen.specs.Screen.{screenTarget, moveScreen};
+ghost use Rattle.screen.specs.Walks.{layOf};
+
+// The target where rows are broken: by words, or by characters.
+fn move_broken(
+    t: &[u32],
+    folds: &[u32],
+    l: Line,
+    col: usize,
+    sticky: Sticky,
+    down: bool,
+    count: u32,
+    tabstop: u32,
+    width: u32,
+    word: bool,
+) -> Target
+    requires { ⌜ Accepted (now t) (now folds) l col tabstop × (0 < width) ⌝ }
+    ensures { λ r. ⌜ r ≡ screenTarget (now (t .entry)) (now (folds .entry)) tabstop
+        (layOf word width) down count (l .row) col sticky ⌝ }
+{
+    let want = moves::wanted(t, folds, l, col, sticky, tabstop);
+    let rows = text::row_count(t);
+    let j = jumps::jump(t, folds, rows, down, l, col);
+    let m = Line {
+        row: j.row,
+        start: j.start,
+    };
+    let n = most(count as usize, 1);
+    let p = walks::screen_from(
+        &chars::ZERO_WIDTH,
+        &chars::DOUBLE_WIDTH,
+        &chars::WHITE,
+        t,
+        folds,
+        rows,
+        width,
+        word,
+        down,
+        m,
+        j.col,
+        n,
+    );
+    Target {
+        row: p.row,
+        col: p.col,
+        want: want,
+    }
+}
+
+// `gj` and `gk`: so many segments down or up, count 0 as 1; with mode None or width 0 as `j` and
+// `k`.
+pub fn move_screen(
+    t: &[u32],
+    folds: &[u32],
+    l: Line,
+    col: usize,
+    sticky: Sticky,
+    down: bool,
+    count: u32,
+    tabstop: u32,
+    mode: Wrap,
+    width: u16,
+) -> Target
+    requires { ⌜ Accepted (now t) (now folds) l col tabstop ⌝ }
+    ensures { λ r. ⌜ r ≡ moveScreen (now (t .entry)) (now (folds .entry)) tabstop mode width down
+        count (l .row) col sticky ⌝ }
+{
+    let cells = width as u32;
+    if cells == 0 {
+        return moves::move_rows(t, folds, l, col, sticky, down, count, tabstop);
+    }
+    match mode {
+        Wrap::None => moves::move_rows(t, folds, l, col, sticky, down, count, tabstop),
+        Wrap::Char => move_broken(t, folds, l, col, sticky, down, count, tabstop, cells, false),
+        Wrap::Word => move_broken(t, folds, l, col, sticky, down, count, tabstop, cells, true),
+    }
+}

@@ -1,0 +1,95 @@
+-- Laws of the loops: the text widened byte by byte, and the lines of command rows one after another. Assumes nothing.
+use mathlib.Core.Path.{_≡_, ap, sym, subst, _∙_}
+use mathlib.Core.List.{List, [], _∷_, _++_, append-assoc, append-nil}
+use mathlib.Core.Bool.{true, false}
+use Prim.Native.Nat.{ℕ, _+_, _-_, _≤_, _<_}
+use native.Mathlib.Numerals.{add-one}
+use native.Mathlib.Omega.{arith}
+use lib.ListN.{length, getD, take, drop, set, length-append, length-drop}
+use lib.Seq.{take-suc, take-suc-set, getD-drop, take-all}
+use Rattle.text.specs.Text.{rows}
+use Rattle.print.specs.Print.{Wrote}
+use Rattle.print.proofs.Laws.{wrote-none, wrote-then}
+use Rattle.commands.specs.Commands.{keyPart, Ends}
+use Rattle.motions.specs.declared.Caret.{Caret}
+use Rattle.motions.specs.Carets.{caretAfter}
+use Rattle.session.specs.Parts.{isStop, commandRows}
+use Rattle.session.specs.Session.{turned, shownOf, lineOf, linesOf, start, outputOf}
+use Rattle.session.proofs.Rows.{rowsFrom, rows-start, rows-end, rows-step}
+use Rattle.session.proofs.Lengths.{lines-fit}
+
+-- bytes widened one after another
+pub widen-on :
+    (input room : List ℕ) (from n i : ℕ) → i ≡ from + n → i < length input → n < length room → take n room ≡ take n (drop from input) →
+    take (n + 1) (set room n (getD input i 0)) ≡ take (n + 1) (drop from input)
+widen-on input room from n i e h k p =
+    let f : n < length (drop from input) = omega (arith, length-drop from input) in
+    rw (add-one n, take-suc-set room n (getD input i 0) k, take-suc (drop from input) n 0 f, p, getD-drop from input n 0, e)
+
+pub widen-all : (input room : List ℕ) (from n : ℕ) → length input ≤ from + n → take n room ≡ take n (drop from input) → take n room ≡ drop from input
+widen-all input room from n h p = p ∙ take-all n (drop from input) (omega (arith, length-drop from input))
+
+-- where the loop stands: what was printed so far, and that the rest is still to come
+pub record Progress (input t out₀ : List ℕ) (k : Caret) (at i : ℕ) (out : List ℕ) : Type 0 where
+  pub so-far : List ℕ
+  pub wrote : Wrote out₀ 0 so-far at out
+  pub rest : outputOf t input ≡ so-far ++ linesOf t k (commandRows (rowsFrom input i))
+  pub near : i ≤ length input + 1
+
+pub progress-start : (input t out : List ℕ) → Progress input t out start 0 0 out
+progress-start input t out =
+    record {
+      so-far = [];
+      wrote = wrote-none out 0;
+      rest = ap (λ (rs : List (List ℕ)). linesOf t start (commandRows rs)) (rows-start input);
+      near = omega arith;
+    }
+
+pub progress-end :
+    {input t out₀ out : List ℕ} {k : Caret} {at i : ℕ} (p : Progress input t out₀ k at i out) → commandRows (rowsFrom input i) ≡ [] →
+    Wrote out₀ 0 (outputOf t input) at out
+unfolding linesOf
+progress-end {input} {t} {out₀} {out} {k} {at} p e =
+    subst (λ (s : List ℕ). Wrote out₀ 0 s at out)
+    (sym (p .rest ∙ ap (λ (rs : List (List ℕ)). p .so-far ++ linesOf t k rs) e ∙ append-nil (p .so-far))) (p .wrote)
+
+module _ {input t out₀ out : List ℕ} {k : Caret} {at i e : ℕ} (p : Progress input t out₀ k at i out) (h : i ≤ length input) (w : Ends input i 10 e) where
+  abbrev here : List ℕ
+  here = take (e - i) (drop i input)
+
+  pub commands-stop : isStop here ≡ true → commandRows (rowsFrom input i) ≡ []
+  unfolding commandRows
+  commands-stop s = rw (rows-step input i e h w, s)
+
+  commands-on : isStop here ≡ false → commandRows (rowsFrom input i) ≡ here ∷ commandRows (rowsFrom input (e + 1))
+  unfolding commandRows
+  commands-on s = rw (rows-step input i e h w, s)
+
+  abbrev next : Caret
+  next = caretAfter k (turned t k here)
+
+  abbrev shows : List ℕ
+  shows = lineOf (shownOf (keyPart here) (turned t k here)) next
+
+  rest-on : isStop here ≡ false → outputOf t input ≡ p .so-far ++ (shows ++ linesOf t next (commandRows (rowsFrom input (e + 1))))
+  unfolding linesOf
+  rest-on s = p .rest ∙ ap (λ (rs : List (List ℕ)). p .so-far ++ linesOf t k rs) (commands-on s)
+
+  -- there is room for this line
+  pub progress-room : isStop here ≡ false → length input ≤ 16384 → at + length shows ≤ 393240
+  progress-room s small =
+      let rest = linesOf t next (commandRows (rowsFrom input (e + 1))) in
+      omega (arith, lines-fit t input small, ap length (rest-on s), length-append (p .so-far) (shows ++ rest), length-append shows rest, p .wrote .next)
+
+  pub progress-on : isStop here ≡ false → {at′ : ℕ} {out′ : List ℕ} → Wrote out at shows at′ out′ → Progress input t out₀ next at′ (e + 1) out′
+  progress-on s v =
+      record {
+        so-far = p .so-far ++ shows;
+        wrote = wrote-then (p .wrote) v;
+        rest = rest-on s ∙ sym (append-assoc (p .so-far) shows (linesOf t next (commandRows (rowsFrom input (e + 1)))));
+        near = omega (arith, w .within);
+      }
+
+pub commands-end : (input : List ℕ) (i : ℕ) → length input < i → commandRows (rowsFrom input i) ≡ []
+unfolding commandRows
+commands-end input i h = rw (rows-end input i h)

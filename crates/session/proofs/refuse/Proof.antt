@@ -1,0 +1,12 @@
+-- `session::refuse` meets its contract. Assumes nothing.
+use borrow.Author.Needs.{needs}
+use Rattle.print.specs.Print.{bytes}
+use Rattle.session.proofs.refuse.Statement.{statement}
+use Rattle.session.proofs.refuse.Tie as tie
+
+returns : tie.Need-returns
+unfolding bytes
+returns c = c .before .before .put-bytes .ensures
+
+pub refuse-spec : {M : Type 1} → statement M
+refuse-spec = tie.close (tie.spec (λ c. search needs) (λ c κs. search needs) (λ c. search needs) returns)

@@ -1,0 +1,27 @@
+-- `words::rounds::round_near` meets its contract: in the stretch a round without folds is the same. Assumes nothing.
+use mathlib.Core.Path.{_∙_}
+use mathlib.Core.Bool.{false}
+use Rattle.places.specs.Spots.{placeOf}
+use Rattle.places.specs.Lent.{kindBy}
+use Rattle.words.proofs.Bare.{round-bare, set-bare}
+use borrow.Author.Needs.{needs}
+use Rattle.words.proofs.rounds.round_near.Statement.{statement}
+use Rattle.words.proofs.rounds.round_near.Tie as tie
+
+round-requires : tie.Need-round-requires
+round-requires c κs =
+    let s = c .before .before .before .before .before .before .before .before .before .before in
+    set-bare (s .pre .0)
+
+returns : tie.Need-returns
+returns c =
+    let s = c .before .before .before .before .before .before .before .before .before .before .before in (
+      c .round .ensures .0 ∙ round-bare s.args.t.now s.args.folds.now (s .pre .1) (placeOf s.args.t.now s.args.p) (c .before .before .if1 .taken)
+          (kindBy s.args.bounds.now s.args.s) s.args.s.big s.args.m false,
+      c .round .ensures .1,
+    )
+
+pub round-near-spec : {M : Type 1} → statement M
+round-near-spec =
+    tie.close
+    (tie.spec (λ c. search needs) round-requires returns (λ c κs. search needs) (λ c. search needs))
