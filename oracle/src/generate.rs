@@ -22,12 +22,12 @@ impl Dice {
     }
 
     /// A number below n.
-    fn below(&mut self, n: usize) -> usize {
+    pub fn below(&mut self, n: usize) -> usize {
         (self.roll() % n as u64) as usize
     }
 
     /// True once in n times.
-    fn once_in(&mut self, n: usize) -> bool {
+    pub fn once_in(&mut self, n: usize) -> bool {
         self.below(n) == 0
     }
 
@@ -35,7 +35,7 @@ impl Dice {
         self.once_in(2)
     }
 
-    fn pick<T: Copy>(&mut self, from: &[T]) -> T {
+    pub fn pick<T: Copy>(&mut self, from: &[T]) -> T {
         from[self.below(from.len())]
     }
 }
@@ -75,6 +75,13 @@ fn text(dice: &mut Dice) -> Vec<u32> {
         text.insert(at, dice.pick(&BAD_POINTS));
     }
     text
+}
+
+/// A text of a few long rows.
+fn long(dice: &mut Dice) -> Vec<u32> {
+    let alphabet = points("abc d\t\u{3042}\u{301}\u{A0}");
+    let length = dice.pick(&[500, 1_500]);
+    (0..length).map(|_| if dice.once_in(400) { 10 } else { dice.pick(&alphabet) }).collect()
 }
 
 /// Near the values that a text, row or column has, sometimes past them, sometimes the largest.
@@ -187,7 +194,7 @@ fn character(dice: &mut Dice, text: &[u32]) -> u32 {
 pub fn random(call: &'static Call, dice: &mut Dice) -> Case {
     let mut case = Case::new(call);
     if case.takes(Input::Text) {
-        case.text = text(dice);
+        case.text = if case.takes(Input::Viewport) && dice.once_in(30) { long(dice) } else { text(dice) };
         case.caret = caret(dice, &case.text);
         case.folds = folds(dice, &case.text);
     }
@@ -318,18 +325,22 @@ pub fn small(call: &'static Call, most: usize, mut visit: impl FnMut(&Case)) {
     }
     for (alphabet, longest, folded) in families(call) {
         for text in texts(&points(alphabet), most.min(longest)) {
-            small_on(call, &text, folded).iter().for_each(&mut visit);
+            let rows = text.iter().filter(|&&x| x == 10).count() as u32 + 1;
+            let lists = if folded { fold_lists(rows).split_off(1) } else { vec![vec![]] };
+            for folds in &lists {
+                small_on(call, &text, folds).iter().for_each(&mut visit);
+            }
         }
     }
 }
 
-/// The cases of a call on one small text or row.
-fn small_on(call: &'static Call, text: &[u32], folded: bool) -> Vec<Case> {
+/// The cases of a call on one small text or row, with these folds.
+fn small_on(call: &'static Call, text: &[u32], folds: &[u32]) -> Vec<Case> {
     let takes = |input| call.takes.contains(&input);
     let rows = text.iter().filter(|&&x| x == 10).count() as u32 + 1;
     let size = text.len() as u32;
     let past: Vec<u32> = (0..=size + 1).chain([MOST]).collect();
-    let mut case = Case::new(call);
+    let mut case = Case { folds: folds.to_vec(), ..Case::new(call) };
     if takes(Input::Line) { case.line = text.to_vec() } else { case.text = text.to_vec() }
     let mut cases = vec![case];
     if takes(Input::Caret) || takes(Input::Place) {
@@ -337,9 +348,6 @@ fn small_on(call: &'static Call, text: &[u32], folded: bool) -> Vec<Case> {
         let outside = [Caret::at(0, size + 1), Caret::at(rows - 1, size + 1), Caret::at(rows, 0), Caret::at(MOST, MOST)];
         let at: Vec<Caret> = inside.chain(outside).collect();
         cases = each(cases, &at, |k, at| k.caret = at);
-    }
-    if folded {
-        cases = each(cases, &fold_lists(rows)[1..], |k, f| k.folds = f);
     }
     if takes(Input::Tabstop) && takes(Input::Caret) {
         cases = each(cases, &[None, Some(0), Some(3), Some(MOST)], |k, s| k.caret.sticky = s);
@@ -353,10 +361,11 @@ fn small_on(call: &'static Call, text: &[u32], folded: bool) -> Vec<Case> {
         cases.retain(|k| k.view.wrap != Wrap::None || k.view.width < 2);
     } else if takes(Input::Viewport) {
         cases = each(cases, &past, |k, top| k.view.top = top);
-        cases = each(cases, &[0, 1, 2, 3, 4, 65_535], |k, height| k.view.height = height);
+        cases = each(cases, &[0, 1, 2, 3, 4, 5, 6, 7, 65_535], |k, height| k.view.height = height);
     }
     if takes(Input::Count) {
-        cases = each(cases, &[0, 1, 2, 3, 4, MOST], |k, n| k.count = n);
+        let counts: &[u32] = if takes(Input::Tabstop) { &[0, 1, 2, 3, MOST] } else { &[0, 1, 2, 3, 4, MOST] };
+        cases = each(cases, counts, |k, n| k.count = n);
     }
     if takes(Input::Big) {
         cases = each(cases, &[false, true], |k, big| k.big = big);
@@ -481,6 +490,13 @@ pub fn limits(call: &'static Call) -> Vec<Case> {
     if takes(Input::Tabstop) {
         for n in [1_000, 1_001, MOST] {
             add(&|k| k.tabstop = n);
+        }
+    }
+    // A row of many segments, from both ends by the largest count. The given moves break the row at each step.
+    if takes(Input::Tabstop) && takes(Input::Viewport) {
+        for (at, width, wrap) in [(0, 1, Wrap::Char), (4_096, 1, Wrap::Char), (0, 3, Wrap::Word), (4_096, 3, Wrap::Word)] {
+            let view = Viewport { width, wrap, ..Viewport::default() };
+            add(&|k| (k.text, k.caret.col, k.count, k.view) = (points(&"ab d".repeat(1_024)), at, MOST, view));
         }
     }
     if takes(Input::List) {

@@ -2,12 +2,14 @@
 //!
 //! `calls` has one function per public call, `refusals` the refusal table of document 01, written
 //! apart from it, `case` a call with its inputs as one line of text, `generate` cases from a seed
-//! and small families, `session` document 01's session over the given motions.
+//! and small families, `replay` the list that the program `replay` runs, `session` document 01's
+//! session over the given motions.
 
 pub mod calls;
 pub mod case;
 pub mod generate;
 pub mod refusals;
+pub mod replay;
 pub mod session;
 
 /// Row, column and sticky column.

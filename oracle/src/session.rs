@@ -1,6 +1,7 @@
 //! Document 01's session over the given motions: the input's bytes to the output's.
 
 use crate::calls::{self, Words};
+use crate::generate::Dice;
 use crate::{Caret, points};
 
 /// Key and count of a command row, or nothing where it is malformed.
@@ -78,4 +79,78 @@ pub fn session(input: &[u8]) -> Vec<u8> {
         out += &format!("{shown} {} {}\n", at.row, at.col);
     }
     out.into_bytes()
+}
+
+const KEYS: [&str; 29] = [
+    "h", "l", "w", "b", "e", "W", "B", "E", "ge", "gE", "0", "^", "$", "g_", "{", "}", "[[", "]]", "[]", "][", "+", "-", "_",
+    "gg", "G", "|", "%", "j", "k",
+];
+const NO_KEYS: [&str; 18] =
+    ["g", "[", "]", "x", "", "wW", "w1", " w", "gg1", "?", "!", "jj", "..", " .", ". ", "\r", "j\r", ".\r"];
+const COUNTS: [&str; 14] =
+    ["", "", "", "", " 0", " 1", " 1", " 2", " 3", " 9", " 100", " 007", " 123456789", " 999999999"];
+const NO_COUNTS: [&str; 11] =
+    [" ", "  1", " 1 ", " -1", " +1", " 1a", " 0000000000", "\t1", " 1 2", " 1234567890", " 4294967296"];
+const TEXTS: [&str; 8] =
+    ["ab ({[]})<>\n\n.", "ab_1 \t\n", "{}\nx \n", "a\n", "[(])\n", " \t\nab", "ab,;. 12\n", "\ta\tbc\n \n"];
+
+/// A random input: mostly sound command rows and a text, sometimes malformed or refused.
+pub fn random(dice: &mut Dice) -> Vec<u8> {
+    let mut input = Vec::new();
+    for _ in 0..dice.pick(&[0, 1, 2, 3, 5, 8, 13, 30]) {
+        let key = if dice.once_in(12) { dice.pick(&NO_KEYS) } else { dice.pick(&KEYS) };
+        let count = if dice.once_in(15) { dice.pick(&NO_COUNTS) } else { dice.pick(&COUNTS) };
+        input.extend_from_slice(key.as_bytes());
+        input.extend_from_slice(count.as_bytes());
+        input.push(b'\n');
+    }
+    if !dice.once_in(20) {
+        input.extend_from_slice(if dice.once_in(20) { b"." } else { b".\n" });
+    }
+    let alphabet = dice.pick(&TEXTS).as_bytes();
+    for _ in 0..dice.pick(&[0, 1, 2, 5, 10, 20, 60, 200]) {
+        input.push(dice.pick(alphabet));
+    }
+    if dice.once_in(20) {
+        input.push(dice.pick(&[0, 0x0B, 0x0C, 0x0D, 0x7F, 0x80, 0xFF]));
+    }
+    input
+}
+
+/// Every input of up to `most` bytes over a small alphabet, shortest first.
+pub fn small(most: usize, mut visit: impl FnMut(&[u8])) {
+    let mut row: Vec<Vec<u8>> = vec![Vec::new()];
+    for length in 0..=most {
+        row.iter().for_each(|input| visit(input));
+        if length < most {
+            row = row.iter().flat_map(|r| b"jg$ 1.\n".iter().map(|&b| [&r[..], &[b]].concat())).collect();
+        }
+    }
+}
+
+/// Inputs at document 01's limits and one past them, and those with the longest outputs.
+pub fn limits() -> Vec<Vec<u8>> {
+    let joined = |parts: &[(&[u8], usize)]| parts.iter().flat_map(|(part, times)| part.repeat(*times)).collect::<Vec<u8>>();
+    let mut inputs = vec![
+        joined(&[(b"w\n.\n", 1), (b"a", 16_380)]),
+        joined(&[(b"w\n.\n", 1), (b"a", 16_381)]),
+        joined(&[(b"a", 20_000)]),
+        joined(&[(b"\n", 16_382), (b".\n", 1)]),
+        joined(&[(b"\n", 16_383), (b".", 1)]),
+        joined(&[(b"\n", 16_384), (b".", 1)]),
+        joined(&[(b"\n", 16_384)]),
+        joined(&[(b"G\n", 8_190), (b".\n", 1)]),
+        joined(&[(b"G\n", 1), (b"\n", 15_380), (b".\n", 1), (b"\n", 998)]),
+        joined(&[(b"$\nj\n", 1), (b"\n", 13_300), (b".\n", 1), (b"\n", 1), (b"a", 1_001)]),
+        joined(&[(b"h\n", 6_000), (b".\n", 1), (b"\x0B", 1)]),
+        joined(&[(b"$\n|123\n", 100), (b".\n", 1), (b"a", 12_345)]),
+    ];
+    for last in [0x0B, 0x0C, 0x0D, 0x7F, 0x80, 0xFF] {
+        inputs.push(joined(&[(b"w\nj\n.\n", 1), (b"a", 100), (&[last], 1)]));
+        inputs.push(joined(&[(&[last], 1), (b"\n.\n", 1)]));
+    }
+    for input in ["", ".", ".\n", ".\n.", "..\n. \n.\n.\n", "w\nw\n", "w", "w\r\n.\r\na b\n"] {
+        inputs.push(input.into());
+    }
+    inputs
 }

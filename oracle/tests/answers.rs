@@ -101,10 +101,18 @@ fn corners() {
             "moved 1 2 0",
         ),
         // words
-        ("move_word_fwd text=61,20,61 row=0 col=0 sticky=none folds= list=30,2d,39,39,39 big=0 count=1", "moved 0 2 none"),
+        (
+            "move_word_fwd text=61,20,61 row=0 col=0 sticky=none folds= list=30,2d,34,32,39,34,39,36,37,32,39,35 big=0 count=1",
+            "moved 0 2 none",
+        ),
         ("move_word_end_back text=61,62 row=0 col=1 sticky=none list=40 big=0 count=1", "moved 0 0 none"),
         ("move_word_fwd text=a,20,a,a,62 row=0 col=0 sticky=none folds= list=40 big=1 count=1", "moved 2 0 none"),
         ("move_word_fwd text=61,a,62 row=0 col=0 sticky=none folds=0,1,1 list=40 big=0 count=4294967295", "moved 1 1 none"),
+        ("move_word_fwd text=61,a row=1 col=0 sticky=none folds=0,1,1 list=40 big=0 count=1", "moved 0 1 none"),
+        ("move_word_fwd text=61,a row=0 col=0 sticky=none folds= list=40 big=0 count=1", "moved 0 1 none"),
+        ("move_word_end text=61,a row=0 col=0 sticky=none folds= list=40 big=0 stop=0 count=1", "moved 0 0 none"),
+        ("move_word_fwd text=a,a,a row=0 col=0 sticky=none folds= list=40 big=1 count=1", "moved 0 0 none"),
+        ("move_word_fwd text=a,a,a row=0 col=0 sticky=none folds= list=40 big=0 count=1", "moved 1 0 none"),
         // blanks, wrap, columns
         ("move_last_non_blank text=61,a0 row=0 col=0 sticky=none", "moved 0 0 none"),
         ("move_first_non_blank text=a0,61 row=0 col=1 sticky=none", "moved 0 0 none"),

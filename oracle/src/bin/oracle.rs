@@ -9,6 +9,7 @@ const HELP: &str = "\
 oracle case WORDS..            what the given Rust answers to one case, as oracle/src/case.rs writes it
 oracle cases                   the same for each line of standard input
 oracle random N SEED [CALL..]  N random cases of each call, with their answers
+oracle replay [ROW]            the list that the program `replay` runs, or one of its rows in words
 oracle session                 document 01's session, standard input to standard output";
 
 fn answered(case: &Case) -> String {
@@ -41,6 +42,15 @@ fn run(words: &[String]) -> Result<(), String> {
                 }
             }
             Ok(())
+        }
+        Some("replay") => {
+            let list = oracle::replay::list();
+            let Some(word) = words.get(1) else {
+                return list.iter().try_for_each(|row| print(&row.numbers));
+            };
+            let at = word.parse::<usize>().ok().and_then(|n| n.checked_sub(1));
+            let row = at.and_then(|at| list.get(at)).ok_or(format!("the list has no row `{word}`"))?;
+            print(&row.words)
         }
         Some("session") => {
             std::io::stdin().read_to_end(&mut input).map_err(|e| e.to_string())?;

@@ -167,6 +167,24 @@ unsafe extern "C" {
         out: *mut [u32; 3],
     ) -> u32;
 
+    pub fn tsivareza_word(
+        op: u32,
+        text: *const u8,
+        text_len: usize,
+        folds: *const u8,
+        folds_len: usize,
+        list: *const u8,
+        list_len: usize,
+        room: *mut u32,
+        room_len: usize,
+        row: u32,
+        col: u32,
+        held: u32,
+        sticky: u32,
+        big: u32,
+        count: u32,
+        out: *mut [u32; 4],
+    ) -> u32;
     pub fn tsivareza_word_u32(
         op: u32,
         text: *const u32,
@@ -183,4 +201,70 @@ unsafe extern "C" {
         count: u32,
         out: *mut [u32; 4],
     ) -> u32;
+
+    pub fn tsivareza_vertical(
+        op: u32,
+        text: *const u8,
+        text_len: usize,
+        folds: *const u8,
+        folds_len: usize,
+        room: *mut u32,
+        room_len: usize,
+        row: u32,
+        col: u32,
+        held: u32,
+        sticky: u32,
+        mode: u32,
+        width: u16,
+        count: u32,
+        tabstop: u32,
+        out: *mut [u32; 4],
+    ) -> u32;
+    pub fn tsivareza_vertical_u32(
+        op: u32,
+        text: *const u32,
+        text_len: usize,
+        folds: *const u32,
+        folds_len: usize,
+        row: u32,
+        col: u32,
+        held: u32,
+        sticky: u32,
+        mode: u32,
+        width: u16,
+        count: u32,
+        tabstop: u32,
+        out: *mut [u32; 4],
+    ) -> u32;
+
+    pub fn tsivareza_viewport(
+        op: u32,
+        text: *const u8,
+        text_len: usize,
+        room: *mut u32,
+        room_len: usize,
+        row: u32,
+        col: u32,
+        held: u32,
+        sticky: u32,
+        top: u32,
+        height: u16,
+        offset: u32,
+        out: *mut [u32; 4],
+    ) -> u32;
+    pub fn tsivareza_viewport_u32(
+        op: u32,
+        text: *const u32,
+        text_len: usize,
+        row: u32,
+        col: u32,
+        held: u32,
+        sticky: u32,
+        top: u32,
+        height: u16,
+        offset: u32,
+        out: *mut [u32; 4],
+    ) -> u32;
+
+    pub fn tsivareza_session(input: *const u8, input_len: usize, out: *mut [u8; 393240]) -> usize;
 }

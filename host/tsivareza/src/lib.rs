@@ -13,6 +13,15 @@
 //! ```
 
 mod raw;
+mod upright;
+
+// The examples of the papers are tests.
+#[cfg(doctest)]
+#[doc = include_str!("../../../README.md")]
+#[doc = include_str!("../../../docs/TUTORIAL.md")]
+struct Papers;
+
+pub use upright::{Steps, Vertical, Viewport, vertical, viewport};
 
 /// What the places for an answer hold before a call; a refusal leaves them so.
 const UNTOUCHED: u32 = 0x5EED_5EED;
@@ -168,7 +177,7 @@ impl Room {
 // ── Row wrapping ────────────────────────────────────────────────────
 
 /// How a row is broken.
-#[derive(Clone, Copy)]
+#[derive(Clone, Copy, Debug)]
 pub enum Wrap {
     None = 0,
     Char = 1,
@@ -357,26 +366,31 @@ pub enum Word {
     EndBack,
 }
 
-/// What a word motion takes beside text, caret and count.
+impl Word {
+    fn number(self) -> u32 {
+        match self {
+            Word::Fwd => 0,
+            Word::Back => 1,
+            Word::End { stop } => 2 + u32::from(stop),
+            Word::EndBack => 4,
+        }
+    }
+}
+
+/// What a word motion takes beside text, caret and count: folds and a keyword list, as code points or bytes.
 #[derive(Clone, Copy, Debug)]
-pub struct Words<'a> {
-    pub folds: &'a [u32],
-    pub list: &'a [u32],
+pub struct Words<'a, T = u32> {
+    pub folds: &'a [T],
+    pub list: &'a [T],
     pub big: bool,
 }
 
 pub fn word(which: Word, text: &[u32], k: Caret, words: Words, count: u32) -> Result<Caret, u32> {
-    let op = match which {
-        Word::Fwd => 0,
-        Word::Back => 1,
-        Word::End { stop } => 2 + u32::from(stop),
-        Word::EndBack => 4,
-    };
     let (held, sticky) = k.held();
     let Words { folds, list, big } = words;
     answer(|out| unsafe {
         raw::tsivareza_word_u32(
-            op,
+            which.number(),
             text.as_ptr(),
             text.len(),
             folds.as_ptr(),
@@ -393,4 +407,74 @@ pub fn word(which: Word, text: &[u32], k: Caret, words: Words, count: u32) -> Re
         )
     })
     .map(Caret::of)
+}
+
+impl Room {
+    /// The room takes the code points of the text, the folds and the list.
+    pub fn word(&mut self, which: Word, text: &[u8], k: Caret, words: Words<u8>, count: u32) -> Result<Caret, u32> {
+        let ((held, sticky), room) = (k.held(), &mut self.0);
+        let (points, most) = (room.as_mut_ptr(), room.len());
+        let Words { folds, list, big } = words;
+        answer(|out| unsafe {
+            raw::tsivareza_word(
+                which.number(),
+                text.as_ptr(),
+                text.len(),
+                folds.as_ptr(),
+                folds.len(),
+                list.as_ptr(),
+                list.len(),
+                points,
+                most,
+                k.row,
+                k.col,
+                held,
+                sticky,
+                big.into(),
+                count,
+                out,
+            )
+        })
+        .map(Caret::of)
+    }
+}
+
+// ── Session ─────────────────────────────────────────────────────────
+
+/// Room for the longest output of a session; that it is enough is proved.
+pub const SESSION_ROOM: usize = 393_240;
+
+/// What document 01's session prints: command rows, a row with only a full stop, and a text.
+///
+/// ```
+/// let input = b"w 1\nj 1\n% 1\n.\nif (n) {\nx (y)\n}\n";
+/// assert_eq!(tsivareza::session(input), b"w 0 3\nj 1 3\n% 1 2\n");
+/// assert_eq!(tsivareza::session(b"no full-stop row"), b"refused\n");
+/// ```
+pub fn session(input: &[u8]) -> Vec<u8> {
+    Printer::new().session(input)
+}
+
+/// Room for what sessions print, one after another.
+pub struct Printer(Box<[u8; SESSION_ROOM]>);
+
+impl Printer {
+    pub fn new() -> Printer {
+        Printer(Box::new([0xEE; SESSION_ROOM]))
+    }
+
+    /// As [`session`]; the thousand bytes past the output are seen to be as they were.
+    pub fn session(&mut self, input: &[u8]) -> Vec<u8> {
+        let count = unsafe { raw::tsivareza_session(input.as_ptr(), input.len(), &mut *self.0) };
+        assert!(self.0[count..].iter().take(1000).all(|&b| b == 0xEE), "a session wrote past its output");
+        let printed = self.0[..count].to_vec();
+        self.0[..count].fill(0xEE);
+        printed
+    }
+}
+
+impl Default for Printer {
+    fn default() -> Printer {
+        Printer::new()
+    }
 }

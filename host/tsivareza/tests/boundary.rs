@@ -1,6 +1,6 @@
 //! What the boundary itself refuses, and what it leaves in the lent room.
 
-use tsivareza::{Room, bytes, content_row_count};
+use tsivareza::{Caret, Room, Word, Words, bytes, content_row_count};
 
 #[test]
 fn bytes_that_make_no_whole_code_points() {
@@ -26,6 +26,22 @@ fn code_points_are_little_endian() {
     assert_eq!(room.content_row_count(&[0x42, 0x30, 0, 0, 0x0A, 0, 0, 0]), Ok(1));
     assert_eq!(room.points(), [0x3042, 0x0A, 0]);
     assert_eq!(room.content_row_count(&[0, 0, 0, 0x0A]), Err(2));
+}
+
+#[test]
+fn three_slices_share_the_room() {
+    let (text, folds, list) = (bytes(&[0x61, 0x20, 0x62]), bytes(&[0, 0, 1]), bytes(&[0x40]));
+    let start = Caret { row: 0, col: 0, sticky: None };
+    let word = |room: &mut Room, folds: &[u8], list: &[u8]| {
+        room.word(Word::Fwd, &text, start, Words { folds, list, big: false }, 1)
+    };
+    let mut room = Room::new(6);
+    assert_eq!(word(&mut room, &folds, &list), Err(102));
+    assert_eq!(word(&mut room, &folds[..11], &list[..1]), Err(101));
+    assert_eq!(room.points(), [0; 6]);
+    let mut room = Room::new(8);
+    assert_eq!(word(&mut room, &folds, &list), Ok(Caret { row: 0, col: 2, sticky: None }));
+    assert_eq!(room.points(), [0x61, 0x20, 0x62, 0, 0, 1, 0x40, 0]);
 }
 
 #[test]

@@ -1,0 +1,78 @@
+/* The header and the archive, tried from C: each argument list once, and some refusals. */
+#include "tsivareza.h"
+
+int printf(const char *, ...);
+
+static int failed;
+
+/* An answer's number and values against what they are to be. */
+static void expect(const char *what, uint32_t number, uint32_t wanted, const uint32_t *out,
+                   const uint32_t *values, size_t n) {
+    int good = number == wanted;
+    for (size_t i = 0; i < n; i++) good = good && out[i] == values[i];
+    if (!good) {
+        printf("FAILED: %s answers %u\n", what, number);
+        failed = 1;
+    }
+}
+
+#define SAYS(what, call, ...)                                                                       \
+    do {                                                                                            \
+        const uint32_t values[] = {__VA_ARGS__};                                                    \
+        uint32_t number = (call);                                                                   \
+        expect(what, number, 0, out, values, sizeof values / sizeof *values);                       \
+    } while (0)
+
+/* A refusal leaves `out` as it was. */
+#define REFUSES(what, call, wanted)                                                                 \
+    do {                                                                                            \
+        uint32_t before[5];                                                                         \
+        for (int i = 0; i < 5; i++) before[i] = out[i];                                             \
+        uint32_t number = (call);                                                                   \
+        expect(what, number, wanted, out, before, 5);                                               \
+    } while (0)
+
+int main(void) {
+    uint32_t out[5] = {7, 7, 7, 7, 7}, room[16], segments[4];
+    static const uint32_t branch[] = {'i', 'f', ' ', '(', 'n', ')', ' ', '{', 10, '}'};
+    static const uint32_t none[] = {0}, list[] = {'@', ',', '_'}, tab[] = {9, 'x'}, words[] = {'a', 'b', ' ', 'c', 'd'};
+    static const uint8_t bytes[] = {'(', 0, 0, 0, '[', 0, 0, 0, ')', 0, 0, 0, ']', 0, 0, 0};
+    static const uint8_t nothing[] = {0};
+
+    SAYS("width", tsivareza_character(TSIVAREZA_WIDTH, 0x3042, out), 2);
+    SAYS("is_keyword_char", tsivareza_keywords_u32(TSIVAREZA_IS_KEYWORD_CHAR, list, 3, 'z', out), 1);
+    SAYS("cursor_visual_col", tsivareza_columns_u32(TSIVAREZA_CURSOR_VISUAL_COL, tab, 2, 0, 8, out), 7);
+    SAYS("wrap_segments", tsivareza_wrap_segments_u32(TSIVAREZA_WRAP_WORD, words, 5, 4, segments, 4, out), 2);
+    SAYS("segment_for_col", tsivareza_segment_for_col_u32(segments, 4, 3, out), 1);
+    SAYS("visual_offset_for_char_col", tsivareza_offsets_u32(TSIVAREZA_VISUAL_OFFSET_FOR_CHAR_COL, words, 5, 3, 0, 4, out), 1);
+    SAYS("content_row_count", tsivareza_content_row_count_u32(branch, 10, out), 2);
+    SAYS("matching_bracket_pos", tsivareza_matching_bracket_pos_u32(branch, 10, 0, 7, out), 1, 1, 0);
+    SAYS("matching_bracket_pos on bytes", tsivareza_matching_bracket_pos(bytes, 16, room, 4, 0, 0, out), 1, 0, 2);
+    SAYS("move_line_end", tsivareza_motion_u32(TSIVAREZA_MOVE_LINE_END, branch, 10, 0, 0, 1, 5, 0, out), 0, 7, 1, 5);
+    SAYS("move_word_fwd", tsivareza_word_u32(TSIVAREZA_MOVE_WORD_FWD, branch, 10, none, 0, list, 3, 0, 0, 0, 0, 0, 1, out), 0, 3, 0, 0);
+    SAYS("move_word_end on bytes",
+         tsivareza_word(TSIVAREZA_MOVE_WORD_END, bytes, 16, nothing, 0, nothing, 0, room, 4, 0, 0, 0, 0, 1, 1, out), 0, 3, 0, 0);
+    SAYS("move_down", tsivareza_vertical_u32(TSIVAREZA_MOVE_DOWN, branch, 10, none, 0, 0, 7, 0, 0, 0, 0, 1, 8, out), 1, 0, 1, 7);
+    SAYS("move_screen_down",
+         tsivareza_vertical_u32(TSIVAREZA_MOVE_SCREEN_DOWN, branch, 10, none, 0, 0, 1, 0, 0, TSIVAREZA_WRAP_CHAR, 4, 1, 8, out), 0, 5, 1, 1);
+    SAYS("move_viewport_bottom", tsivareza_viewport_u32(TSIVAREZA_MOVE_VIEWPORT_BOTTOM, branch, 10, 0, 0, 0, 0, 0, 9, 0, out), 1, 0, 0, 0);
+    SAYS("match_bracket", tsivareza_seek_u32(TSIVAREZA_MATCH_BRACKET, branch, 10, 0, 4, 0, 0, 0, out), 1, 0, 3, 0, 0);
+    SAYS("find till", tsivareza_seek_u32(TSIVAREZA_FIND + TSIVAREZA_FIND_FORWARD + TSIVAREZA_FIND_TILL, branch, 10, 0, 0, 0, 0, '{', out),
+         1, 0, 6, 0, 0);
+
+    REFUSES("a caret outside", tsivareza_motion_u32(TSIVAREZA_MOVE_TOP, branch, 10, 2, 0, 0, 0, 0, out), 4);
+    REFUSES("no such motion", tsivareza_motion_u32(99, branch, 10, 0, 0, 0, 0, 0, out), 100);
+    REFUSES("half a code point", tsivareza_matching_bracket_pos(bytes, 15, room, 4, 0, 0, out), 101);
+    REFUSES("too little room", tsivareza_matching_bracket_pos(bytes, 16, room, 3, 0, 0, out), 102);
+
+    static uint8_t printed[TSIVAREZA_SESSION_ROOM];
+    static const char input[] = "$\n%\n.\n(a)\n", wanted[] = "$ 0 2\n% 0 0\n";
+    int good = tsivareza_session((const uint8_t *)input, sizeof input - 1, printed) == sizeof wanted - 1;
+    for (size_t i = 0; i < sizeof wanted - 1; i++) good = good && printed[i] == (uint8_t)wanted[i];
+    if (!good) {
+        printf("FAILED: the session\n");
+        failed = 1;
+    }
+    if (!failed) printf("the header and the archive agree\n");
+    return failed;
+}

@@ -1,0 +1,193 @@
+/* The proved calls of tsivareza for C. Link with libexports.a (x86-64 Linux).
+ *
+ * A call but the session answers 0 and puts its answer into `out`, or answers a number and leaves
+ * `out` as it was:
+ *     1  over 1,048,576 code points          6  a tabstop above 1,000
+ *     2  a value that is no scalar value     7  a keyword list over 1,024 code points, or with such a value
+ *     3  U+000B, C, D, U+0085, U+2028, 9     8  over 128 tokens kept of a keyword list
+ *     4  a caret outside the text            9  too little room for the segments
+ *     5  wrong folds                        10  segments of odd length
+ *   100  no such operation                 102  too little room for the code points
+ *   101  bytes that make no whole points   103  an answer that no uint32_t holds
+ *
+ * A text, row or list goes as code points (the `_u32` forms), or as bytes, four to a code point, the
+ * lowest first, with room for the code points: `room_len` counts uint32_t places, and where a call
+ * takes several byte strings they share it. A fold is three numbers: first row, last row, 1 where it
+ * is closed or else 0. A caret is its row and column; `held` is 0 where it has no sticky column, else
+ * `sticky` is that column. Answers with a caret hold row, column, held, sticky.
+ *
+ * Pointers are not null, also where a length is 0, and nothing that is written to overlaps anything
+ * else that is lent. */
+#ifndef TSIVAREZA_H
+#define TSIVAREZA_H
+
+#include <stddef.h>
+#include <stdint.h>
+
+#ifdef __cplusplus
+extern "C" {
+#endif
+
+/* Characters: out[0] is 1 or 0, or the width. */
+enum { TSIVAREZA_IS_SCALAR, TSIVAREZA_IS_WHITE, TSIVAREZA_IS_LETTER, TSIVAREZA_WIDTH };
+
+uint32_t tsivareza_character(uint32_t op, uint32_t x, uint32_t out[1]);
+
+/* Keyword lists: how many tokens are kept; whether the list's table, or the list read directly, holds x. */
+enum { TSIVAREZA_PARSE, TSIVAREZA_MATCHES, TSIVAREZA_IS_KEYWORD_CHAR };
+
+uint32_t tsivareza_keywords_u32(uint32_t op, const uint32_t *list, size_t list_len, uint32_t x,
+                                uint32_t out[1]);
+uint32_t tsivareza_keywords(uint32_t op, const uint8_t *list, size_t list_len, uint32_t *room,
+                            size_t room_len, uint32_t x, uint32_t out[1]);
+
+/* Tab columns of a row. */
+enum {
+    TSIVAREZA_VISUAL_COL_TO_CHAR_COL,
+    TSIVAREZA_CHAR_COL_TO_VISUAL_COL,
+    TSIVAREZA_CURSOR_VISUAL_COL,
+    TSIVAREZA_LEADING_VISUAL_WIDTH
+};
+
+uint32_t tsivareza_columns_u32(uint32_t op, const uint32_t *row, size_t row_len, uint32_t col,
+                               uint32_t tabstop, uint32_t out[1]);
+uint32_t tsivareza_columns(uint32_t op, const uint8_t *row, size_t row_len, uint32_t *room,
+                           size_t room_len, uint32_t col, uint32_t tabstop, uint32_t out[1]);
+
+/* Wrapping: modes; out[0] counts the segments, which stand in `segments` as start, end, start, end .. */
+enum { TSIVAREZA_WRAP_NONE, TSIVAREZA_WRAP_CHAR, TSIVAREZA_WRAP_WORD };
+
+uint32_t tsivareza_wrap_segments_u32(uint32_t mode, const uint32_t *row, size_t row_len, uint16_t width,
+                                     uint32_t *segments, size_t segments_len, uint32_t out[1]);
+uint32_t tsivareza_wrap_segments(uint32_t mode, const uint8_t *row, size_t row_len, uint32_t *room,
+                                 size_t room_len, uint16_t width, uint32_t *segments,
+                                 size_t segments_len, uint32_t out[1]);
+
+/* The segment of a column. */
+uint32_t tsivareza_segment_for_col_u32(const uint32_t *segments, size_t segments_len, uint32_t col,
+                                       uint32_t out[1]);
+uint32_t tsivareza_segment_for_col(const uint8_t *segments, size_t segments_len, uint32_t *room,
+                                   size_t room_len, uint32_t col, uint32_t out[1]);
+
+/* Cells within a segment: the character at a visual offset, and back (which takes no end). */
+enum { TSIVAREZA_CHAR_COL_FOR_VISUAL_OFFSET, TSIVAREZA_VISUAL_OFFSET_FOR_CHAR_COL };
+
+uint32_t tsivareza_offsets_u32(uint32_t op, const uint32_t *row, size_t row_len, uint32_t start,
+                               uint32_t end, uint32_t at, uint32_t out[1]);
+uint32_t tsivareza_offsets(uint32_t op, const uint8_t *row, size_t row_len, uint32_t *room,
+                           size_t room_len, uint32_t start, uint32_t end, uint32_t at, uint32_t out[1]);
+
+/* How many rows with content a text has. */
+uint32_t tsivareza_content_row_count_u32(const uint32_t *text, size_t text_len, uint32_t out[1]);
+uint32_t tsivareza_content_row_count(const uint8_t *text, size_t text_len, uint32_t *room,
+                                     size_t room_len, uint32_t out[1]);
+
+/* The partner of a bracket: 1, row, column, or 0, 0, 0 where it has none. */
+uint32_t tsivareza_matching_bracket_pos_u32(const uint32_t *text, size_t text_len, uint32_t row,
+                                            uint32_t col, uint32_t out[3]);
+uint32_t tsivareza_matching_bracket_pos(const uint8_t *text, size_t text_len, uint32_t *room,
+                                        size_t room_len, uint32_t row, uint32_t col, uint32_t out[3]);
+
+/* Motions of a text and a caret; a count of 0 acts as the Rust has it. */
+enum {
+    TSIVAREZA_MOVE_LEFT,
+    TSIVAREZA_MOVE_RIGHT_IN_LINE,
+    TSIVAREZA_MOVE_RIGHT_TO_END,
+    TSIVAREZA_MOVE_SPACE_FWD,
+    TSIVAREZA_MOVE_BACKSPACE_BACK,
+    TSIVAREZA_MOVE_LINE_START,
+    TSIVAREZA_MOVE_FIRST_NON_BLANK,
+    TSIVAREZA_MOVE_LINE_END,
+    TSIVAREZA_MOVE_GOTO_COLUMN,
+    TSIVAREZA_MOVE_LAST_NON_BLANK,
+    TSIVAREZA_MOVE_PARAGRAPH_PREV,
+    TSIVAREZA_MOVE_PARAGRAPH_NEXT,
+    TSIVAREZA_MOVE_SECTION_BACKWARD,
+    TSIVAREZA_MOVE_SECTION_FORWARD,
+    TSIVAREZA_MOVE_SECTION_END_BACKWARD,
+    TSIVAREZA_MOVE_SECTION_END_FORWARD,
+    TSIVAREZA_MOVE_FIRST_NON_BLANK_NEXT_LINE,
+    TSIVAREZA_MOVE_FIRST_NON_BLANK_PREV_LINE,
+    TSIVAREZA_MOVE_FIRST_NON_BLANK_LINE,
+    TSIVAREZA_MOVE_TOP,
+    TSIVAREZA_MOVE_BOTTOM
+};
+
+uint32_t tsivareza_motion_u32(uint32_t op, const uint32_t *text, size_t text_len, uint32_t row,
+                              uint32_t col, uint32_t held, uint32_t sticky, uint32_t count,
+                              uint32_t out[4]);
+uint32_t tsivareza_motion(uint32_t op, const uint8_t *text, size_t text_len, uint32_t *room,
+                          size_t room_len, uint32_t row, uint32_t col, uint32_t held, uint32_t sticky,
+                          uint32_t count, uint32_t out[4]);
+
+/* Word motions, big words where `big` is not 0; MOVE_WORD_END_BACK takes no folds. */
+enum {
+    TSIVAREZA_MOVE_WORD_FWD,
+    TSIVAREZA_MOVE_WORD_BACK,
+    TSIVAREZA_MOVE_WORD_END,
+    TSIVAREZA_MOVE_WORD_END_STOP,
+    TSIVAREZA_MOVE_WORD_END_BACK
+};
+
+uint32_t tsivareza_word_u32(uint32_t op, const uint32_t *text, size_t text_len, const uint32_t *folds,
+                            size_t folds_len, const uint32_t *list, size_t list_len, uint32_t row,
+                            uint32_t col, uint32_t held, uint32_t sticky, uint32_t big, uint32_t count,
+                            uint32_t out[4]);
+uint32_t tsivareza_word(uint32_t op, const uint8_t *text, size_t text_len, const uint8_t *folds,
+                        size_t folds_len, const uint8_t *list, size_t list_len, uint32_t *room,
+                        size_t room_len, uint32_t row, uint32_t col, uint32_t held, uint32_t sticky,
+                        uint32_t big, uint32_t count, uint32_t out[4]);
+
+/* Up, down and the screen; mode and width matter to the screen moves alone. */
+enum {
+    TSIVAREZA_MOVE_UP,
+    TSIVAREZA_MOVE_DOWN,
+    TSIVAREZA_MOVE_SCREEN_UP,
+    TSIVAREZA_MOVE_SCREEN_DOWN
+};
+
+uint32_t tsivareza_vertical_u32(uint32_t op, const uint32_t *text, size_t text_len,
+                                const uint32_t *folds, size_t folds_len, uint32_t row, uint32_t col,
+                                uint32_t held, uint32_t sticky, uint32_t mode, uint16_t width,
+                                uint32_t count, uint32_t tabstop, uint32_t out[4]);
+uint32_t tsivareza_vertical(uint32_t op, const uint8_t *text, size_t text_len, const uint8_t *folds,
+                            size_t folds_len, uint32_t *room, size_t room_len, uint32_t row,
+                            uint32_t col, uint32_t held, uint32_t sticky, uint32_t mode, uint16_t width,
+                            uint32_t count, uint32_t tabstop, uint32_t out[4]);
+
+/* The viewport: `offset` rows from its edge. TOP takes no height, MIDDLE no offset. */
+enum { TSIVAREZA_MOVE_VIEWPORT_TOP, TSIVAREZA_MOVE_VIEWPORT_MIDDLE, TSIVAREZA_MOVE_VIEWPORT_BOTTOM };
+
+uint32_t tsivareza_viewport_u32(uint32_t op, const uint32_t *text, size_t text_len, uint32_t row,
+                                uint32_t col, uint32_t held, uint32_t sticky, uint32_t top,
+                                uint16_t height, uint32_t offset, uint32_t out[4]);
+uint32_t tsivareza_viewport(uint32_t op, const uint8_t *text, size_t text_len, uint32_t *room,
+                            size_t room_len, uint32_t row, uint32_t col, uint32_t held, uint32_t sticky,
+                            uint32_t top, uint16_t height, uint32_t offset, uint32_t out[4]);
+
+/* Searches in the caret's row: MATCH_BRACKET, which seeks no character, or FIND plus any of the
+ * flags. Answers 1 or 0, found or missing, and the caret. */
+enum {
+    TSIVAREZA_MATCH_BRACKET,
+    TSIVAREZA_FIND,
+    TSIVAREZA_FIND_FORWARD = 1,
+    TSIVAREZA_FIND_TILL = 2,
+    TSIVAREZA_FIND_SKIP_ADJACENT = 4
+};
+
+uint32_t tsivareza_seek_u32(uint32_t op, const uint32_t *text, size_t text_len, uint32_t row,
+                            uint32_t col, uint32_t held, uint32_t sticky, uint32_t x, uint32_t out[5]);
+uint32_t tsivareza_seek(uint32_t op, const uint8_t *text, size_t text_len, uint32_t *room,
+                        size_t room_len, uint32_t row, uint32_t col, uint32_t held, uint32_t sticky,
+                        uint32_t x, uint32_t out[5]);
+
+/* A session: command rows, a row with only a full stop, and a text, to the lines that they print.
+ * Answers how many bytes of `out` those are; there is always room. */
+enum { TSIVAREZA_SESSION_ROOM = 393240 };
+
+size_t tsivareza_session(const uint8_t *input, size_t input_len, uint8_t out[393240]);
+
+#ifdef __cplusplus
+}
+#endif
+#endif

@@ -1,0 +1,151 @@
+//! The proved library and the given Rust on the same inputs, in one run. `./speed` builds it for this
+//! machine's processor. Times are the best of several runs; read the ratios.
+//!
+//! A case goes to both as it stands in the oracle: code points, checked by document 01's rules, and
+//! for the Rust made into its text. A case in a process of its own is given up after `PATIENCE`.
+
+use compare::port;
+use oracle::case::{Call, Case, Input};
+use oracle::{Caret, Viewport, Wrap, generate};
+use std::hint::black_box;
+use std::io::{BufRead, BufReader};
+use std::process::{Command, Stdio};
+use std::sync::mpsc;
+use std::time::{Duration, Instant};
+
+const PATIENCE: Duration = Duration::from_secs(20);
+const SIZES: [(&str, usize); 3] =
+    [("A bulletin, 2,000 code points", 2_000), ("A template, 100,000", 100_000), ("The largest text, 1,048,576", 1_048_576)];
+
+/// The best time of a call, in nanoseconds: seven runs, or as many as a second allows.
+fn best(mut call: impl FnMut()) -> f64 {
+    let (begun, mut least) = (Instant::now(), f64::MAX);
+    for _ in 0..7 {
+        let start = Instant::now();
+        call();
+        least = least.min(start.elapsed().as_nanos() as f64);
+        if begun.elapsed() > Duration::from_secs(1) {
+            break;
+        }
+    }
+    least
+}
+
+/// Half letters of ASCII, half accented ones, in words of five; rows of sixty unless it is one row.
+fn prose(n: usize, one_row: bool) -> Vec<u32> {
+    let at = |i: usize| match i {
+        i if !one_row && i % 60 == 59 => 0x0A,
+        i if i % 6 == 5 => 0x20,
+        i if i % 12 < 6 => 0x61 + (i % 26) as u32,
+        i => 0xE0 + (i % 20) as u32,
+    };
+    (0..n).map(at).collect()
+}
+
+/// The case of a call at a size: from the middle of a text between two brackets, or of a row.
+fn case(call: &'static Call, n: usize, count: u32) -> Case {
+    let mut case = Case::new(call);
+    case.text = prose(n, false);
+    (case.text[0], case.text[n - 1]) = (0x28, 0x29);
+    case.line = prose(n, true);
+    let middle = (n / 120) as u32;
+    case.caret = if call.name.starts_with("match") { Caret::at(0, 0) } else { Caret::at(middle, 5) };
+    (case.count, case.tabstop, case.character) = (count, 8, 0x7A);
+    case.list = oracle::points("@,48-57,_,192-255");
+    case.view = Viewport { top: middle, height: 40, width: 80, wrap: Wrap::Word };
+    (case.start, case.end, case.column, case.room) = (0, n as u32, n as u32 - 1, n as u32 / 10);
+    case.segments = (0..n as u32 / 80).flat_map(|i| [80 * i, 80 * i + 80]).collect();
+    (case.forward, case.till) = (true, false);
+    case
+}
+
+/// One case, in this process: the library's time, then the Rust's.
+fn measure(name: &str, n: usize, count: u32) -> Result<(), String> {
+    let case = case(oracle::case::call(name)?, n, count);
+    if port(&case, None) != case.answer() {
+        return Err(format!("the answers differ on {name}"));
+    }
+    println!("{}", best(|| drop(black_box(port(black_box(&case), None)))));
+    println!("{}", best(|| drop(black_box(black_box(&case).answer()))));
+    Ok(())
+}
+
+/// The library's time of a case in a process of its own, without the Rust, which may not come back.
+fn alone(name: &str, n: usize, count: u32) -> Result<(), String> {
+    let case = case(oracle::case::call(name)?, n, count);
+    println!("{}", best(|| drop(black_box(port(black_box(&case), None)))));
+    Ok(())
+}
+
+/// What a process of this program prints, or nothing where it takes too long.
+fn ask(words: &[&str]) -> Option<Vec<f64>> {
+    let this = std::env::current_exe().expect("this program");
+    let mut child = Command::new(this).args(words).stdout(Stdio::piped()).spawn().expect("a process");
+    let out = BufReader::new(child.stdout.take().expect("its output"));
+    let (send, times) = mpsc::channel();
+    std::thread::spawn(move || {
+        let read: Vec<f64> = out.lines().map_while(Result::ok).filter_map(|line| line.parse().ok()).collect();
+        let _ = send.send(read);
+    });
+    let read = times.recv_timeout(PATIENCE).ok();
+    let _ = child.kill();
+    let _ = child.wait();
+    read
+}
+
+fn shown(ns: f64) -> String {
+    match ns {
+        ns if ns < 10_000.0 => format!("{ns:.0} ns"),
+        ns if ns < 1e6 => format!("{:.1} µs", ns / 1e3),
+        ns => format!("{:.2} ms", ns / 1e6),
+    }
+}
+
+fn table() -> Result<(), String> {
+    for (what, n) in SIZES {
+        println!("\n## {what}\n\n| Call | Library | Given Rust | Ratio |\n|---|---|---|---|");
+        let size = n.to_string();
+        for call in generate::calls(&[])? {
+            let sized = [Input::Text, Input::Line, Input::Segments].iter().any(|x| call.takes.contains(x));
+            if !sized && n != SIZES[0].1 {
+                continue;
+            }
+            let counts: &[u32] = if call.takes.contains(&Input::Count) { &[1, u32::MAX] } else { &[0] };
+            for &count in counts {
+                let with = match count {
+                    0 => "",
+                    1 => ", count 1",
+                    _ => ", largest count",
+                };
+                let count = count.to_string();
+                match ask(&["measure", call.name, &size, &count]).as_deref() {
+                    Some(&[library, rust]) => {
+                        println!("| `{}`{with} | {} | {} | {:.2} |", call.name, shown(library), shown(rust), library / rust);
+                    }
+                    Some(_) => return Err(format!("no times of {}", call.name)),
+                    None => {
+                        let Some(&[library]) = ask(&["alone", call.name, &size, &count]).as_deref() else {
+                            return Err(format!("the library took over {PATIENCE:?} on {}", call.name));
+                        };
+                        println!("| `{}`{with} | {} | over {} s | |", call.name, shown(library), PATIENCE.as_secs());
+                    }
+                }
+            }
+        }
+    }
+    Ok(())
+}
+
+fn main() {
+    let words: Vec<String> = std::env::args().skip(1).collect();
+    let number = |i: usize| words[i].parse::<u64>().expect("a number");
+    let done = match words.first().map(String::as_str) {
+        Some("measure") => measure(&words[1], number(2) as usize, number(3) as u32),
+        Some("alone") => alone(&words[1], number(2) as usize, number(3) as u32),
+        _ => table(),
+    };
+    if let Err(why) = done {
+        eprintln!("speed: {why}");
+        std::process::exit(1);
+    }
+}

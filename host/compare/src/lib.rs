@@ -1,0 +1,173 @@
+//! What the proved library answers to a case of the oracle's, in the oracle's terms.
+
+use oracle::Outcome;
+use oracle::case::{Case, FILLER};
+use tsivareza::{self as lib, Columns, Keywords, Offsets, Room, Seek, Steps, Vertical, Viewport, Word, Words, bytes};
+
+/// The answer on code points, which the one on bytes must equal where it was asked for.
+fn both<T: PartialEq + std::fmt::Debug>(case: &Case, on_points: T, on_bytes: Option<T>) -> T {
+    if let Some(on_bytes) = on_bytes {
+        assert_eq!(on_bytes, on_points, "the two forms of a call differ on: {case}");
+    }
+    on_points
+}
+
+fn number(n: Result<u32, u32>) -> Outcome {
+    n.map_or_else(Outcome::Refused, |n| Outcome::Number(n.into()))
+}
+
+fn truth(n: Result<u32, u32>) -> Outcome {
+    n.map_or_else(Outcome::Refused, |n| Outcome::Truth(n == 1))
+}
+
+fn caret(k: lib::Caret) -> oracle::Caret {
+    oracle::Caret { row: k.row, col: k.col, sticky: k.sticky }
+}
+
+fn moved(k: Result<lib::Caret, u32>) -> Outcome {
+    k.map_or_else(Outcome::Refused, |k| Outcome::Moved(caret(k)))
+}
+
+/// What the library answers: on code points, and with a room on bytes too.
+pub fn port(case: &Case, mut room: Option<&mut Room>) -> Outcome {
+    let (text, line, list, x, col) = (&case.text, &case.line, &case.list, case.character, case.column);
+    let k = lib::Caret { row: case.caret.row, col: case.caret.col, sticky: case.caret.sticky };
+    if let Some(&(_, which)) = lib::MOTIONS.iter().find(|(name, _)| *name == case.call.name) {
+        let on_bytes = room.map(|room| room.motion(which, &bytes(text), k, case.count));
+        return moved(both(case, lib::motion(which, text, k, case.count), on_bytes));
+    }
+    if let Some(which) = vertical(case) {
+        let (folds, count, tabstop) = (&case.folds[..], case.count, case.tabstop);
+        let on_bytes =
+            room.map(|room| room.vertical(which, &bytes(text), k, Steps { folds: &bytes(folds), count, tabstop }));
+        return moved(both(case, lib::vertical(which, text, k, Steps { folds, count, tabstop }), on_bytes));
+    }
+    if let Some(which) = viewport(case) {
+        let on_bytes = room.map(|room| room.viewport(which, &bytes(text), k));
+        return moved(both(case, lib::viewport(which, text, k), on_bytes));
+    }
+    if let Some(which) = word(case) {
+        let (count, big, folds) = (case.count, case.big, &case.folds);
+        let on_bytes = room.map(|room| {
+            let words = Words { folds: &bytes(folds)[..], list: &bytes(list)[..], big };
+            room.word(which, &bytes(text), k, words, count)
+        });
+        return moved(both(case, lib::word(which, text, k, Words { folds: &folds[..], list: &list[..], big }, count), on_bytes));
+    }
+    let mut keywords = |asked| {
+        let on_bytes = room.as_mut().map(|room| room.keywords(asked, &bytes(list)));
+        both(case, lib::keywords(asked, list), on_bytes)
+    };
+    match case.call.name {
+        "is_scalar" => return Outcome::Truth(lib::is_scalar(x)),
+        "is_white" => return Outcome::Truth(lib::is_white(x)),
+        "is_letter" => return Outcome::Truth(lib::is_letter(x)),
+        "width" => return Outcome::Number(lib::width(x).into()),
+        "parse" => return number(keywords(Keywords::Parse)),
+        "matches" => return truth(keywords(Keywords::Matches(x))),
+        "is_keyword_char" => return truth(keywords(Keywords::IsKeywordChar(x))),
+        _ => {}
+    }
+    let mut columns = |asked| {
+        let on_bytes = room.as_mut().map(|room| room.columns(asked, &bytes(line), case.tabstop));
+        number(both(case, lib::columns(asked, line, case.tabstop), on_bytes))
+    };
+    match case.call.name {
+        "visual_col_to_char_col" => return columns(Columns::VisualColToCharCol(col)),
+        "char_col_to_visual_col" => return columns(Columns::CharColToVisualCol(col)),
+        "cursor_visual_col" => return columns(Columns::CursorVisualCol(col)),
+        "leading_visual_width" => return columns(Columns::LeadingVisualWidth),
+        _ => {}
+    }
+    let mut offsets = |asked| {
+        let on_bytes = room.as_mut().map(|room| room.offsets(asked, &bytes(line)));
+        number(both(case, lib::offsets(asked, line), on_bytes))
+    };
+    let (start, end) = (case.start, case.end);
+    match case.call.name {
+        "char_col_for_visual_offset" => return offsets(Offsets::CharColForVisualOffset { start, end, offset: col }),
+        "visual_offset_for_char_col" => return offsets(Offsets::VisualOffsetForCharCol { start, col }),
+        _ => {}
+    }
+    let mut seek = |which| {
+        let on_bytes = room.as_mut().map(|room| room.seek(which, &bytes(text), k));
+        let sought = both(case, lib::seek(which, text, k), on_bytes);
+        sought.map_or_else(Outcome::Refused, |(found, k)| Outcome::Told(found, caret(k)))
+    };
+    match case.call.name {
+        "match_bracket" => seek(Seek::MatchBracket),
+        "find_char_on_line" => {
+            seek(Seek::FindCharOnLine { x, forward: case.forward, till: case.till, skip_adjacent: case.skip })
+        }
+        "matching_bracket_pos" => {
+            let on_bytes = room.map(|room| room.matching_bracket_pos(&bytes(text), k.row, k.col));
+            let place = both(case, lib::matching_bracket_pos(text, k.row, k.col), on_bytes);
+            place.map_or_else(Outcome::Refused, Outcome::Place)
+        }
+        "segment_for_col" => {
+            let on_bytes = room.map(|room| room.segment_for_col(&bytes(&case.segments), col));
+            number(both(case, lib::segment_for_col(&case.segments, col), on_bytes))
+        }
+        "content_row_count" => {
+            let on_bytes = room.map(|room| room.content_row_count(&bytes(text)));
+            number(both(case, lib::content_row_count(text), on_bytes))
+        }
+        "wrap_segments" => wrapped(case, room),
+        name => panic!("no call `{name}`"),
+    }
+}
+
+fn word(case: &Case) -> Option<Word> {
+    match case.call.name {
+        "move_word_fwd" => Some(Word::Fwd),
+        "move_word_back" => Some(Word::Back),
+        "move_word_end" => Some(Word::End { stop: case.stop }),
+        "move_word_end_back" => Some(Word::EndBack),
+        _ => None,
+    }
+}
+
+fn vertical(case: &Case) -> Option<Vertical> {
+    let (mode, width) = (mode(case), case.view.width);
+    match case.call.name {
+        "move_up" => Some(Vertical::Up),
+        "move_down" => Some(Vertical::Down),
+        "move_screen_up" => Some(Vertical::ScreenUp { mode, width }),
+        "move_screen_down" => Some(Vertical::ScreenDown { mode, width }),
+        _ => None,
+    }
+}
+
+fn viewport(case: &Case) -> Option<Viewport> {
+    let (top, height, offset) = (case.view.top, case.view.height, case.count);
+    match case.call.name {
+        "move_viewport_top" => Some(Viewport::Top { top, offset }),
+        "move_viewport_middle" => Some(Viewport::Middle { top, height }),
+        "move_viewport_bottom" => Some(Viewport::Bottom { top, height, offset }),
+        _ => None,
+    }
+}
+
+fn mode(case: &Case) -> lib::Wrap {
+    match case.view.wrap {
+        oracle::Wrap::None => lib::Wrap::None,
+        oracle::Wrap::Char => lib::Wrap::Char,
+        oracle::Wrap::Word => lib::Wrap::Word,
+    }
+}
+
+/// `wrap_segments`, the places lent for segments watched.
+fn wrapped(case: &Case, room: Option<&mut Room>) -> Outcome {
+    let (mode, line, width) = (mode(case), &case.line, case.view.width);
+    let mut segments = vec![FILLER; case.room as usize];
+    let on_points = lib::wrap_segments(line, width, mode, &mut segments);
+    if let Some(room) = room {
+        let mut again = vec![FILLER; case.room as usize];
+        let on_bytes = room.wrap_segments(&bytes(line), width, mode, &mut again);
+        let _ = both(case, (on_points, &segments), Some((on_bytes, &again)));
+    }
+    if on_points.is_err() {
+        assert!(segments.iter().all(|&x| x == FILLER), "a refusal wrote segments on: {case}");
+    }
+    on_points.map_or_else(Outcome::Refused, |count| Outcome::Segments(count, segments))
+}

@@ -1,0 +1,200 @@
+//! The list that the program `replay` runs: cases with the given Rust's answers, as rows of decimal numbers.
+//!
+//! A row is the call's group and its operation there, eight numbers, how many numbers follow of a text or row, of folds and
+//! of a list (keywords, or segments), those, and the answer: 0 or the refusal's number, and what the places lent for the
+//! answer and for segments hold afterwards. A space ends each number but the last; `3*97` is 97 three times.
+
+use crate::case::{CALLS, Call, Case, FILLER};
+use crate::generate::{self, Dice};
+use crate::{Outcome, Wrap};
+
+const SEED: u64 = 9;
+
+/// Random cases of each call, and how many code points their texts have at most.
+const CASES: usize = 80;
+const LONGEST: usize = 40;
+
+/// A longer row is left out, and so are calls of `wrap_segments` with more places.
+const WIDEST: usize = 2_000;
+const MOST_PLACES: u32 = 64;
+
+/// The motions of one argument list by their operation, in the order of motions.rs.
+const MOTIONS: [&str; 21] = [
+    "move_left",
+    "move_right_in_line",
+    "move_right_to_end",
+    "move_space_fwd",
+    "move_backspace_back",
+    "move_line_start",
+    "move_first_non_blank",
+    "move_line_end",
+    "move_goto_column",
+    "move_last_non_blank",
+    "move_paragraph_prev",
+    "move_paragraph_next",
+    "move_section_backward",
+    "move_section_forward",
+    "move_section_end_backward",
+    "move_section_end_forward",
+    "move_first_non_blank_next_line",
+    "move_first_non_blank_prev_line",
+    "move_first_non_blank_line",
+    "move_top",
+    "move_bottom",
+];
+
+/// A case as the program takes it: group, operation and numbers, and the places lent for the answer.
+struct Asked<'a> {
+    head: Vec<u32>,
+    places: usize,
+    text: &'a [u32],
+    folds: &'a [u32],
+    list: &'a [u32],
+}
+
+fn asked(k: &Case) -> Asked<'_> {
+    let (group, op, numbers) = numbers(k);
+    let places = match group {
+        7 => 3,
+        8 | 10..=12 => 4,
+        9 => 5,
+        _ => 1,
+    };
+    let mut head = vec![group, op];
+    head.extend(numbers);
+    head.resize(10, 0);
+    let (text, folds, list): (&[u32], &[u32], &[u32]) = match group {
+        0 => (&[], &[], &[]),
+        1 => (&[], &[], &k.list),
+        2 | 3 | 5 => (&k.line, &[], &[]),
+        4 => (&[], &[], &k.segments),
+        10 if op == 4 => (&k.text, &[], &k.list),
+        10 => (&k.text, &k.folds, &k.list),
+        11 => (&k.text, &k.folds, &[]),
+        _ => (&k.text, &[], &[]),
+    };
+    Asked { head, places, text, folds, list }
+}
+
+/// Group, operation, and the numbers that it takes, in the order of the exports.
+fn numbers(k: &Case) -> (u32, u32, Vec<u32>) {
+    let (row, col, count) = (k.caret.row, k.caret.col, k.count);
+    let (held, sticky) = (k.caret.sticky.is_some().into(), k.caret.sticky.unwrap_or(0));
+    let caret = |more: &[u32]| [&[row, col, held, sticky], more].concat();
+    if let Some(op) = MOTIONS.iter().position(|name| *name == k.call.name) {
+        return (8, op as u32, caret(&[count]));
+    }
+    let (x, at, tab) = (k.character, k.column, k.tabstop);
+    let word = |op| (10, op, caret(&[count, k.big.into()]));
+    let (top, height, width, wrap) = (k.view.top, k.view.height.into(), k.view.width.into(), mode(k.view.wrap));
+    let upright = |op| (11, op, caret(&[count, tab, wrap, width]));
+    let edge = |op, offset| (12, op, caret(&[offset, top, height]));
+    match k.call.name {
+        "is_scalar" => (0, 0, vec![x]),
+        "is_white" => (0, 1, vec![x]),
+        "is_letter" => (0, 2, vec![x]),
+        "width" => (0, 3, vec![x]),
+        "parse" => (1, 0, vec![0]),
+        "matches" => (1, 1, vec![x]),
+        "is_keyword_char" => (1, 2, vec![x]),
+        "visual_col_to_char_col" => (2, 0, vec![at, tab]),
+        "char_col_to_visual_col" => (2, 1, vec![at, tab]),
+        "cursor_visual_col" => (2, 2, vec![at, tab]),
+        "leading_visual_width" => (2, 3, vec![0, tab]),
+        "char_col_for_visual_offset" => (3, 0, vec![k.start, k.end, at]),
+        "visual_offset_for_char_col" => (3, 1, vec![k.start, 0, at]),
+        "segment_for_col" => (4, 0, vec![at]),
+        "wrap_segments" => (5, wrap, vec![width, k.room]),
+        "content_row_count" => (6, 0, vec![]),
+        "matching_bracket_pos" => (7, 0, vec![row, col]),
+        "match_bracket" => (9, 0, caret(&[0])),
+        "find_char_on_line" => {
+            (9, 1 + u32::from(k.forward) + 2 * u32::from(k.till) + 4 * u32::from(k.skip), caret(&[x]))
+        }
+        "move_word_fwd" => word(0),
+        "move_word_back" => word(1),
+        "move_word_end" => word(2 + u32::from(k.stop)),
+        "move_word_end_back" => word(4),
+        "move_up" => upright(0),
+        "move_down" => upright(1),
+        "move_screen_up" => upright(2),
+        "move_screen_down" => upright(3),
+        "move_viewport_top" => edge(0, count),
+        "move_viewport_middle" => edge(1, 0),
+        "move_viewport_bottom" => edge(2, count),
+        name => unreachable!("{name} has no group"),
+    }
+}
+
+fn mode(wrap: Wrap) -> u32 {
+    match wrap {
+        Wrap::None => 0,
+        Wrap::Char => 1,
+        Wrap::Word => 2,
+    }
+}
+
+/// The number and the places afterwards; nothing where there is no answer to compare with.
+fn answer(k: &Case, places: usize, outcome: &Outcome) -> Option<Vec<u32>> {
+    let held = |c: &crate::Caret| [c.row, c.col, c.sticky.is_some().into(), c.sticky.unwrap_or(0)];
+    Some(match outcome {
+        Outcome::Refused(number) => {
+            let lent = if k.call.name == "wrap_segments" { k.room as usize } else { 0 };
+            [vec![*number], vec![FILLER; places + lent]].concat()
+        }
+        Outcome::Moved(caret) => [&[0][..], &held(caret)].concat(),
+        Outcome::Told(truth, caret) => [&[0, u32::from(*truth)][..], &held(caret)].concat(),
+        Outcome::Place(None) => vec![0, 0, 0, 0],
+        Outcome::Place(Some((row, col))) => vec![0, 1, *row, *col],
+        Outcome::Number(n) => vec![0, u32::try_from(*n).expect("an answer that a u32 holds")],
+        Outcome::Truth(truth) => vec![0, u32::from(*truth)],
+        Outcome::Segments(count, room) => [&[0, *count], &room[..]].concat(),
+        Outcome::Outside => return None,
+    })
+}
+
+/// A case of the list: its numbers, and the case and its answer in words.
+pub struct Row {
+    pub call: &'static Call,
+    pub outcome: Outcome,
+    pub numbers: String,
+    pub words: String,
+}
+
+/// The row of a case; nothing where the list leaves it out.
+fn row(k: &Case) -> Option<Row> {
+    if k.call.name == "wrap_segments" && k.room > MOST_PLACES {
+        return None;
+    }
+    let Asked { head, places, text, folds, list } = asked(k);
+    let counts = [text, folds, list].map(|part| part.len() as u32);
+    let given = written(&[&head, &counts, text, folds, list]);
+    if given.len() > WIDEST {
+        return None;
+    }
+    let outcome = k.answer();
+    let numbers = [given, written(&[&answer(k, places, &outcome)?])].join(" ");
+    Some(Row { call: k.call, words: format!("{k} -> {outcome}"), outcome, numbers })
+}
+
+/// The numbers of some parts; no run goes on from one part into the next.
+fn written(parts: &[&[u32]]) -> String {
+    let runs = parts.iter().flat_map(|part| part.chunk_by(|a, b| a == b)).map(|run| match run.len() {
+        n @ 1..4 => vec![run[0].to_string(); n].join(" "),
+        n => format!("{n}*{}", run[0]),
+    });
+    runs.collect::<Vec<_>>().join(" ")
+}
+
+/// The rows of a call: random cases on short texts, then the limits.
+fn rows(call: &'static Call) -> Vec<Row> {
+    let random = (0..).map(|index| generate::random(call, &mut Dice::new(SEED, index)));
+    let short = random.filter(|k| k.text.len() <= LONGEST && k.line.len() <= LONGEST);
+    let limits = generate::limits(call).into_iter().filter_map(|k| row(&k));
+    short.filter_map(|k| row(&k)).take(CASES).chain(limits).collect()
+}
+
+/// The rows of the list, in its order.
+pub fn list() -> Vec<Row> {
+    CALLS.iter().flat_map(rows).collect()
+}

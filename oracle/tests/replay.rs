@@ -1,0 +1,51 @@
+//! The stored list of the program `replay` is what `oracle replay` writes, and reaches every call and every refusal.
+
+use oracle::case::{CALLS, Case, Input};
+use oracle::{Outcome, replay};
+use std::collections::BTreeSet;
+
+/// The refusals that a call has, by what it takes (document 01, "Refusal numbers").
+fn refusals(case: &Case) -> BTreeSet<u32> {
+    let parsed = case.takes(Input::List) && case.call.name != "is_keyword_char";
+    let asked = case.takes(Input::Character) && case.call.takes.len() > 1;
+    let by_input: [(bool, &[u32]); 9] = [
+        (case.takes(Input::Text), &[1, 2, 3]),
+        (case.takes(Input::Line), &[1, 2]),
+        (asked, &[2]),
+        (case.takes(Input::Caret), &[4]),
+        (case.takes(Input::Folds), &[5]),
+        (case.takes(Input::Tabstop), &[6]),
+        (case.takes(Input::List), &[7]),
+        (parsed, &[8]),
+        (case.takes(Input::Segments), &[10]),
+    ];
+    let mut all: BTreeSet<u32> = by_input.iter().filter(|(takes, _)| *takes).flat_map(|(_, n)| *n).copied().collect();
+    if case.takes(Input::Room) {
+        all.insert(9);
+    }
+    all
+}
+
+#[test]
+fn the_stored_list_is_current() {
+    let list = replay::list();
+    let rows: String = list.iter().map(|row| format!("{}\n", row.numbers)).collect();
+    let stored = include_str!("../../crates/replay/stdin");
+    let first = rows.lines().zip(stored.lines()).position(|(now, then)| now != then);
+    assert!(rows == stored, "crates/replay/stdin is not what `oracle replay` writes, first at row {first:?} from 0");
+    assert!(stored.len() <= 1_048_576, "the program reads at most 1,048,576 bytes");
+    let said = format!("{0} cases, {0} agree\n", list.len());
+    assert_eq!(include_str!("../../crates/replay/stdout"), said);
+
+    for call in &CALLS {
+        let (mut answered, mut refused) = (0, BTreeSet::new());
+        for row in list.iter().filter(|row| row.call == call) {
+            match row.outcome {
+                Outcome::Refused(number) => _ = refused.insert(number),
+                _ => answered += 1,
+            }
+        }
+        assert!(answered >= 40, "{}: {answered} cases are answered", call.name);
+        assert_eq!(refused, refusals(&Case::new(call)), "the refusals of {}", call.name);
+    }
+}
