@@ -4,7 +4,8 @@
 ghost use mathlib.Core.Path.{_≡_};
 ghost use Prim.Native.Nat.{_+_, _-_, _≤_, _<_};
 ghost use lib.ListN.{length};
-ghost use Rattle.text.specs.Text.{textRefusal, rowCount, contentRows, contentRowCount};
+ghost use Rattle.text.specs.Text.{any, notScalar, isBreak, textRefusal};
+ghost use Rattle.text.specs.Text.{rowCount, contentRows, contentRowCount};
 
 pub mod folds;
 pub mod offsets;
@@ -33,29 +34,49 @@ pub enum Counted {
     Refused(u32),
 }
 
+// Whether a text holds a value that is no scalar value. One pass with one flag and no branch on what
+// is read, so that the compiler reads many code points at a time.
+fn holds_wrong(t: &[u32]) -> bool
+    ensures { λ r. ⌜ r ≡ any notScalar (now (t .entry)) ⌝ }
+{
+    let mut wrong = false;
+    let mut i: usize = 0;
+    while i < t.len() {
+        let x = t[i];
+        wrong = wrong | !((x <= 0x10ffff) & ((x < 0xd800) | (x > 0xdfff)));
+        i += 1;
+    }
+    wrong
+}
+
+// Whether it holds a line break other than U+000A, likewise: with both flags in one loop the
+// compiler reads the code points one by one.
+fn holds_break(t: &[u32]) -> bool
+    ensures { λ r. ⌜ r ≡ any isBreak (now (t .entry)) ⌝ }
+{
+    let mut broken = false;
+    let mut i: usize = 0;
+    while i < t.len() {
+        let x = t[i];
+        broken = broken
+            | (((x >= 0xb) & (x <= 0xd)) | ((x == 0x85) | ((x == 0x2028) | (x == 0x2029))));
+        i += 1;
+    }
+    broken
+}
+
 // The number that a text is refused with: 1 over 1,048,576 code points, 2 a value that is no scalar
 // value, 3 a line break other than U+000A; 0 where it is accepted.
-// One pass with no branch on what is read, so that the compiler reads many code points at a time.
 pub fn text_refusal(t: &[u32]) -> u32
     ensures { λ r. ⌜ r ≡ textRefusal (now (t .entry)) ⌝ }
 {
     if t.len() > 1048576 {
         return 1;
     }
-    let mut wrong = false;
-    let mut broken = false;
-    let mut i: usize = 0;
-    while i < t.len() {
-        let x = t[i];
-        wrong = wrong | !((x <= 0x10ffff) & ((x < 0xd800) | (x > 0xdfff)));
-        broken = broken
-            | (((x >= 0xb) & (x <= 0xd)) | ((x == 0x85) | ((x == 0x2028) | (x == 0x2029))));
-        i += 1;
-    }
-    if wrong {
+    if holds_wrong(t) {
         return 2;
     }
-    if broken {
+    if holds_break(t) {
         return 3;
     }
     0
