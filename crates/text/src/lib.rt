@@ -49,7 +49,7 @@ fn holds_wrong(t: &[u32]) -> bool
     wrong
 }
 
-// Whether it holds a line break other than U+000A, likewise: with both flags in one loop the
+// Whether it holds a line break other than U+000A. A loop of its own: with both flags in one the
 // compiler reads the code points one by one.
 fn holds_break(t: &[u32]) -> bool
     ensures { λ r. ⌜ r ≡ any isBreak (now (t .entry)) ⌝ }
