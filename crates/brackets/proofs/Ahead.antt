@@ -7,11 +7,11 @@ use Prim.Native.Nat.{ℕ, suc, _+_, _-_, _≤_, _<_}
 use native.Mathlib.Numerals.{add-one}
 use native.Mathlib.Omega.{arith}
 use lib.ListN.{length, getD}
-use Rattle.brackets.specs.declared.Found.the-variants.{At, Nothing}
-use Rattle.brackets.specs.Nearest.{firstIn}
+use Rattle.scans.specs.declared.Found.the-variants.{At, Nothing}
+use Rattle.scans.specs.Nearest.{firstIn}
 use Rattle.brackets.specs.Matching.{balances, forwardOf}
 use Rattle.brackets.specs.Walk.{Hands}
-use Rattle.brackets.proofs.Nearest.{first-on, first-stop, first-end}
+use Rattle.scans.proofs.Nearest.{first-on, first-stop, first-end}
 use Rattle.brackets.proofs.Depth.{tally, hit, miss, balances-not, balances-so}
 
 -- forward from the open at i, before the place j: d opens more than closes from i up to j

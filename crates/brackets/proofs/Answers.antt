@@ -12,13 +12,13 @@ use borrow.Author.Tests.{eq-eqb, eqb-true}
 use Rattle.brackets.specs.declared.Kind.{Kind}
 use Rattle.brackets.specs.declared.Side.{Side}
 use Rattle.brackets.specs.declared.Side.the-variants.{Open, Close, Neither}
-use Rattle.brackets.specs.declared.Found.{Found}
-use Rattle.brackets.specs.declared.Found.the-variants.{At, Nothing}
+use Rattle.scans.specs.declared.Found.{Found}
+use Rattle.scans.specs.declared.Found.the-variants.{At, Nothing}
 use Rattle.brackets.specs.Kinds.{openOf, closeOf, sideOf}
 use Rattle.brackets.specs.Pairs.{Balanced, Forward, Backward, IsPartner, forward, backward, Alone, no-bracket, open-alone, close-alone}
 use Rattle.brackets.specs.Matching.{balances, nearestOf, partnerOf}
-use Rattle.brackets.proofs.Nearest.{never, both}
-use Rattle.brackets.proofs.Told.{at-some, First, Last, first-told, first-none, last-told, last-none}
+use Rattle.scans.proofs.Nearest.{never, both}
+use Rattle.scans.proofs.Told.{at-some, First, Last, first-told, first-none, last-told, last-none}
 use Rattle.brackets.proofs.Sides.{side-open, side-close, SideIs, side-told}
 
 module _ {k : Kind} {t : List ℕ} {i j : ℕ} where

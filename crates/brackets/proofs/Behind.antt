@@ -5,11 +5,11 @@ use mathlib.Core.List.{List}
 use Prim.Native.Nat.{ℕ, suc, _+_, _-_, _≤_, _<_}
 use native.Mathlib.Omega.{arith}
 use lib.ListN.{length, getD}
-use Rattle.brackets.specs.declared.Found.the-variants.{At, Nothing}
-use Rattle.brackets.specs.Nearest.{lastBelow}
+use Rattle.scans.specs.declared.Found.the-variants.{At, Nothing}
+use Rattle.scans.specs.Nearest.{lastBelow}
 use Rattle.brackets.specs.Matching.{balances, backwardOf}
 use Rattle.brackets.specs.Walk.{Hands}
-use Rattle.brackets.proofs.Nearest.{last-on, last-stop, last-end}
+use Rattle.scans.proofs.Nearest.{last-on, last-stop, last-end}
 use Rattle.brackets.proofs.Depth.{tally, hit, miss, balances-not, balances-so}
 
 -- back from the close at j, behind the place i: d closes more than opens from i to j, both counted

@@ -14,8 +14,8 @@ use Rattle.text.specs.declared.Line.{Line}
 use Rattle.text.proofs.Check.{accepted-short}
 use Rattle.text.proofs.Parts.{row-fits}
 use Rattle.text.proofs.Stands.{row-missed, row-found, stands-in}
-use Rattle.brackets.specs.declared.Found.{Found}
-use Rattle.brackets.specs.declared.Found.the-variants.{At, Nothing}
+use Rattle.scans.specs.declared.Found.{Found}
+use Rattle.scans.specs.declared.Found.the-variants.{At, Nothing}
 use Rattle.brackets.specs.declared.Pos.{Pos}
 use Rattle.brackets.specs.declared.Partner.{Partner}
 use Rattle.brackets.specs.declared.Partner.the-variants.{There, None, Refused}

@@ -7,8 +7,8 @@ use lib.ListN.{getD}
 use Rattle.text.specs.Text.{textRefusal}
 use Rattle.brackets.specs.declared.Kind.{Kind}
 use Rattle.brackets.specs.declared.Pos.{Pos}
-use Rattle.brackets.specs.declared.Found.{Found}
-use Rattle.brackets.specs.declared.Found.the-variants.{At, Nothing}
+use Rattle.scans.specs.declared.Found.{Found}
+use Rattle.scans.specs.declared.Found.the-variants.{At, Nothing}
 use Rattle.brackets.specs.declared.Partner.the-variants.{There, None}
 use Rattle.brackets.specs.Pairs.{Forward, Stand, same, before, behind, around, within}
 use Rattle.brackets.specs.Matching.{partnerOf, posOf, placed}

@@ -14,7 +14,7 @@ use lib.Seq.{take-suc, take-take}
 use borrow.Author.Tests.{eq-eqb, ne-eqb, eqb-true}
 use Rattle.brackets.specs.Pairs.{count, stretch}
 use Rattle.brackets.specs.Matching.{balances}
-use Rattle.brackets.proofs.Nearest.{both}
+use Rattle.scans.proofs.Nearest.{both}
 
 count-append : (x : ℕ) (s r : List ℕ) → count x (s ++ r) ≡ count x s + count x r
 unfolding count

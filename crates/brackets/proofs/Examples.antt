@@ -6,13 +6,14 @@ use mathlib.Core.List.{List, [], _∷_}
 use Prim.Native.Nat.{ℕ}
 use Rattle.text.specs.Text.{any, textRefusal, onFirst, rows}
 use Rattle.text.specs.Offsets.{startIn, rowOf}
-use Rattle.brackets.specs.declared.Found.the-variants.{At}
+use Rattle.scans.specs.declared.Found.the-variants.{At}
 use Rattle.brackets.specs.declared.Partner.the-variants.{There, None}
 use Rattle.brackets.specs.Kinds.{sideOf, keyBracket}
-use Rattle.brackets.specs.Nearest.{firstFrom, lastBelow}
+use Rattle.scans.specs.Nearest.{firstFrom, lastBelow}
 use Rattle.brackets.specs.Pairs.{count, stretch}
 use Rattle.brackets.specs.Matching.{nearestOf, placed, matchingBracketPos}
-use Rattle.brackets.specs.Find.{keyTo, keyFrom, landing, findAhead, findOnRow}
+use Rattle.scans.specs.Find.{landing, findAhead, findOnRow}
+use Rattle.brackets.specs.Find.{keyTo, keyFrom}
 use Rattle.brackets.specs.Jump.{posAt}
 
 -- `if (n) {`, `x (y)`, `}`

@@ -8,8 +8,8 @@ use native.Mathlib.Omega.{arith}
 use lib.ListN.{length, getD}
 use Rattle.brackets.specs.declared.Kind.{Kind}
 use Rattle.brackets.specs.declared.Side.the-variants.{Open, Close}
-use Rattle.brackets.specs.declared.Found.{Found}
-use Rattle.brackets.specs.declared.Found.the-variants.{At, Nothing}
+use Rattle.scans.specs.declared.Found.{Found}
+use Rattle.scans.specs.declared.Found.the-variants.{At, Nothing}
 use Rattle.brackets.specs.Kinds.{openOf, closeOf}
 use Rattle.brackets.specs.Pairs.{Balanced, Forward}
 use Rattle.brackets.specs.Matching.{nearestOf}

@@ -1,6 +1,4 @@
 -- Laws of brackets, which the proofs of this crate and of the crates above it cite.
-pub mod Nearest
-pub mod Told
 pub mod Sides
 pub mod Depth
 pub mod Pairs
@@ -15,5 +13,4 @@ pub mod Positions
 pub mod Demand
 pub mod Plain
 pub mod Jump
-pub mod Finds
 pub mod Examples

@@ -13,12 +13,12 @@ use Rattle.text.specs.Offsets.{rowStart, Stands, lineAt}
 use Rattle.text.specs.declared.Line.{Line}
 use Rattle.text.proofs.At.{on-char, on-nl, on-end}
 use Rattle.text.proofs.Stands.{stands-row, stands-at, at-stands}
-use Rattle.brackets.specs.declared.Found.{Found}
-use Rattle.brackets.specs.declared.Found.the-variants.{At, Nothing}
+use Rattle.scans.specs.declared.Found.{Found}
+use Rattle.scans.specs.declared.Found.the-variants.{At, Nothing}
 use Rattle.brackets.specs.declared.Partner.the-variants.{There, None}
 use Rattle.brackets.specs.Matching.{placed}
 use Rattle.brackets.specs.Walk.{columnOf}
-use Rattle.brackets.proofs.Told.{at-once, at-some}
+use Rattle.scans.proofs.Told.{at-once, at-some}
 
 pub placed-at : {t : List ℕ} {row start j : ℕ} {r : Found} → Stands t row start j → r ≡ At j → There (record { row = row; col = j - start }) ≡ placed t r
 unfolding placed

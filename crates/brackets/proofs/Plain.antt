@@ -15,8 +15,8 @@ use Rattle.text.specs.Offsets.{IsLine}
 use Rattle.text.specs.declared.Line.{Line}
 use Rattle.brackets.specs.declared.Kind.{Kind}
 use Rattle.brackets.specs.declared.Kind.the-variants.{Round, Square, Curly, Angle}
-use Rattle.brackets.specs.declared.Found.{Found}
-use Rattle.brackets.specs.declared.Found.the-variants.{At, Nothing}
+use Rattle.scans.specs.declared.Found.{Found}
+use Rattle.scans.specs.declared.Found.the-variants.{At, Nothing}
 use Rattle.brackets.specs.declared.Partner.{Partner}
 use Rattle.brackets.specs.declared.Partner.the-variants.{None}
 use Rattle.brackets.specs.Kinds.{openOf, closeOf, keyBracket}
@@ -24,8 +24,8 @@ use Rattle.brackets.specs.Matching.{partnerOf, placed}
 use Rattle.brackets.specs.Walk.{Starts}
 use Rattle.brackets.specs.Find.{firstBracket, keyTo, keyFrom}
 use Rattle.brackets.specs.Jump.{Plain, plainAt, FirstPlain}
-use Rattle.brackets.proofs.Nearest.{never}
-use Rattle.brackets.proofs.Told.{first-told, first-none}
+use Rattle.scans.proofs.Nearest.{never}
+use Rattle.scans.proofs.Told.{first-told, first-none}
 use Rattle.brackets.proofs.Call.{line-starts, line-answer}
 
 -- the key's test is that of a round, square or curly bracket

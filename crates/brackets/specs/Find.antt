@@ -1,17 +1,15 @@
--- The searches on one row, and the place that the % key goes to.
--- From motions.rs: `match_bracket` and `find_char_on_line`. Definitions only; the laws are in `proofs/Plain.antt` and `proofs/Finds.antt`. Assumes nothing.
-use mathlib.Core.Bool.{Bool, cond, _&&_}
+-- The bracket that the % key starts from, and the place that it goes to.
+-- From motions.rs, `match_bracket`. Definitions only; the laws are in `proofs/Plain.antt`. Assumes nothing.
 use mathlib.Core.List.{List}
-use Prim.Native.Nat.{ℕ, _+_, _-_}
-use lib.Dec.{eqb, ltb}
+use Prim.Native.Nat.{ℕ}
 use lib.ListN.{length, getD}
 use Rattle.text.specs.Text.{rowAt}
-use Rattle.brackets.specs.declared.Found.{Found}
-use Rattle.brackets.specs.declared.Found.the-variants.{At, Nothing}
+use Rattle.scans.specs.declared.Found.{Found}
+use Rattle.scans.specs.declared.Found.the-variants.{At, Nothing}
 use Rattle.brackets.specs.declared.Partner.{Partner}
 use Rattle.brackets.specs.declared.Partner.the-variants.{None}
 use Rattle.brackets.specs.Kinds.{keyBracket}
-use Rattle.brackets.specs.Nearest.{firstIn, lastBelow}
+use Rattle.scans.specs.Nearest.{firstIn}
 use Rattle.brackets.specs.Matching.{matchingBracketPos}
 
 -- the first bracket at or after the column that the % key starts on
@@ -26,31 +24,3 @@ keyTo t row Nothing = None
 -- where the % key goes to from a row and a column: none where it stays
 abbrev pub keyFrom : List ℕ → ℕ → ℕ → Partner
 keyFrom t row col = keyTo t row (firstBracket (rowAt t row) col)
-
--- x stands in the row at i
-abbrev pub is : List ℕ → ℕ → ℕ → Bool
-is row x i = eqb (getD row i 0) x
-
--- the index of a match, moved as `till` asks
-unfoldable pub landing : (ℕ → ℕ) → Found → Found
-landing f (At i) = At (f i)
-landing f Nothing = Nothing
-
--- `find_char_on_line` to the right of the column: from the next one, or the one after where an adjacent match of a till is skipped;
--- a till stops one place short of the match
-abbrev pub startAhead : List ℕ → ℕ → ℕ → Bool → ℕ
-startAhead row col x again = cond (again && (ltb (col + 1) (length row) && is row x (col + 1))) (col + 2) (col + 1)
-
-unfoldable pub findAhead : List ℕ → ℕ → ℕ → Bool → Bool → Found
-findAhead row col x till skip = landing (λ i. cond till (i - 1) i) (firstIn (is row x) (startAhead row col x (skip && till)) (length row))
-
--- to the left of it, likewise
-abbrev pub startBack : List ℕ → ℕ → ℕ → Bool → ℕ
-startBack row col x again = cond (again && (ltb 0 col && is row x (col - 1))) (col - 1) col
-
-unfoldable pub findBack : List ℕ → ℕ → ℕ → Bool → Bool → Found
-findBack row col x till skip = landing (λ i. cond till (i + 1) i) (lastBelow (is row x) (startBack row col x (skip && till)))
-
--- the column that a find lands on, or nothing where the row has no such match
-abbrev pub findOnRow : List ℕ → ℕ → ℕ → Bool → Bool → Bool → Found
-findOnRow row col x forward till skip = cond forward (findAhead row col x till skip) (findBack row col x till skip)

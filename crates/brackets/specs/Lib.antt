@@ -1,5 +1,4 @@
 pub mod Kinds
-pub mod Nearest
 pub mod Pairs
 pub mod Matching
 pub mod Walk

@@ -9,13 +9,13 @@ use Rattle.text.specs.Text.{textRefusal, rowCount, rowLen}
 use Rattle.text.specs.Offsets.{rowStart, rowOf}
 use Rattle.brackets.specs.declared.Side.{Side}
 use Rattle.brackets.specs.declared.Side.the-variants.{Open, Close, Neither}
-use Rattle.brackets.specs.declared.Found.{Found}
-use Rattle.brackets.specs.declared.Found.the-variants.{At, Nothing}
+use Rattle.scans.specs.declared.Found.{Found}
+use Rattle.scans.specs.declared.Found.the-variants.{At, Nothing}
 use Rattle.brackets.specs.declared.Pos.{Pos}
 use Rattle.brackets.specs.declared.Partner.{Partner}
 use Rattle.brackets.specs.declared.Partner.the-variants.{There, None, Refused}
 use Rattle.brackets.specs.Kinds.{openOf, closeOf, sideOf}
-use Rattle.brackets.specs.Nearest.{firstIn, lastBelow}
+use Rattle.scans.specs.Nearest.{firstIn, lastBelow}
 use Rattle.brackets.specs.Pairs.{count, stretch}
 
 -- the open o at i and the close c at j, with as many opens as closes from i to j

@@ -9,8 +9,8 @@ use lib.ListN.{length}
 use Rattle.text.specs.Text.{rowLen}
 use Rattle.text.specs.Offsets.{rowStart, Stands}
 use Rattle.text.specs.declared.Line.{Line}
-use Rattle.brackets.specs.declared.Found.{Found}
-use Rattle.brackets.specs.declared.Found.the-variants.{At, Nothing}
+use Rattle.scans.specs.declared.Found.{Found}
+use Rattle.scans.specs.declared.Found.the-variants.{At, Nothing}
 
 -- the offset of a column of the row, where a code point stands there
 unfoldable pub columnOf : List ℕ → ℕ → ℕ → Found

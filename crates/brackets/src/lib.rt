@@ -1,4 +1,4 @@
-// Brackets: the partner of a bracket, where the % key goes to, and find on a row.
+// Brackets: the partner of a bracket, and where the % key goes to.
 // From motions.rs, "Find / match", and demand 3 of the request.
 pub mod find;
 pub mod kinds;
@@ -17,12 +17,6 @@ pub enum Side {
     Open(Kind),
     Close(Kind),
     Neither,
-}
-
-// An index, where there is one.
-pub enum Found {
-    At(usize),
-    Nothing,
 }
 
 // A place of a text.

@@ -1,12 +1,12 @@
 // The partner of a bracket, and where the % key goes to: `matching_bracket_pos` and `match_bracket`
 // of motions.rs. The text is checked and the row found; then one walk in one direction keeps the
 // depth and the row beside the offset.
-use crate::Found;
 use crate::Partner;
 use crate::Pos;
 use crate::Side;
 use crate::find;
 use crate::kinds;
+use scans::Found;
 use text::Line;
 ghost use mathlib.Core.Path.{_≡_};
 ghost use Prim.Native.Nat.{_-_, _≤_};

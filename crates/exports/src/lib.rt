@@ -7,8 +7,6 @@
 //   102  too little room for the code points
 // A call on bytes decodes into the lent room; its `_u32` form takes code points as they are.
 mod characters;
-mod joined;
-mod lend;
 mod lists;
 mod moves;
 mod pairs;
@@ -19,35 +17,3 @@ mod tabs;
 mod terms;
 mod upright;
 mod wraps;
-
-pub use characters::tsivareza_character;
-pub use lists::tsivareza_keywords_u32;
-pub use moves::tsivareza_motion_u32;
-pub use pairs::tsivareza_matching_bracket_pos_u32;
-pub use rows::tsivareza_content_row_count_u32;
-pub use seeks::tsivareza_seek_u32;
-pub use tabs::tsivareza_columns_u32;
-pub use terms::tsivareza_word_u32;
-pub use upright::tsivareza_vertical_u32;
-pub use upright::tsivareza_viewport_u32;
-pub use wraps::tsivareza_offsets_u32;
-pub use wraps::tsivareza_segment_for_col_u32;
-pub use wraps::tsivareza_wrap_segments_u32;
-ghost use mathlib.Core.Path.{_≡_};
-ghost use Rattle.exports.specs.Reply.{bit};
-
-// One number, or a refusal's.
-pub enum Told {
-    Value(u32),
-    Refused(u32),
-}
-
-// 1 for true.
-fn bit_of(b: bool) -> u32
-    ensures { λ r. ⌜ r ≡ bit b ⌝ }
-{
-    if b {
-        return 1;
-    }
-    0
-}

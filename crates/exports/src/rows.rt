@@ -1,28 +1,15 @@
 // Rows of a text.
-use crate::Told;
-use crate::lend::fill;
-use crate::lend::reply;
-use text::Counted;
-ghost use mathlib.Core.Path.{_≡_};
+use lent::fill;
 ghost use Rattle.codec.specs.Points.{points};
-ghost use Rattle.exports.specs.Rows.{rowCount, toldRows};
-ghost use Rattle.exports.specs.Reply.{Replied, Answered};
-
-fn told_rows(m: Counted) -> Told
-    ensures { λ r. ⌜ r ≡ toldRows m ⌝ }
-{
-    match m {
-        Counted::Rows(n) => Told::Value(n),
-        Counted::Refused(f) => Told::Refused(f),
-    }
-}
+ghost use Rattle.lent.specs.Reply.{Replied, Answered};
+ghost use Rattle.text_calls.specs.Rows.{rowCount};
 
 // `content_row_count` on code points.
 #[no_mangle]
 pub extern "C" fn tsivareza_content_row_count_u32(text: &[u32], out: &mut [u32; 1]) -> u32
     ensures { λ r. ⌜ Replied (rowCount (now (text .entry))) (now (out .entry)) r (now (out .exit)) ⌝ }
 {
-    reply(told_rows(text::content_row_count(text)), out)
+    text_calls::content_row_count(text, out)
 }
 
 // `content_row_count` on bytes.
@@ -32,12 +19,13 @@ pub extern "C" fn tsivareza_content_row_count(
     room: &mut [u32],
     out: &mut [u32; 1],
 ) -> u32
-    ensures { λ r. ⌜ Answered (now (text .entry)) (now (room .entry)) (now (out .entry)) (rowCount (points (now (text .entry)))) r (now (room .exit)) (now (out .exit)) ⌝ }
+    ensures { λ r. ⌜ Answered (now (text .entry)) (now (room .entry)) (now (out .entry)) (rowCount
+        (points (now (text .entry)))) r (now (room .exit)) (now (out .exit)) ⌝ }
 {
     let f = fill(text, room);
     if f != 0 {
         return f;
     }
     let n = text.len() / 4;
-    tsivareza_content_row_count_u32(&room[..n], out)
+    text_calls::content_row_count(&room[..n], out)
 }

@@ -1,40 +1,11 @@
 // Word motions.
-use crate::joined::fill_three;
-use crate::moves::caret_of;
-use crate::moves::place;
-use motions::Caret;
-use motions::Moved;
-ghost use mathlib.Core.Path.{_≡_};
+use lent::fill_three;
 ghost use mathlib.Core.List.{[], _∷_};
 ghost use Rattle.codec.specs.Points.{points};
-ghost use Rattle.exports.specs.Reply.{Replied};
-ghost use Rattle.exports.specs.Joined.{AnsweredAll};
-ghost use Rattle.exports.specs.Carets.{caretOf};
-ghost use Rattle.exports.specs.Terms.{isBig, word, words};
-
-// The word motion that a number stands for: 0 `move_word_fwd`, 1 `move_word_back`, 2 and 3
-// `move_word_end` with stop off and on, 4 `move_word_end_back`, which takes no folds; 100 where it
-// stands for none.
-fn word_by(
-    op: u32,
-    k: Caret,
-    t: &[u32],
-    folds: &[u32],
-    list: &[u32],
-    big: bool,
-    count: u32,
-) -> Moved
-    ensures { λ r. ⌜ r ≡ word op big count k (now (t .entry)) (now (folds .entry)) (now (list .entry)) ⌝ }
-{
-    match op {
-        0 => k.move_word_fwd(t, folds, big, count, list),
-        1 => k.move_word_back(t, folds, big, count, list),
-        2 => k.move_word_end(t, folds, big, count, false, list),
-        3 => k.move_word_end(t, folds, big, count, true, list),
-        4 => k.move_word_end_back(t, big, count, list),
-        _ => Moved::Refused(100),
-    }
-}
+ghost use Rattle.lent.specs.Reply.{Replied};
+ghost use Rattle.lent.specs.Joined.{AnsweredAll};
+ghost use Rattle.text_calls.specs.Carets.{caretOf};
+ghost use Rattle.fold_calls.specs.Terms.{isBig, words};
 
 // A word motion over a text of code points, with folds and a keyword list; big words where `big` is
 // not 0.
@@ -52,10 +23,23 @@ pub extern "C" fn tsivareza_word_u32(
     count: u32,
     out: &mut [u32; 4],
 ) -> u32
-    ensures { λ r. ⌜ Replied (words op (isBig big) count (caretOf row col held sticky) (now (text .entry)) (now (folds .entry)) (now (list .entry))) (now (out .entry)) r (now (out .exit)) ⌝ }
+    ensures { λ r. ⌜ Replied (words op (isBig big) count (caretOf row col held sticky)
+        (now (text .entry)) (now (folds .entry)) (now (list .entry))) (now (out .entry)) r
+        (now (out .exit)) ⌝ }
 {
-    let k = caret_of(row, col, held, sticky);
-    place(word_by(op, k, text, folds, list, big != 0, count), out)
+    fold_calls::word(
+        op,
+        text,
+        folds,
+        list,
+        row,
+        col,
+        held,
+        sticky,
+        big,
+        count,
+        out,
+    )
 }
 
 // The same over a text, folds and a list of bytes, whose code points share the room.
@@ -74,7 +58,10 @@ pub extern "C" fn tsivareza_word(
     count: u32,
     out: &mut [u32; 4],
 ) -> u32
-    ensures { λ r. ⌜ AnsweredAll (now (text .entry) ∷ now (folds .entry) ∷ now (list .entry) ∷ []) (now (room .entry)) (now (out .entry)) (words op (isBig big) count (caretOf row col held sticky) (points (now (text .entry))) (points (now (folds .entry))) (points (now (list .entry)))) r (now (room .exit)) (now (out .exit)) ⌝ }
+    ensures { λ r. ⌜ AnsweredAll (now (text .entry) ∷ now (folds .entry) ∷ now (list .entry) ∷ [])
+        (now (room .entry)) (now (out .entry)) (words op (isBig big) count (caretOf row col held
+        sticky) (points (now (text .entry))) (points (now (folds .entry)))
+        (points (now (list .entry)))) r (now (room .exit)) (now (out .exit)) ⌝ }
 {
     let f = fill_three(text, folds, list, room);
     if f != 0 {
@@ -84,7 +71,7 @@ pub extern "C" fn tsivareza_word(
     let m = n + folds.len() / 4;
     let end = m + list.len() / 4;
     let all: &[u32] = room;
-    tsivareza_word_u32(
+    fold_calls::word(
         op,
         &all[..n],
         &all[n..m],

@@ -11,11 +11,11 @@ use lib.ListN.{length, length-append, getD, take, drop, set, replicate, drop-of-
 use lib.Seq.{length-take-le, take-suc, take-append-seam}
 use borrow.Author.Tests.{ne-eqb, lt-leb}
 use Rattle.chars.specs.Letters.{isLetter}
-use Rattle.keywords.specs.declared.Token.{Token}
-use Rattle.keywords.specs.Grammar.{noToken}
-use Rattle.keywords.specs.Tokens.{any, anyToken, tokenHolds}
-use Rattle.keywords.specs.Flat.{lowOf, highOf, flat, padded, anyAlpha, within, flatHolds}
-use Rattle.keywords.proofs.Lists.{drop-at-take, fill-push}
+use Rattle.tokens.specs.declared.Token.{Token}
+use Rattle.tokens.specs.Grammar.{noToken}
+use Rattle.tokens.specs.Tokens.{lowOf, highOf, any, anyToken, tokenHolds}
+use Rattle.keywords.specs.Flat.{flat, padded, anyAlpha, within, flatHolds}
+use Rattle.tokens.proofs.Lists.{drop-at-take, fill-push}
 
 flat-snoc : (ts : List Token) (t : Token) → flat (ts ++ (t ∷ [])) ≡ (flat ts ++ (lowOf t ∷ [])) ++ (highOf t ∷ [])
 unfolding flat

@@ -1,10 +1,5 @@
 pub mod Agree
 pub mod FlatLaws
-pub mod Lists
-pub mod NumberLaws
-pub mod PartLaws
 pub mod RefusalLaws
 pub mod TableLaws
-pub mod TokenLaws
-pub mod TrimLaws
 pub mod Worked

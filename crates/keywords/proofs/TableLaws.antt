@@ -5,15 +5,15 @@ use Prim.Native.Nat.{ℕ, _+_, _-_, _≤_, _<_}
 use native.Mathlib.Omega.{arith}
 use lib.ListN.{length, length-append, replicate}
 use lib.Seq.{take-append-seam}
-use Rattle.keywords.specs.declared.Token.{Token}
-use Rattle.keywords.specs.declared.tokens.Step.{Step}
+use Rattle.tokens.specs.declared.Token.{Token}
+use Rattle.tokens.specs.declared.tokens.Step.{Step}
 use Rattle.keywords.specs.declared.KeywordSpec.{KeywordSpec}
-use Rattle.keywords.specs.Grammar.{noToken}
-use Rattle.keywords.specs.Tokens.{tokens, tokensIn, stepOf}
+use Rattle.tokens.specs.Grammar.{noToken}
+use Rattle.tokens.specs.Tokens.{tokens, tokensIn, stepOf}
 use Rattle.keywords.specs.Table.{table, kept, pushed}
-use Rattle.keywords.proofs.Lists.{fill-push}
-use Rattle.keywords.proofs.PartLaws.{partsFrom, parts-from-start, parts-from-end}
-use Rattle.keywords.proofs.TokenLaws.{step-skip, step-keep}
+use Rattle.tokens.proofs.Lists.{fill-push}
+use Rattle.tokens.proofs.PartLaws.{partsFrom, parts-from-start, parts-from-end}
+use Rattle.tokens.proofs.TokenLaws.{step-skip, step-keep}
 
 pub table-push : (ts : List Token) (t : Token) → length ts < 128 → pushed (table ts) t ≡ table (ts ++ (t ∷ []))
 table-push ts t h = λ i. record { tokens = fill-push 128 noToken ts t h i; len = sym (length-append ts (t ∷ [])) i }

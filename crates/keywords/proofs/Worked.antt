@@ -7,9 +7,9 @@ use native.Mathlib.Omega.{arith}
 use lib.Dec.{eqb, leb}
 use borrow.Author.Tests.{le-leb, lt-leb, eq-eqb, ne-eqb}
 use Rattle.chars.specs.White.{whites, isWhite}
-use Rattle.keywords.specs.Numbers.{allDigits, value}
-use Rattle.keywords.specs.Parts.{parts, trimStart, trimEnd, upTo}
-use Rattle.keywords.specs.Tokens.{tokensIn, any}
+use Rattle.tokens.specs.Numbers.{allDigits, value}
+use Rattle.tokens.specs.Parts.{parts, trimStart, trimEnd, upTo}
+use Rattle.tokens.specs.Tokens.{tokensIn, any}
 use Rattle.keywords.specs.Worked.{P11}
 
 module _ (lo hi c : ℕ) where

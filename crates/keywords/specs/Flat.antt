@@ -2,21 +2,14 @@
 -- `proofs/FlatLaws.antt`. Definitions only. Assumes nothing.
 use Prim.Native.Nat.{ℕ, _+_, _-_}
 use mathlib.Core.List.{List, [], _∷_, _++_}
-use mathlib.Core.Bool.{Bool, false, cond, _&&_, _||_}
+use mathlib.Core.Bool.{Bool, false, _&&_, _||_}
 use lib.Dec.{eqb, leb}
 use lib.ListN.{length, take, replicate}
 use Rattle.chars.specs.Letters.{isLetter}
-use Rattle.keywords.specs.declared.Token.{Token}
+use Rattle.tokens.specs.declared.Token.{Token}
 use Rattle.keywords.specs.declared.KeywordSpec.{KeywordSpec}
-use Rattle.keywords.specs.Tokens.{any}
+use Rattle.tokens.specs.Tokens.{lowOf, highOf, any}
 use Rattle.keywords.specs.Table.{kept}
-
--- the first code of a token and the last; 1 and 0, which hold nothing, where it is no range
-abbrev pub lowOf : Token → ℕ
-lowOf t = cond (eqb (t .kind) 2) (t .lo) 1
-
-abbrev pub highOf : Token → ℕ
-highOf t = cond (eqb (t .kind) 2) (t .hi) 0
 
 unfoldable pub flat : List Token → List ℕ
 flat [] = []

@@ -1,9 +1,4 @@
 pub mod Agree
 pub mod Flat
-pub mod Grammar
-pub mod Numbers
-pub mod Parts
-pub mod Refusals
 pub mod Table
-pub mod Tokens
 pub mod Worked

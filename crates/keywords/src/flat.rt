@@ -1,36 +1,12 @@
 // The keyword test for a loop over characters: the table flattened once into bounds that are lent,
 // and the letters table lent.
 use crate::KeywordSpec;
-use crate::Token;
 ghost use mathlib.Core.Path.{_≡_};
 ghost use Prim.Native.Nat.{_+_, _≤_};
 ghost use lib.ListN.{length, take};
 ghost use Rattle.chars.specs.Letters.{letters};
 ghost use Rattle.keywords.specs.Table.{kept};
-ghost use Rattle.keywords.specs.Flat.{lowOf, highOf, flat, padded, anyAlpha};
-ghost use Rattle.keywords.specs.Flat.{within, flatHolds};
-
-impl Token {
-    // The first code of a range; 1 for a token that is none.
-    fn low(self) -> u32
-        ensures { λ r. ⌜ r ≡ lowOf self ⌝ }
-    {
-        if self.kind == 2 {
-            return self.lo;
-        }
-        1
-    }
-
-    // The last code of a range; 0 for a token that is none.
-    fn high(self) -> u32
-        ensures { λ r. ⌜ r ≡ highOf self ⌝ }
-    {
-        if self.kind == 2 {
-            return self.hi;
-        }
-        0
-    }
-}
+ghost use Rattle.keywords.specs.Flat.{flat, padded, anyAlpha, within, flatHolds};
 
 // Two bounds for each token, both ends in; for one that is no range, two that hold nothing. The
 // places after them are 0.

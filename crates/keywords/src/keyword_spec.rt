@@ -3,14 +3,11 @@
 use crate::KeywordSpec;
 use crate::Matched;
 use crate::Parsed;
-use crate::Token;
-use crate::refusals;
-use crate::tokens;
 ghost use mathlib.Core.Path.{_≡_};
 ghost use mathlib.Core.List.{[]};
-ghost use Prim.Native.Nat.{_≤_, _<_};
-ghost use Rattle.keywords.specs.Tokens.{anyToken, inList};
-ghost use Rattle.keywords.specs.Table.{table, pushed, kept, refusedBy, readAll, parseOf};
+ghost use Prim.Native.Nat.{_≤_};
+ghost use Rattle.tokens.specs.Tokens.{anyToken, inList};
+ghost use Rattle.keywords.specs.Table.{table, kept, refusedBy, readAll, parseOf};
 ghost use Rattle.keywords.specs.Table.{matchesOf, keywordChar};
 
 impl KeywordSpec {
@@ -24,22 +21,11 @@ impl KeywordSpec {
         }
     }
 
-    // The table with one more token.
-    fn push(mut self, t: Token) -> KeywordSpec
-        requires { ⌜ self .len < 128 ⌝ }
-        ensures { λ r. ⌜ r ≡ pushed self t ⌝ }
-    {
-        let n = self.len;
-        self.tokens[n] = t;
-        self.len = n + 1;
-        self
-    }
-
     // The table of a list; refuses 7, then 8.
     pub fn parse(list: &[u32]) -> Parsed
         ensures { λ r. ⌜ r ≡ parseOf (now (list .entry)) ⌝ }
     {
-        let n = refusals::refused_list(list);
+        let n = tokens::refused_list(list);
         if n != 0 {
             return refused(n);
         }
@@ -68,7 +54,7 @@ impl KeywordSpec {
     pub fn matches(self, c: u32) -> Matched
         ensures { λ r. ⌜ r ≡ matchesOf self c ⌝ }
     {
-        let n = refusals::refused_char(c);
+        let n = tokens::refused_char(c);
         if n != 0 {
             return Matched::Refused(n);
         }
@@ -105,7 +91,9 @@ fn read_all(list: &[u32]) -> Parsed
             if spec.len == 128 {
                 return refused(8);
             }
-            spec = spec.push(t);
+            let n = spec.len;
+            spec.tokens[n] = t;
+            spec.len = n + 1;
             from = step.next;
         }
     }
@@ -136,11 +124,11 @@ fn list_holds(list: &[u32], c: u32) -> bool
 pub fn is_keyword_char(c: u32, list: &[u32]) -> Matched
     ensures { λ r. ⌜ r ≡ keywordChar c (now (list .entry)) ⌝ }
 {
-    let n = refusals::refused_char(c);
+    let n = tokens::refused_char(c);
     if n != 0 {
         return Matched::Refused(n);
     }
-    let m = refusals::refused_list(list);
+    let m = tokens::refused_list(list);
     if m != 0 {
         return Matched::Refused(m);
     }

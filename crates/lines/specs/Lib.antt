@@ -1,3 +1,4 @@
 pub mod Toward
 pub mod Paragraphs
 pub mod Sections
+pub mod Margins

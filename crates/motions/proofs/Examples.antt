@@ -5,12 +5,13 @@ use mathlib.Core.List.{List, [], _∷_}
 use Prim.Native.Nat.{ℕ}
 use Rattle.text.specs.Text.{any, textRefusal, onFirst, rows}
 use Rattle.text.specs.Offsets.{startIn}
+use Rattle.lines.specs.Margins.{indentOf}
 use Rattle.lines.specs.Paragraphs.{roundFrom, paragraphs}
+use Rattle.steps.specs.Positions.{positionRefusal, lowest}
 use Rattle.motions.specs.declared.Caret.{Caret}
 use Rattle.motions.specs.declared.Sticky.the-variants.{Absent}
 use Rattle.motions.specs.declared.Moved.the-variants.{To, Refused}
-use Rattle.motions.specs.Carets.{caretRefusal, lowest, moving}
-use Rattle.motions.specs.Columns.{indentOf}
+use Rattle.motions.specs.Carets.{moving}
 use Rattle.motions.specs.Lines.{moveFirstNonBlankLine}
 use Rattle.motions.specs.Paragraphs.{moveParagraphNext}
 
@@ -20,22 +21,22 @@ at r c = record { row = r; col = c; sticky = Absent }
 
 -- P9: rows `a`, empty, `b`, from (0,0)
 pub next-one : moveParagraphNext (97 ∷ 10 ∷ 10 ∷ 98 ∷ []) 1 (at 0 0) ≡ To (at 1 0)
-unfolding any textRefusal onFirst rows startIn caretRefusal lowest moving roundFrom paragraphs
+unfolding any textRefusal onFirst rows startIn positionRefusal lowest moving roundFrom paragraphs
 next-one = refl
 
 pub next-two : moveParagraphNext (97 ∷ 10 ∷ 10 ∷ 98 ∷ []) 2 (at 0 0) ≡ To (at 2 0)
-unfolding any textRefusal onFirst rows startIn caretRefusal lowest moving roundFrom paragraphs
+unfolding any textRefusal onFirst rows startIn positionRefusal lowest moving roundFrom paragraphs
 next-two = refl
 
 pub next-three : moveParagraphNext (97 ∷ 10 ∷ 10 ∷ 98 ∷ []) 3 (at 0 0) ≡ To (at 0 0)
-unfolding any textRefusal onFirst rows startIn caretRefusal lowest moving roundFrom paragraphs
+unfolding any textRefusal onFirst rows startIn positionRefusal lowest moving roundFrom paragraphs
 next-three = refl
 
 -- `a` and a separator: `_` from the last empty row goes up; one row further the caret is refused
 pub line-from-last : moveFirstNonBlankLine (97 ∷ 10 ∷ []) 1 (at 1 0) ≡ To (at 0 0)
-unfolding any textRefusal onFirst rows startIn caretRefusal lowest moving indentOf
+unfolding any textRefusal onFirst rows startIn positionRefusal lowest moving indentOf
 line-from-last = refl
 
 pub line-from-outside : moveFirstNonBlankLine (97 ∷ 10 ∷ []) 1 (at 2 0) ≡ Refused 4
-unfolding any textRefusal onFirst rows startIn caretRefusal lowest moving indentOf
+unfolding any textRefusal onFirst rows startIn positionRefusal lowest moving indentOf
 line-from-outside = refl

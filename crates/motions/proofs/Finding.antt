@@ -1,32 +1,18 @@
 -- What a search answers, from what its checks found out. Assumes nothing.
-use mathlib.Core.Path.{_≡_, refl, ap, sym, _∙_}
-use mathlib.Core.List.{List, [], _∷_}
+use mathlib.Core.Path.{_≡_, sym}
+use mathlib.Core.List.{List}
 use mathlib.Core.Bool.{Bool, true, false}
 use Prim.Native.Nat.{ℕ, _≤_, _<_, _^_}
 use native.Mathlib.Omega.{arith}
 use lib.ListN.{length}
 use borrow.Author.Tests.{eq-eqb, ne-eqb}
-use Rattle.text.specs.Text.{textRefusal}
-use Rattle.brackets.specs.declared.Found.{Found}
-use Rattle.brackets.specs.declared.Found.the-variants.{At, Nothing}
-use Rattle.brackets.specs.Find.{findOnRow}
-use Rattle.brackets.proofs.Finds.{find-within}
-use Rattle.motions.specs.declared.Caret.{Caret}
-use Rattle.motions.specs.declared.Entry.{Entry}
+use Rattle.scans.specs.declared.Found.{Found}
+use Rattle.scans.specs.declared.Found.the-variants.{At, Nothing}
+use Rattle.scans.specs.Find.{findOnRow}
+use Rattle.scans.proofs.Finds.{find-within}
 use Rattle.motions.specs.declared.Sought.{Sought}
 use Rattle.motions.specs.declared.Sought.the-variants.{Refused}
-use Rattle.motions.specs.Carets.{caretRefusal, refusalOf, entryOf}
 use Rattle.motions.specs.Finds.{Fits, seeking, orSought}
-use Rattle.motions.proofs.Checks.{lowest-none}
-
--- the refusal that `enter` found
-module _ (t : List ℕ) (k : Caret) (e : Entry) (is : e ≡ entryOf t k) where
-  pub entry-number : e .refusal ≡ refusalOf t k
-  unfolding entryOf
-  entry-number = ap (λ (x : Entry). x .refusal) is
-
-  pub entry-clear : e .refusal ≡ 0 → textRefusal t ≡ 0
-  entry-clear z = lowest-none (textRefusal t) (caretRefusal t k ∷ []) (sym entry-number ∙ z) .0
 
 module _ {f g : ℕ} (q : f ≡ g) where
   pub seek-refused : (m : Sought) → (f ≡ 0 → ⊥) → Refused f ≡ seeking g m

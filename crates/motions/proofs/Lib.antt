@@ -1,9 +1,5 @@
 -- Laws of carets and motions, which the proofs of this crate and of the crates above it cite.
 pub mod Checks
-pub mod Margins
-pub mod Rounds
-pub mod Stepping
-pub mod Staying
 pub mod Landing
 pub mod WordLanding
 pub mod Examples

@@ -4,26 +4,26 @@ use mathlib.Core.List.{List, [], _∷_}
 use mathlib.Core.Bool.{Bool}
 use Prim.Native.Nat.{ℕ}
 use Rattle.text.specs.Text.{textRefusal, rowCount}
-use Rattle.text.specs.Folds.{foldRefusal}
+use Rattle.folds.specs.Folds.{foldRefusal}
 use Rattle.wrap.specs.declared.Wrap.{Wrap}
-use Rattle.vertical.specs.Visible.{deltaOf}
+use Rattle.visible.specs.Visible.{deltaOf}
 use Rattle.vertical.proofs.Inside.{rows-inside}
 use Rattle.vertical.proofs.Edges.{viewport-within}
 use Rattle.vertical.specs.declared.Edge.{Edge}
 use Rattle.screen.proofs.Inside.{move-inside}
+use Rattle.steps.proofs.Checks.{lowest-none, inside-at}
+use Rattle.jumps.proofs.Staying.{row-in}
 use Rattle.motions.specs.declared.Caret.{Caret}
-use Rattle.motions.specs.Carets.{caretRefusal, refusalOf, Inside}
+use Rattle.motions.specs.Carets.{here, caretRefusal, refusalOf, Inside}
 use Rattle.motions.specs.UpDown.{stopRefusal, verticalRefusal, aimOf, moveRows, moveScreenRows}
 use Rattle.motions.specs.ViewportMoves.{moveViewport}
-use Rattle.motions.proofs.Checks.{lowest-none, inside-at}
-use Rattle.motions.proofs.Staying.{row-in}
 use Rattle.motions.proofs.Landing.{Lands, moving-lands}
 
 module _ (t folds : List ℕ) (tabstop : ℕ) (k : Caret) where
   own : verticalRefusal t folds tabstop k ≡ 0 → Inside t k
   own z =
       let rest = foldRefusal folds (rowCount t) ∷ stopRefusal tabstop ∷ [] in
-      inside-at t k (lowest-none (caretRefusal t k) rest (lowest-none (textRefusal t) (caretRefusal t k ∷ rest) z .1) .0)
+      inside-at t (here k) (lowest-none (caretRefusal t k) rest (lowest-none (textRefusal t) (caretRefusal t k ∷ rest) z .1) .0)
 
   pub rows-lands : (down : Bool) (count : ℕ) → Lands t (moveRows t folds tabstop down count k)
   rows-lands down count =
@@ -42,4 +42,4 @@ module _ (t folds : List ℕ) (tabstop : ℕ) (k : Caret) where
 
 -- an edge of any viewport
 pub viewport-lands : (t : List ℕ) (k : Caret) (edge : Edge) (top height offset : ℕ) → Lands t (moveViewport t edge top height offset k)
-viewport-lands t k edge top height offset = moving-lands t (refusalOf t k) _ (λ z. row-in t k _ (viewport-within t edge top height offset))
+viewport-lands t k edge top height offset = moving-lands t (refusalOf t k) _ (λ z. row-in t _ (viewport-within t edge top height offset))

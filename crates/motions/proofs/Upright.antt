@@ -6,7 +6,7 @@ use Prim.Native.Nat.{ℕ, _≤_, _<_, _^_}
 use native.Mathlib.Omega.{arith}
 use borrow.Author.Tests.{lt-ltb, le-ltb}
 use Rattle.text.specs.Text.{textRefusal, rowCount}
-use Rattle.text.specs.Folds.{foldRefusal}
+use Rattle.folds.specs.Folds.{foldRefusal}
 use Rattle.text.proofs.Parts.{count-le, row-fits}
 use Rattle.wrap.specs.declared.Wrap.{Wrap}
 use Rattle.vertical.specs.declared.Sticky.{Sticky as Aim}
@@ -14,20 +14,19 @@ use Rattle.vertical.specs.declared.Target.{Target}
 use Rattle.vertical.proofs.Inside.{Inside}
 use Rattle.screen.specs.Screen.{moveScreen}
 use Rattle.screen.proofs.Inside.{move-inside}
+use Rattle.steps.specs.declared.Entry.{Entry}
+use Rattle.steps.proofs.Checks.{entry-number, entry-clear, entered}
 use Rattle.motions.specs.declared.Caret.{Caret}
-use Rattle.motions.specs.declared.Entry.{Entry}
 use Rattle.motions.specs.declared.Moved.the-variants.{To, Refused}
 use Rattle.motions.specs.declared.Sticky.the-variants.{At}
-use Rattle.motions.specs.Carets.{caretRefusal, refusalOf, moving, placed, entryOf}
+use Rattle.motions.specs.Carets.{here, caretRefusal, refusalOf, moving, placed, entryOf}
 use Rattle.motions.specs.UpDown.{stopRefusal, verticalRefusal, atTarget, Ready}
-use Rattle.motions.proofs.Checks.{entered}
-use Rattle.motions.proofs.Finding.{entry-number, entry-clear}
 use Rattle.motions.proofs.Wording.{lowest-caret, lowest-folds, lowest-list, lowest-free, moving-refused, moving-to}
 
 -- the checks in the table's order
 module _ (t folds : List ℕ) (tabstop : ℕ) (k : Caret) (e : Entry) (is : e ≡ entryOf t k) where
   number : e .refusal ≡ refusalOf t k
-  number = entry-number t k e is
+  number = entry-number t (here k) e is
 
   pub upright-caret : (n : Caret) → (e .refusal ≡ 0 → ⊥) → Refused (e .refusal) ≡ moving (verticalRefusal t folds tabstop k) n
   upright-caret n h = moving-refused _ _ n (lowest-caret (textRefusal t) (caretRefusal t k) (foldRefusal folds (rowCount t)) (stopRefusal tabstop) _ number h) h
@@ -49,9 +48,9 @@ module _ (t folds : List ℕ) (tabstop : ℕ) (k : Caret) (e : Entry) (is : e �
       module _ (h : tabstop ≤ 1000) where
         pub upright-ready : Ready t folds tabstop k (e .start)
         upright-ready =
-            let a = entered t k e is z in
+            let a = entered t (here k) e is z in
             record {
-              row-good = record { good = entry-clear t k e is z; brief = a .brief; in-rows = a .here .in-row; stop = h };
+              row-good = record { good = entry-clear t (here k) e is z; brief = a .brief; in-rows = a .here .in-row; stop = h };
               here = a .here;
               line = a .line;
               folds-good = sym q ∙ w;

@@ -5,18 +5,19 @@ use mathlib.Core.Bool.{Bool}
 use Prim.Native.Nat.{ℕ}
 use borrow.Author.Tests.{eq-eqb}
 use Rattle.text.specs.Text.{textRefusal, rowCount}
-use Rattle.text.specs.Folds.{foldRefusal}
-use Rattle.keywords.specs.Tokens.{inList}
+use Rattle.folds.specs.Folds.{foldRefusal}
+use Rattle.tokens.specs.Tokens.{inList}
 use Rattle.keywords.specs.Table.{parseOf}
 use Rattle.places.specs.Places.{place, kindOf}
 use Rattle.places.proofs.Within.{In}
 use Rattle.words.specs.declared.Motion.{Motion}
 use Rattle.words.specs.Rounds.{wordMotion}
 use Rattle.words.proofs.Inside.{word-motion-in}
+use Rattle.steps.specs.Positions.{lowest}
+use Rattle.steps.proofs.Checks.{lowest-none, inside}
 use Rattle.motions.specs.declared.Caret.{Caret}
-use Rattle.motions.specs.Carets.{caretRefusal, lowest, Inside}
+use Rattle.motions.specs.Carets.{here, caretRefusal, Inside}
 use Rattle.motions.specs.WordMoves.{wordRefusal, wordCaret, moveWord}
-use Rattle.motions.proofs.Checks.{lowest-none, inside}
 use Rattle.motions.proofs.Landing.{Lands, moving-lands}
 
 -- the first two of a list of refusals
@@ -32,7 +33,7 @@ module _ (t folds list : List ℕ) (k : Caret) where
     where
       there : wordRefusal t folds list k ≡ 0 → Inside t (wordCaret t folds (inList list) big m stop count k)
       there e =
-          let i = inside t k (lowest-two (textRefusal t) (caretRefusal t k) (foldRefusal folds (rowCount t) ∷ parseOf list .refusal ∷ []) e) in
+          let i = inside t (here k) (lowest-two (textRefusal t) (caretRefusal t k) (foldRefusal folds (rowCount t) ∷ parseOf list .refusal ∷ []) e) in
           let j : In t (wordMotion t folds (kindOf (inList list) big) big m stop count (place (k .row) (k .col))) =
           word-motion-in t folds (kindOf (inList list) big) big m stop count (place (k .row) (k .col))
           (record { in-row = i .in-row; in-col = i .in-col }) in

@@ -6,16 +6,16 @@ use Prim.Native.Nat.{ℕ, _+_, _-_, _≤_}
 use native.Mathlib.Omega.{arith}
 use lib.Dec.{eqb}
 use borrow.Author.Tests.{eq-eqb, ne-eqb}
-use Rattle.text.specs.declared.Line.{Line}
-use Rattle.text.specs.Offsets.{rowStart, Stands, lineAt}
+use Rattle.text.specs.Offsets.{rowStart, Stands}
+use Rattle.steps.specs.Positions.{lowest, Accepted}
+use Rattle.steps.proofs.Checks.{lowest-none}
 use Rattle.places.specs.declared.Spot.{Spot}
 use Rattle.places.specs.Places.{Place, place}
 use Rattle.places.specs.Spots.{placeOf, IsSpot}
 use Rattle.motions.specs.declared.Caret.{Caret}
 use Rattle.motions.specs.declared.Moved.the-variants.{To, Refused}
-use Rattle.motions.specs.Carets.{lowest, moving, placed, Accepted}
+use Rattle.motions.specs.Carets.{here, moving, placed}
 use Rattle.motions.specs.WordMoves.{atPlace}
-use Rattle.motions.proofs.Checks.{lowest-none}
 
 module _ (a b c d : ℕ) where
   pub lowest-caret : (f : ℕ) → f ≡ lowest (a ∷ b ∷ []) → (f ≡ 0 → ⊥) → f ≡ lowest (a ∷ b ∷ c ∷ d ∷ [])
@@ -54,7 +54,7 @@ unfolding moving
 moving-to g m n z e = rw (eq-eqb g 0 z) (ap To e)
 
 -- the spot of an accepted caret
-module _ (t : List ℕ) (k : Caret) (start : ℕ) (h : Accepted t k start) where
+module _ (t : List ℕ) (k : Caret) (start : ℕ) (h : Accepted t (here k) start) where
   pub spot-of : IsSpot t (record { row = k .row; at = start + k .col })
   spot-of = subst (λ (s : ℕ). Stands t (k .row) s (start + k .col)) (h .here .begins) (h .here)
 
@@ -64,7 +64,3 @@ module _ (t : List ℕ) (k : Caret) (start : ℕ) (h : Accepted t k start) where
 -- and the caret of a spot
 pub caret-of-spot : (t : List ℕ) (k : Caret) (r : Spot) (c : ℕ) (w : Place) → c ≡ r .at - rowStart t (r .row) → placeOf t r ≡ w → placed k (r .row) c ≡ atPlace k w
 caret-of-spot t k r c w q e = ap (placed k (r .row)) q ∙ ap (atPlace k) e
-
--- the row that `up` finds where it goes up no row
-pub up-start : (t : List ℕ) (l : Line) (row : ℕ) → l ≡ lineAt t (row - 0) → l .start ≡ rowStart t row
-up-start t l row e = let z : row - 0 ≡ row = omega arith in ap (λ (x : Line). x .start) e ∙ ap (rowStart t) z

@@ -1,31 +1,34 @@
 -- Carets: when a call with a text and a caret is refused, and what a motion answers.
 -- From document 01, "Text, rows, carets" and "Refusal numbers". Definitions only; the laws are in `proofs/Checks.antt`. Assumes nothing.
-use Prim.Native.Nat.{ℕ, _+_, _≤_, _<_}
-use mathlib.Core.List.{List, [], _∷_}
-use mathlib.Core.Bool.{Bool, true, false, cond, _&&_}
-use lib.ListN.{length}
-use lib.Dec.{eqb, ltb, leb}
-use Rattle.text.specs.Text.{textRefusal, rowCount, rowLen}
-use Rattle.text.specs.Offsets.{rowStart, Stands}
+use Prim.Native.Nat.{ℕ}
+use mathlib.Core.List.{List}
+use mathlib.Core.Bool.{cond}
+use lib.Dec.{eqb}
+use Rattle.steps.specs.declared.Position.{Position}
+use Rattle.steps.specs.declared.Entry.{Entry}
+use Rattle.steps.specs.Positions
+use Rattle.steps.specs.Positions.{position, positionRefusal, refusalAt}
 use Rattle.motions.specs.declared.Caret.{Caret}
-use Rattle.motions.specs.declared.Entry.{Entry}
 use Rattle.motions.specs.declared.Moved.{Moved}
 use Rattle.motions.specs.declared.Moved.the-variants.{To, Refused}
 
--- a caret stands in the text: in one of its rows, and at most at the row's end
-abbrev pub isInside : List ℕ → Caret → Bool
-isInside t k = ltb (k .row) (rowCount t) && leb (k .col) (rowLen t (k .row))
+-- where a caret stands
+abbrev pub here : Caret → Position
+here k = position (k .row) (k .col)
 
-unfoldable pub caretRefusal : List ℕ → Caret → ℕ
-caretRefusal t k = cond (isInside t k) 0 4
+-- a caret in the text, as a statement
+abbrev pub Inside : List ℕ → Caret → Type 0
+Inside t k = Positions.Inside t (here k)
 
--- a call's refusal: the lowest number that applies. The numbers of its inputs stand in the order of the table, each 0 where that input is accepted
-unfoldable pub lowest : List ℕ → ℕ
-lowest [] = 0
-lowest (f ∷ rest) = cond (eqb f 0) (lowest rest) f
+abbrev pub caretRefusal : List ℕ → Caret → ℕ
+caretRefusal t k = positionRefusal t (here k)
 
 abbrev pub refusalOf : List ℕ → Caret → ℕ
-refusalOf t k = lowest (textRefusal t ∷ caretRefusal t k ∷ [])
+refusalOf t k = refusalAt t (here k)
+
+-- what the checks of a call find out: its refusal, and where the caret's row starts
+abbrev pub entryOf : List ℕ → Caret → Entry
+entryOf t k = Positions.entryOf t (here k)
 
 -- what a motion answers: the caret that it leads to, or the number that the call is refused with
 unfoldable pub moving : ℕ → Caret → Moved
@@ -44,18 +47,9 @@ caretAfter old (Refused f) = old
 abbrev pub placed : Caret → ℕ → ℕ → Caret
 placed k r c = record { row = r; col = c; sticky = k .sticky }
 
--- what the checks of a call find out: its refusal, and where the caret's row starts
-unfoldable pub entryOf : List ℕ → Caret → Entry
-entryOf t k = record { refusal = refusalOf t k; start = cond (eqb (refusalOf t k) 0) (rowStart t (k .row)) 0 }
+abbrev pub put : Caret → Position → Caret
+put k p = placed k (p .row) (p .col)
 
--- a text and a caret that no check refuses
-pub record Accepted (t : List ℕ) (k : Caret) (start : ℕ) : Type 0 where
-  pub brief : length t ≤ 1048576
-  pub here : Stands t (k .row) start (start + k .col)
-  pub line : Stands t (k .row) start start
-  pub room : rowLen t (k .row) ≤ 1048576
-
--- a caret in the text, as a statement
-pub record Inside (t : List ℕ) (k : Caret) : Type 0 where
-  pub in-row : k .row < rowCount t
-  pub in-col : k .col ≤ rowLen t (k .row)
+-- the answer of a motion, by the position that it leads to
+abbrev pub leads : List ℕ → Caret → Position → Moved
+leads t k p = moving (refusalOf t k) (put k p)

@@ -6,11 +6,12 @@ use mathlib.Core.Bool.{Bool, cond}
 use lib.Dec.{eqb}
 use Rattle.chars.specs.Scalar.{isScalar}
 use Rattle.text.specs.Text.{rowAt}
-use Rattle.brackets.specs.declared.Found.{Found}
-use Rattle.brackets.specs.declared.Found.the-variants.{At, Nothing}
+use Rattle.scans.specs.declared.Found.{Found}
+use Rattle.scans.specs.declared.Found.the-variants.{At, Nothing}
 use Rattle.brackets.specs.declared.Partner.{Partner}
 use Rattle.brackets.specs.declared.Partner.the-variants.{There, None, Refused as Partner·Refused}
-use Rattle.brackets.specs.Find.{keyFrom, findOnRow}
+use Rattle.scans.specs.Find.{findOnRow}
+use Rattle.brackets.specs.Find.{keyFrom}
 use Rattle.motions.specs.declared.Caret.{Caret}
 use Rattle.motions.specs.declared.Sought.{Sought}
 use Rattle.motions.specs.declared.Sought.the-variants.{Found as Sought·Found, Missing, Refused}

@@ -1,30 +1,21 @@
 -- Motions to rows that begin with `{` or `}`, as motions.rs has them.
 -- Definitions only. Assumes nothing.
-use Prim.Native.Nat.{ℕ, _-_}
+use Prim.Native.Nat.{ℕ}
 use mathlib.Core.List.{List}
-use Rattle.lines.specs.Paragraphs.{lastRow}
-use Rattle.lines.specs.Sections.{sectionUp, sectionDown}
+use Rattle.jumps.specs.declared.Jump.the-variants.{SectionBackward, SectionForward, SectionEndBackward, SectionEndForward}
+use Rattle.jumps.specs.Jumps.{jumped}
 use Rattle.motions.specs.declared.Caret.{Caret}
 use Rattle.motions.specs.declared.Moved.{Moved}
-use Rattle.motions.specs.Carets.{refusalOf, moving, placed}
-use Rattle.motions.specs.Columns.{times}
+use Rattle.motions.specs.Carets.{here, leads}
 
--- both lead to column 0, and the way down stops at the last row with content
-abbrev pub sectionBack : List ℕ → ℕ → ℕ → Caret → Caret
-sectionBack t x n k = placed k (sectionUp t x (times n) (k .row)) 0
-
-abbrev pub sectionOn : List ℕ → ℕ → ℕ → Caret → Caret
-sectionOn t x n k = placed k (sectionDown t x (times n) (k .row) (lastRow t - k .row)) 0
-
--- `{` is 123 and `}` is 125
 abbrev pub moveSectionBackward : List ℕ → ℕ → Caret → Moved
-moveSectionBackward t n k = moving (refusalOf t k) (sectionBack t 123 n k)
+moveSectionBackward t n k = leads t k (jumped t SectionBackward n (here k))
 
 abbrev pub moveSectionForward : List ℕ → ℕ → Caret → Moved
-moveSectionForward t n k = moving (refusalOf t k) (sectionOn t 123 n k)
+moveSectionForward t n k = leads t k (jumped t SectionForward n (here k))
 
 abbrev pub moveSectionEndBackward : List ℕ → ℕ → Caret → Moved
-moveSectionEndBackward t n k = moving (refusalOf t k) (sectionBack t 125 n k)
+moveSectionEndBackward t n k = leads t k (jumped t SectionEndBackward n (here k))
 
 abbrev pub moveSectionEndForward : List ℕ → ℕ → Caret → Moved
-moveSectionEndForward t n k = moving (refusalOf t k) (sectionOn t 125 n k)
+moveSectionEndForward t n k = leads t k (jumped t SectionEndForward n (here k))

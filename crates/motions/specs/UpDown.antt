@@ -5,20 +5,21 @@ use mathlib.Core.List.{List, [], _∷_}
 use mathlib.Core.Bool.{Bool, cond}
 use lib.Dec.{ltb}
 use Rattle.text.specs.Text.{textRefusal, rowCount}
-use Rattle.text.specs.Folds.{foldRefusal}
+use Rattle.folds.specs.Folds.{foldRefusal}
 use Rattle.wrap.specs.declared.Wrap.{Wrap}
 use Rattle.vertical.specs.declared.Sticky.{Sticky as Aim}
 use Rattle.vertical.specs.declared.Sticky.the-variants as aim
 use Rattle.vertical.specs.declared.Target.{Target}
-use Rattle.vertical.specs.Visible.{deltaOf}
+use Rattle.visible.specs.Visible.{deltaOf}
 use Rattle.vertical.specs.Moves.{moveVertical}
 use Rattle.vertical.specs.Moves
 use Rattle.screen.specs.Screen.{moveScreen}
+use Rattle.steps.specs.Positions.{lowest}
 use Rattle.motions.specs.declared.Caret.{Caret}
 use Rattle.motions.specs.declared.Moved.{Moved}
 use Rattle.motions.specs.declared.Sticky.{Sticky}
 use Rattle.motions.specs.declared.Sticky.the-variants.{Absent, At}
-use Rattle.motions.specs.Carets.{caretRefusal, lowest, moving}
+use Rattle.motions.specs.Carets.{caretRefusal, moving}
 
 -- 6: a tabstop above 1,000
 abbrev pub stopRefusal : ℕ → ℕ

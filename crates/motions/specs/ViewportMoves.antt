@@ -4,14 +4,14 @@ use Prim.Native.Nat.{ℕ}
 use mathlib.Core.List.{List}
 use Rattle.vertical.specs.declared.Edge.{Edge}
 use Rattle.vertical.specs.Viewport.{viewportRow}
+use Rattle.jumps.specs.Rows.{atRow}
 use Rattle.motions.specs.declared.Caret.{Caret}
 use Rattle.motions.specs.declared.Moved.{Moved}
-use Rattle.motions.specs.Carets.{refusalOf, moving}
-use Rattle.motions.specs.Lines.{atRow}
+use Rattle.motions.specs.Carets.{refusalOf, moving, put}
 
 -- the sticky column is kept
 abbrev pub viewportCaret : List ℕ → Edge → ℕ → ℕ → ℕ → Caret → Caret
-viewportCaret t edge top height offset k = atRow t k (viewportRow edge t top height offset)
+viewportCaret t edge top height offset k = put k (atRow t (viewportRow edge t top height offset))
 
 abbrev pub moveViewport : List ℕ → Edge → ℕ → ℕ → ℕ → Caret → Moved
 moveViewport t edge top height offset k = moving (refusalOf t k) (viewportCaret t edge top height offset k)

@@ -5,16 +5,17 @@ use mathlib.Core.Path.{_≡_}
 use mathlib.Core.List.{List, [], _∷_}
 use mathlib.Core.Bool.{Bool}
 use Rattle.text.specs.Text.{textRefusal, rowCount}
-use Rattle.text.specs.Folds.{foldRefusal}
+use Rattle.folds.specs.Folds.{foldRefusal}
 use Rattle.keywords.specs.declared.KeywordSpec.{KeywordSpec}
-use Rattle.keywords.specs.Tokens.{inList}
+use Rattle.tokens.specs.Tokens.{inList}
 use Rattle.keywords.specs.Table.{parseOf}
 use Rattle.places.specs.Places.{Place, place, kindOf}
 use Rattle.words.specs.declared.Motion.{Motion}
 use Rattle.words.specs.Rounds.{wordMotion}
+use Rattle.steps.specs.Positions.{lowest, Accepted}
 use Rattle.motions.specs.declared.Caret.{Caret}
 use Rattle.motions.specs.declared.Moved.{Moved}
-use Rattle.motions.specs.Carets.{caretRefusal, lowest, moving, placed, Accepted}
+use Rattle.motions.specs.Carets.{here, caretRefusal, moving, placed}
 
 -- text, caret, folds, and then 7 or 8 of the list
 abbrev pub wordRefusal : List ℕ → List ℕ → List ℕ → Caret → ℕ
@@ -33,6 +34,6 @@ moveWord t folds list big m stop count k = moving (wordRefusal t folds list k) (
 
 -- what the walk requires of a call that no check refuses
 pub record WordReady (t folds : List ℕ) (spec : KeywordSpec) (k : Caret) (start : ℕ) : Type 0 where
-  pub accepted : Accepted t k start
+  pub accepted : Accepted t (here k) start
   pub folds-fit : foldRefusal folds (rowCount t) ≡ 0
   pub few : spec .len ≤ 128

@@ -1,8 +1,8 @@
 // `%`, and `f`, `F`, `t`, `T`: motions.rs, "Find / match".
 use crate::Caret;
 use crate::Sought;
-use brackets::Found;
 use brackets::Partner;
+use scans::Found;
 use text::Line;
 ghost use mathlib.Core.Path.{_≡_};
 ghost use Rattle.motions.specs.Finds.{Fits, partnerTo, landsOn, matchBracket, findCharOnLine};
@@ -77,7 +77,7 @@ impl Caret {
         };
         let row = text::offsets::row(t, l);
         let col = self.col as usize;
-        let f = brackets::find::find_on_row(row, col, x, forward, till, skip);
+        let f = scans::find_on_row(row, col, x, forward, till, skip);
         self.at_found(f)
     }
 }

@@ -1,100 +1,41 @@
-// Motions to the first character of a row that is no blank: `+`, `-`, `_`, `gg` and `G` of
-// motions.rs.
-// Each method checks its inputs; a function beside it moves a caret whose text was accepted.
+// Motions to other rows: `+`, `-`, `_`, `gg` and `G`, by sections and by paragraphs, of motions.rs.
+// The moves are those of `jumps`.
 use crate::Caret;
 use crate::Moved;
-use crate::blanks::first_non_blank;
-use crate::most;
-use text::Line;
+use jumps::Jump;
+use steps::Position;
 ghost use mathlib.Core.Path.{_≡_};
-ghost use Prim.Native.Nat.{_≤_};
-ghost use lib.ListN.{length};
-ghost use Rattle.text.specs.Offsets.{IsLine};
-ghost use Rattle.motions.specs.Carets.{Accepted};
-ghost use Rattle.motions.specs.Lines.{atRow, bottom, nextLine, prevLine, thisLine};
+ghost use Rattle.jumps.specs.Jumps.{jumped};
+ghost use Rattle.motions.specs.Carets.{here, leads};
 ghost use Rattle.motions.specs.Lines.{moveTop, moveBottom, moveFirstNonBlankNextLine};
 ghost use Rattle.motions.specs.Lines.{moveFirstNonBlankPrevLine, moveFirstNonBlankLine};
+ghost use Rattle.motions.specs.Sections.{moveSectionBackward, moveSectionForward};
+ghost use Rattle.motions.specs.Sections.{moveSectionEndBackward, moveSectionEndForward};
+ghost use Rattle.motions.specs.Paragraphs.{moveParagraphPrev, moveParagraphNext};
 
 impl Caret {
-    // The caret on the first character of a row that is no blank.
-    pub(crate) fn at_line(self, t: &[u32], l: Line) -> Caret
-        requires { ⌜ IsLine (now t) l × (length (now t) ≤ 1048576) ⌝ }
-        ensures { λ r. ⌜ r ≡ atRow (now (t .entry)) self (l .row) ⌝ }
+    // The checks of a call, and a jump.
+    fn by_jump(self, t: &[u32], j: Jump, count: u32) -> Moved
+        ensures { λ r. ⌜ r ≡ leads (now (t .entry)) self (jumped (now (t .entry)) j count
+            (here self)) ⌝ }
     {
-        let row = l.row;
-        let col = first_non_blank(t, l);
-        self.placed(row, col)
-    }
-
-    fn top(self, t: &[u32]) -> Caret
-        requires { ⌜ length (now t) ≤ 1048576 ⌝ }
-        ensures { λ r. ⌜ r ≡ atRow (now (t .entry)) self 0 ⌝ }
-    {
-        let l = Line { row: 0, start: 0 };
-        self.at_line(t, l)
-    }
-
-    fn bottom(self, t: &[u32], count: u32) -> Caret
-        requires { ⌜ length (now t) ≤ 1048576 ⌝ }
-        ensures { λ r. ⌜ r ≡ bottom (now (t .entry)) count self ⌝ }
-    {
-        if count == 0 {
-            let last = text::offsets::content_line(t, t.len());
-            return self.at_line(t, last);
+        let e = self.enter(t);
+        if e.refusal != 0 {
+            return Moved::Refused(e.refusal);
         }
-        let l = text::offsets::content_line(t, count as usize - 1);
-        self.at_line(t, l)
-    }
-
-    fn next_line(self, t: &[u32], count: u32) -> Caret
-        requires { ⌜ length (now t) ≤ 1048576 ⌝ }
-        ensures { λ r. ⌜ r ≡ nextLine (now (t .entry)) count self ⌝ }
-    {
-        let row = self.row as usize;
-        let l = text::offsets::content_line(t, row + most(count as usize, 1));
-        if l.row <= row {
-            return self;
-        }
-        self.at_line(t, l)
-    }
-
-    fn prev_line(self, t: &[u32], start: usize, count: u32) -> Caret
-        requires { ⌜ Accepted (now t) self start ⌝ }
-        ensures { λ r. ⌜ r ≡ prevLine (now (t .entry)) count self ⌝ }
-    {
-        let row = self.row as usize;
-        if row == 0 {
-            return self;
-        }
-        let l = text::offsets::up(t, row, start, most(count as usize, 1));
-        self.at_line(t, l)
-    }
-
-    fn this_line(self, t: &[u32], count: u32) -> Caret
-        requires { ⌜ length (now t) ≤ 1048576 ⌝ }
-        ensures { λ r. ⌜ r ≡ thisLine (now (t .entry)) count self ⌝ }
-    {
-        let row = self.row as usize;
-        let n = most(count as usize, 1) - 1;
-        let l = text::offsets::content_line(t, row + n);
-        if n == 0 {
-            return self.at_line(t, l);
-        }
-        if l.row <= row {
-            return self;
-        }
-        self.at_line(t, l)
+        let p = Position {
+            row: self.row as usize,
+            col: self.col as usize,
+        };
+        let q = jumps::ways::jump(t, p, e.start, j, count);
+        Moved::To(self.placed(q.row, q.col))
     }
 
     // `gg`: the first row.
     pub fn move_top(self, t: &[u32]) -> Moved
         ensures { λ r. ⌜ r ≡ moveTop (now (t .entry)) self ⌝ }
     {
-        let e = self.enter(t);
-        if e.refusal != 0 {
-            return Moved::Refused(e.refusal);
-        }
-        Moved::To(self.top(t))
+        self.by_jump(t, Jump::Top, 1)
     }
 
     // `G`: the row of that number, counted from 1, or the last row with content; that one too for
@@ -102,33 +43,21 @@ impl Caret {
     pub fn move_bottom(self, t: &[u32], count: u32) -> Moved
         ensures { λ r. ⌜ r ≡ moveBottom (now (t .entry)) count self ⌝ }
     {
-        let e = self.enter(t);
-        if e.refusal != 0 {
-            return Moved::Refused(e.refusal);
-        }
-        Moved::To(self.bottom(t, count))
+        self.by_jump(t, Jump::Bottom, count)
     }
 
     // `+`: so many rows down, or the last row with content; from there on it stays.
     pub fn move_first_non_blank_next_line(self, t: &[u32], count: u32) -> Moved
         ensures { λ r. ⌜ r ≡ moveFirstNonBlankNextLine (now (t .entry)) count self ⌝ }
     {
-        let e = self.enter(t);
-        if e.refusal != 0 {
-            return Moved::Refused(e.refusal);
-        }
-        Moved::To(self.next_line(t, count))
+        self.by_jump(t, Jump::NextLine, count)
     }
 
     // `-`: so many rows up, or the first row; from there it stays.
     pub fn move_first_non_blank_prev_line(self, t: &[u32], count: u32) -> Moved
         ensures { λ r. ⌜ r ≡ moveFirstNonBlankPrevLine (now (t .entry)) count self ⌝ }
     {
-        let e = self.enter(t);
-        if e.refusal != 0 {
-            return Moved::Refused(e.refusal);
-        }
-        Moved::To(self.prev_line(t, e.start, count))
+        self.by_jump(t, Jump::PrevLine, count)
     }
 
     // `_`: so many rows down less one, or the last row with content; from there on it stays if it
@@ -136,10 +65,49 @@ impl Caret {
     pub fn move_first_non_blank_line(self, t: &[u32], count: u32) -> Moved
         ensures { λ r. ⌜ r ≡ moveFirstNonBlankLine (now (t .entry)) count self ⌝ }
     {
-        let e = self.enter(t);
-        if e.refusal != 0 {
-            return Moved::Refused(e.refusal);
-        }
-        Moved::To(self.this_line(t, count))
+        self.by_jump(t, Jump::ThisLine, count)
+    }
+
+    // `[[`: so many rows up that begin with `{`, or row 0.
+    pub fn move_section_backward(self, t: &[u32], count: u32) -> Moved
+        ensures { λ r. ⌜ r ≡ moveSectionBackward (now (t .entry)) count self ⌝ }
+    {
+        self.by_jump(t, Jump::SectionBackward, count)
+    }
+
+    // `]]`: so many rows down that begin with `{`, or the last row with content.
+    pub fn move_section_forward(self, t: &[u32], count: u32) -> Moved
+        ensures { λ r. ⌜ r ≡ moveSectionForward (now (t .entry)) count self ⌝ }
+    {
+        self.by_jump(t, Jump::SectionForward, count)
+    }
+
+    // `[]`: so many rows up that begin with `}`, or row 0.
+    pub fn move_section_end_backward(self, t: &[u32], count: u32) -> Moved
+        ensures { λ r. ⌜ r ≡ moveSectionEndBackward (now (t .entry)) count self ⌝ }
+    {
+        self.by_jump(t, Jump::SectionEndBackward, count)
+    }
+
+    // `][`: so many rows down that begin with `}`, or the last row with content.
+    pub fn move_section_end_forward(self, t: &[u32], count: u32) -> Moved
+        ensures { λ r. ⌜ r ≡ moveSectionEndForward (now (t .entry)) count self ⌝ }
+    {
+        self.by_jump(t, Jump::SectionEndForward, count)
+    }
+
+    // `{`: so many paragraphs up, or row 0; a count that runs out of rows before its last round
+    // moves nothing.
+    pub fn move_paragraph_prev(self, t: &[u32], count: u32) -> Moved
+        ensures { λ r. ⌜ r ≡ moveParagraphPrev (now (t .entry)) count self ⌝ }
+    {
+        self.by_jump(t, Jump::ParagraphPrev, count)
+    }
+
+    // `}`: so many paragraphs down, or the last character of the last row with content; likewise.
+    pub fn move_paragraph_next(self, t: &[u32], count: u32) -> Moved
+        ensures { λ r. ⌜ r ≡ moveParagraphNext (now (t .entry)) count self ⌝ }
+    {
+        self.by_jump(t, Jump::ParagraphNext, count)
     }
 }

@@ -80,7 +80,7 @@ impl Caret {
         if e.refusal != 0 {
             return Moved::Refused(e.refusal);
         }
-        let f = text::folds::fold_refusal(folds, text::row_count(t));
+        let f = folds::fold_refusal(folds, text::row_count(t));
         if f != 0 {
             return Moved::Refused(f);
         }

@@ -4,20 +4,9 @@ use crate::Caret;
 use crate::Moved;
 use vertical::Edge;
 ghost use mathlib.Core.Path.{_≡_};
-ghost use Prim.Native.Nat.{_≤_};
-ghost use lib.ListN.{length};
-ghost use Rattle.motions.specs.ViewportMoves.{viewportCaret, moveViewport};
+ghost use Rattle.motions.specs.ViewportMoves.{moveViewport};
 
 impl Caret {
-    // The caret at an edge of a viewport over an accepted text.
-    fn at_edge(self, t: &[u32], edge: Edge, top: u32, height: u16, offset: u32) -> Caret
-        requires { ⌜ length (now t) ≤ 1048576 ⌝ }
-        ensures { λ r. ⌜ r ≡ viewportCaret (now (t .entry)) edge top height offset self ⌝ }
-    {
-        let l = vertical::viewport::viewport_line(t, edge, top, height, offset);
-        self.at_line(t, l)
-    }
-
     // The checks of a viewport motion, 1 to 4, and the motion.
     fn to_edge(self, t: &[u32], edge: Edge, top: u32, height: u16, offset: u32) -> Moved
         ensures { λ r. ⌜ r ≡ moveViewport (now (t .entry)) edge top height offset self ⌝ }
@@ -26,7 +15,9 @@ impl Caret {
         if e.refusal != 0 {
             return Moved::Refused(e.refusal);
         }
-        Moved::To(self.at_edge(t, edge, top, height, offset))
+        let l = vertical::viewport::viewport_line(t, edge, top, height, offset);
+        let q = jumps::rows::at_line(t, l);
+        Moved::To(self.placed(q.row, q.col))
     }
 
     // `H`: so many rows below the viewport's first, or the last row with content.

@@ -7,7 +7,7 @@ use words::Motion;
 ghost use mathlib.Core.Path.{_≡_};
 ghost use mathlib.Core.Bool.{false};
 ghost use mathlib.Core.List.{[]};
-ghost use Rattle.keywords.specs.Tokens.{anyToken};
+ghost use Rattle.tokens.specs.Tokens.{anyToken};
 ghost use Rattle.keywords.specs.Table.{kept};
 ghost use Rattle.motions.specs.WordMoves.{WordReady, wordCaret, moveWord};
 
@@ -53,7 +53,7 @@ impl Caret {
         if e.refusal != 0 {
             return Moved::Refused(e.refusal);
         }
-        let f = text::folds::fold_refusal(folds, text::row_count(t));
+        let f = folds::fold_refusal(folds, text::row_count(t));
         if f != 0 {
             return Moved::Refused(f);
         }

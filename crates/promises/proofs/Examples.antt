@@ -6,48 +6,52 @@ use Rattle.chars.specs.Width.{zeroWidths, doubleWidths, widthOf}
 use Rattle.row.specs.Row.{all, rowRefusal}
 use Rattle.row.specs.Row.{columnOf as columnAt}
 use Rattle.columns.specs.Columns.{columnRefusal, stopOf, visualFrom, charFrom, leadingFrom}
-use Rattle.wrap.specs.Segments.{fits, afterWhite, firstSegment, segmentsFrom}
+use Rattle.cells.specs.Cells.{fits}
+use Rattle.wrap.specs.Segments.{afterWhite, firstSegment, segmentsFrom}
 use Rattle.wrap.specs.Modes.{segmentsOf}
 use Rattle.wrap.specs.Calls.{wrapRefusal}
-use Rattle.wrap.specs.Offsets.{cellsIn, pairsBefore}
+use Rattle.cells.specs.Offsets.{cellsIn, pairsBefore}
 use Rattle.wrap.specs.Room.{countOf, roomRefusal}
 use Rattle.text.specs.Text.{any, textRefusal, onFirst, rows}
 use Rattle.text.specs.Offsets.{startIn, rowOf}
-use Rattle.text.specs.Folds.{anyFold, foldRefusal, visibleFrom, prevVisible}
-use Rattle.keywords.specs.Numbers.{allDigits, value}
-use Rattle.keywords.specs.Parts.{parts, trimStart, trimEnd, upTo}
-use Rattle.keywords.specs.Refusals.{allScalar}
-use Rattle.keywords.specs.Tokens.{tokensIn}
-use Rattle.keywords.specs.Tokens.{any as anyOf}
+use Rattle.folds.specs.Folds.{anyFold, foldRefusal, visibleFrom, prevVisible}
+use Rattle.tokens.specs.Numbers.{allDigits, value}
+use Rattle.tokens.specs.Parts.{parts, trimStart, trimEnd, upTo}
+use Rattle.tokens.specs.Refusals.{allScalar}
+use Rattle.tokens.specs.Tokens.{tokensIn}
+use Rattle.tokens.specs.Tokens.{any as anyOf}
 use Rattle.brackets.specs.Kinds.{sideOf, keyBracket}
-use Rattle.brackets.specs.Nearest.{firstFrom, lastBelow}
+use Rattle.scans.specs.Nearest.{firstFrom, lastBelow}
 use Rattle.brackets.specs.Pairs.{count, stretch}
 use Rattle.brackets.specs.Matching.{nearestOf, placed, matchingBracketPos}
-use Rattle.brackets.specs.Find.{keyTo, landing, findAhead}
+use Rattle.scans.specs.Find.{landing, findAhead}
+use Rattle.brackets.specs.Find.{keyTo}
 use Rattle.lines.specs.Paragraphs.{roundFrom, paragraphs}
 use Rattle.lines.specs.Sections.{sectionUp, sectionDown}
 use Rattle.places.specs.Places.{kindOf, kindAt, onEmptyRow, nextRow, stepForward, inc, dec, endOfBuffer}
 use Rattle.places.specs.Walks.{walk, goesOn}
-use Rattle.vertical.specs.Rounds.{rounds as roundsOf}
-use Rattle.vertical.specs.Visible.{verticalRow}
+use Rattle.visible.specs.Rounds.{rounds as roundsOf}
+use Rattle.visible.specs.Visible.{verticalRow}
 use Rattle.vertical.specs.Moves.{landed}
 use Rattle.screen.specs.Screen.{stepScreen}
 use Rattle.strides.specs.Words.{nextWordStart, prevWordStart, nextWordEnd, prevWordEnd, atWordEnd}
 use Rattle.words.specs.Rounds.{roundOf, counted, wordMotion}
-use Rattle.motions.specs.Carets.{caretRefusal, lowest, moving}
-use Rattle.motions.specs.Columns.{indentOf, solidOf}
-use Rattle.motions.specs.Steps.{rounds, spaceFwd, backspaceBack}
+use Rattle.steps.specs.Positions.{positionRefusal, lowest}
+use Rattle.steps.specs.Steps.{rounds, spaceFwd, backspaceBack}
+use Rattle.motions.specs.Carets.{moving}
+use Rattle.lines.specs.Margins.{indentOf, solidOf}
 use Rattle.motions.specs.Finds.{partnerTo, seeking, landsOn, orSought}
-use Rattle.exports.specs.Carets.{moved}
-use Rattle.exports.specs.Characters.{fact}
-use Rattle.exports.specs.Lists.{tokenCount, byTable, inTable, keyword}
-use Rattle.exports.specs.Moves.{motion}
-use Rattle.exports.specs.Partners.{partnered}
-use Rattle.exports.specs.Seeks.{sought, seek}
-use Rattle.exports.specs.Tabs.{toldColumn, tabColumn}
-use Rattle.exports.specs.Terms.{word}
-use Rattle.exports.specs.Upright.{upright, vertical, viewport}
-use Rattle.exports.specs.Wraps.{toldSegment, toldSegments, offset, modeOf, segmented, segmentsLeft}
+use Rattle.text_calls.specs.Carets.{moved}
+use Rattle.row_calls.specs.Characters.{fact}
+use Rattle.row_calls.specs.Lists.{tokenCount, byTable, inTable, keyword}
+use Rattle.text_calls.specs.Moves.{motion}
+use Rattle.text_calls.specs.Partners.{partnered}
+use Rattle.text_calls.specs.Seeks.{sought, seek}
+use Rattle.row_calls.specs.Tabs.{toldColumn, tabColumn}
+use Rattle.fold_calls.specs.Terms.{word}
+use Rattle.text_calls.specs.Viewports.{viewport}
+use Rattle.fold_calls.specs.Upright.{upright, vertical}
+use Rattle.row_calls.specs.Wraps.{toldSegment, toldSegments, offset, modeOf, segmented, segmentsLeft}
 use Rattle.promises.specs.Table.{table, given, asked}
 use Rattle.promises.specs.Calls.{calls, judged, good}
 
@@ -58,7 +62,7 @@ unfolding table
     allDigits value parts trimStart trimEnd upTo allScalar tokensIn anyOf
     sideOf keyBracket firstFrom lastBelow count stretch nearestOf placed matchingBracketPos keyTo landing findAhead
     roundFrom paragraphs kindOf kindAt onEmptyRow nextRow stepForward endOfBuffer walk goesOn nextWordStart roundOf counted wordMotion
-    caretRefusal lowest moving partnerTo seeking landsOn orSought
+    positionRefusal lowest moving partnerTo seeking landsOn orSought
     moved keyword motion partnered sought seek toldColumn tabColumn word
 examples = refl
 
@@ -71,7 +75,7 @@ unfolding calls
     sideOf keyBracket firstFrom lastBelow count stretch nearestOf placed matchingBracketPos keyTo landing findAhead
     roundFrom paragraphs sectionUp sectionDown kindOf kindAt onEmptyRow nextRow stepForward inc dec endOfBuffer walk goesOn
     nextWordStart prevWordStart nextWordEnd prevWordEnd atWordEnd roundOf counted wordMotion
-    caretRefusal lowest moving indentOf solidOf rounds spaceFwd backspaceBack partnerTo seeking landsOn orSought
+    positionRefusal lowest moving indentOf solidOf rounds spaceFwd backspaceBack partnerTo seeking landsOn orSought
     fact moved tokenCount byTable inTable keyword motion partnered sought seek toldColumn tabColumn word upright vertical viewport
     toldSegment toldSegments offset modeOf segmented segmentsLeft
 right-alone = refl

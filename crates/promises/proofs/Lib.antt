@@ -1,4 +1,6 @@
 -- What is promised of all calls at once.
 pub mod Examples
 pub mod Results
+pub mod Landings
+pub mod Searches
 pub mod Positions

@@ -5,18 +5,19 @@ use Prim.Native.String.{String}
 use mathlib.Core.List.{List, [], _∷_}
 use mathlib.Core.Bool.{Bool, true, false, _&&_}
 use lib.Dec.{eqb}
-use Rattle.exports.specs.declared.Told.{Told}
-use Rattle.exports.specs.declared.Told.the-variants.{Value, Refused}
-use Rattle.exports.specs.Reply.{Reply, answer, refused, told}
-use Rattle.exports.specs.Carets.{caretOf}
-use Rattle.exports.specs.Characters.{fact}
-use Rattle.exports.specs.Lists.{keywords}
-use Rattle.exports.specs.Moves.{motions}
-use Rattle.exports.specs.Rows.{rowCount}
-use Rattle.exports.specs.Tabs.{tabColumns}
-use Rattle.exports.specs.Terms.{words}
-use Rattle.exports.specs.Upright.{verticals, viewports}
-use Rattle.exports.specs.Wraps.{offsets, segmentOf, segmented, segmentsLeft}
+use Rattle.lent.specs.declared.Told.{Told}
+use Rattle.lent.specs.declared.Told.the-variants.{Value, Refused}
+use Rattle.lent.specs.Reply.{Reply, answer, refused, told}
+use Rattle.text_calls.specs.Carets.{caretOf}
+use Rattle.row_calls.specs.Characters.{fact}
+use Rattle.row_calls.specs.Lists.{keywords}
+use Rattle.text_calls.specs.Moves.{motions}
+use Rattle.text_calls.specs.Rows.{rowCount}
+use Rattle.row_calls.specs.Tabs.{tabColumns}
+use Rattle.fold_calls.specs.Terms.{words}
+use Rattle.text_calls.specs.Viewports.{viewports}
+use Rattle.fold_calls.specs.Upright.{verticals}
+use Rattle.row_calls.specs.Wraps.{offsets, segmentOf, segmented, segmentsLeft}
 use Rattle.promises.specs.Table.{codes, pair, key, till, with, none, at, found, yes, no}
 
 pub record Case : Type 0 where

@@ -12,10 +12,11 @@ use Rattle.motions.specs.declared.Moved.{Moved}
 use Rattle.motions.specs.declared.Moved.the-variants.{To, Refused}
 use Rattle.motions.specs.declared.Sought.{Sought}
 use Rattle.motions.specs.declared.Sought.the-variants.{Found, Missing, Refused as Sought·Refused}
-use Rattle.exports.specs.Moves.{motion}
-use Rattle.exports.specs.Seeks.{seek}
-use Rattle.exports.specs.Terms.{word}
-use Rattle.exports.specs.Upright.{vertical, viewport}
+use Rattle.text_calls.specs.Moves.{motion}
+use Rattle.text_calls.specs.Seeks.{seek}
+use Rattle.fold_calls.specs.Terms.{word}
+use Rattle.text_calls.specs.Viewports.{viewport}
+use Rattle.fold_calls.specs.Upright.{vertical}
 
 -- the calls by their argument lists, with all but the text and the caret
 pub data Call : Type 0 where

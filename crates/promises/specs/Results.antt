@@ -7,15 +7,15 @@ use Rattle.wrap.specs.declared.Wrap.{Wrap}
 use Rattle.wrap.specs.declared.Segments.{Segments}
 use Rattle.wrap.specs.Calls.{Wraps}
 use Rattle.session.specs.Written.{Printed}
-use Rattle.exports.specs.Reply.{Reply, Replied, Answered}
-use Rattle.exports.specs.Joined.{AnsweredAll}
+use Rattle.lent.specs.Reply.{Reply, Replied, Answered}
+use Rattle.lent.specs.Joined.{AnsweredAll}
 
 -- a contract allows one result at most
 abbrev pub One : {A : Type 0} → (A → Type 0) → Type 0
 One {A = A} allows = (x y : A) → allows x → allows y → x ≡ y
 
 pub record OneResult : Type 1 where
-  -- `r ≡ definition`: every method of `Caret`, and all calls of `chars`, `keywords`, `columns`, `text`, `brackets`
+  -- `r ≡ definition`: every method of `Caret`, and all calls of `chars`, `keywords`, `columns`, `cells`, `text`, `brackets`
   pub equal : {A : Type 0} (v : A) → One (λ (r : A). r ≡ v)
   -- `wrap_segments`: the answer, and the slice lent for segments
   pub wraps : (mode : Wrap) (width : ℕ) (row out : List ℕ) → One (λ (x : Segments × List ℕ). Wraps mode width row out (x .0) (x .1))

@@ -11,15 +11,15 @@ use Rattle.chars.specs.Width.{widthOf}
 use Rattle.wrap.specs.declared.Wrap.{Wrap}
 use Rattle.wrap.specs.declared.Wrap.the-variants.{Char, Word}
 use Rattle.wrap.specs.Modes.{segmentsOf}
-use Rattle.exports.specs.Reply.{Reply, answer}
-use Rattle.exports.specs.Carets.{caretOf}
-use Rattle.exports.specs.Lists.{keywords}
-use Rattle.exports.specs.Moves.{motions}
-use Rattle.exports.specs.Partners.{partner}
-use Rattle.exports.specs.Rows.{rowCount}
-use Rattle.exports.specs.Seeks.{seeks}
-use Rattle.exports.specs.Tabs.{tabColumns}
-use Rattle.exports.specs.Terms.{words}
+use Rattle.lent.specs.Reply.{Reply, answer}
+use Rattle.text_calls.specs.Carets.{caretOf}
+use Rattle.row_calls.specs.Lists.{keywords}
+use Rattle.text_calls.specs.Moves.{motions}
+use Rattle.text_calls.specs.Partners.{partner}
+use Rattle.text_calls.specs.Rows.{rowCount}
+use Rattle.text_calls.specs.Seeks.{seeks}
+use Rattle.row_calls.specs.Tabs.{tabColumns}
+use Rattle.fold_calls.specs.Terms.{words}
 
 -- the code points of a quoted text of ASCII characters
 abbrev pub codesFrom : String → ℕ → ℕ → List ℕ

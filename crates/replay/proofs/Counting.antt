@@ -1,23 +1,19 @@
--- Laws of the rows of a list, of their verdicts and of counting them. Assumes nothing.
+-- Laws of the verdicts of rows and of counting them. Assumes nothing.
 use mathlib.Core.Path.{_≡_, refl, ap, sym, _∙_}
-use mathlib.Core.List.{List, [], _∷_}
-use mathlib.Core.Bool.{Bool, true, false}
-use Prim.Native.Nat.{ℕ, suc, _+_, _-_, _≤_, _<_}
-use native.Mathlib.Decide.{ℕ-discrete}
+use mathlib.Core.List.{List}
+use Prim.Native.Nat.{ℕ, _+_, _-_, _≤_, _<_}
 use native.Mathlib.Omega.{arith}
-use lib.ListN.{length, take, drop, length-drop, drop-of-length-le}
-use lib.Seq.{drop-drop}
-use borrow.Author.Tests.{eq-eqb, ne-eqb}
-use Rattle.text.specs.Text.{onFirst}
-use Rattle.text.proofs.Lists.{drop-at}
-use Rattle.replay.specs.declared.Numbers.{Numbers}
-use Rattle.replay.specs.declared.Numbers.the-variants.{Count, Malformed as Numbers·Malformed}
-use Rattle.replay.specs.declared.Tally.{Tally}
-use Rattle.replay.specs.declared.Verdict.{Verdict}
-use Rattle.replay.specs.declared.Verdict.the-variants.{Agrees, Differs, Malformed}
-use Rattle.replay.specs.Rows.{RowRead, readRow, rowLength}
+use lib.ListN.{length, take, drop, drop-of-length-le}
+use Rattle.record.specs.declared.Numbers.{Numbers}
+use Rattle.record.specs.declared.Numbers.the-variants.{Count, Malformed as Numbers·Malformed}
+use Rattle.record.specs.declared.Tally.{Tally}
+use Rattle.record.specs.declared.Verdict.{Verdict}
+use Rattle.record.specs.declared.Verdict.the-variants.{Malformed}
+use Rattle.record.specs.Rows.{RowRead, readRow, rowLength}
+use Rattle.record.specs.Tallies.{lines, counted, none, Countable}
+use Rattle.record.proofs.Counting.{row-within, lines-step, counted-cases}
 use Rattle.replay.specs.Cases.{verdictOf}
-use Rattle.replay.specs.Tallies.{lines, faulted, counted, judged, most, tallied, none, tallyOf, Judged, Countable}
+use Rattle.replay.specs.Tallies.{judged, most, tallied, tallyOf, Judged}
 
 -- the verdict of a row that was read
 module _ {row room room′ : List ℕ} {m : Numbers} (p : RowRead row room m room′) where
@@ -31,71 +27,6 @@ module _ {row room room′ : List ℕ} {m : Numbers} (p : RowRead row room m roo
   pub judged-malformed : m ≡ Numbers·Malformed → Judged row room Malformed room′
   unfolding judged
   judged-malformed e = record { verdict = ap judged (rw e at (p .numbers)); kept = p .kept }
-
--- the first row of a list, and the rows after it
-abbrev Split : List ℕ → Type 0
-Split s = lines s ≡ take (rowLength s) s ∷ lines (drop (rowLength s) s)
-
-lines-first : (x : ℕ) (s : List ℕ) → Split (x ∷ s)
-unfolding lines rowLength onFirst
-lines-first x [] = go (ℕ-discrete x 10)
-  where
-    go : Dec (x ≡ 10) → Split (x ∷ [])
-    go (yes e) = rw (eq-eqb x 10 e)
-    go (no n) = rw (ne-eqb x 10 n)
-lines-first x (y ∷ s) = go (ℕ-discrete x 10) (lines-first y s)
-  where
-    go : Dec (x ≡ 10) → Split (y ∷ s) → Split (x ∷ y ∷ s)
-    go (yes e) ih = rw (eq-eqb x 10 e)
-    go (no n) ih = rw (ne-eqb x 10 n, ih)
-
-row-length-most : (s : List ℕ) → rowLength s ≤ length s
-unfolding rowLength
-row-length-most [] = omega arith
-row-length-most (x ∷ s) = go (ℕ-discrete x 10) (row-length-most s)
-  where
-    go : Dec (x ≡ 10) → rowLength s ≤ length s → rowLength (x ∷ s) ≤ suc (length s)
-    go (yes e) ih = rw (eq-eqb x 10 e) (omega arith)
-    go (no n) ih = rw (ne-eqb x 10 n) (omega arith)
-
-row-length-least : (x : ℕ) (s : List ℕ) → 1 ≤ rowLength (x ∷ s)
-unfolding rowLength
-row-length-least x s = go (ℕ-discrete x 10)
-  where
-    go : Dec (x ≡ 10) → 1 ≤ rowLength (x ∷ s)
-    go (yes e) = rw (eq-eqb x 10 e) (omega arith)
-    go (no n) = rw (ne-eqb x 10 n) (omega arith)
-
--- the row that begins at `at` and ends before e
-module _ (s : List ℕ) (at e : ℕ) (h : at < length s) (q : e ≡ at + rowLength (drop at s)) where
-  pub row-within : (at < e) × (e ≤ length s)
-  row-within =
-      let a : 1 ≤ rowLength (drop at s) = rw (drop-at s at h) (row-length-least _ _) in
-      (omega (arith, q, a), omega (arith, q, row-length-most (drop at s), length-drop at s))
-
-  pub lines-step : lines (drop at s) ≡ take (e - at) (drop at s) ∷ lines (drop e s)
-  lines-step =
-      let n : e - at ≡ rowLength (drop at s) = omega arith in
-      let d : drop e s ≡ drop (rowLength (drop at s)) (drop at s) = rw q (sym (drop-drop (rowLength (drop at s)) at s)) in
-      rw (n, d) (rw (drop-at s at h) (lines-first _ _))
-
--- one verdict more is one case more, and agrees at most
-abbrev OneMore : Tally → Tally → Type 0
-OneMore t u = (u .cases ≡ t .cases + 1) × (u .agree ≤ t .agree + 1)
-
-faulted-cases : (t : Tally) (bad : Bool) → OneMore t (faulted t bad)
-unfolding faulted
-faulted-cases t bad = go (ℕ-discrete (t .first) 0)
-  where
-    go : Dec (t .first ≡ 0) → OneMore t (faulted t bad)
-    go (yes e) = rw (eq-eqb (t .first) 0 e) (refl, omega arith)
-    go (no n) = rw (ne-eqb (t .first) 0 n) (refl, omega arith)
-
-counted-cases : (t : Tally) (v : Verdict) → OneMore t (counted t v)
-unfolding counted
-counted-cases t Agrees = (refl, omega arith)
-counted-cases t Differs = faulted-cases t false
-counted-cases t Malformed = faulted-cases t true
 
 -- the rows before `at` are counted
 pub record Tallying (bytes room : List ℕ) (t : Tally) (at : ℕ) : Type 0 where

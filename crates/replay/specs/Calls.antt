@@ -1,26 +1,27 @@
--- The answers of the exported calls on the numbers of a case. What the contracts of `replay::calls` cite. Assumes nothing.
+-- The answers of the calls for hosts on the numbers of a case. What the contracts of `replay::calls` cite. Assumes nothing.
 use Prim.Native.Nat.{ℕ}
 use mathlib.Core.List.{List, [], _∷_, _++_}
 use mathlib.Core.Bool.{cond, _&&_}
 use lib.ListN.{replicate}
 use lib.Dec.{leb}
-use Rattle.exports.specs.Reply.{number, left, told}
-use Rattle.exports.specs.Characters.{fact}
-use Rattle.exports.specs.Lists.{keywords}
-use Rattle.exports.specs.Tabs.{tabColumns}
-use Rattle.exports.specs.Wraps.{offsets, segmentOf, segmented, segmentsLeft}
-use Rattle.exports.specs.Rows.{rowCount}
-use Rattle.exports.specs.Partners.{partner}
-use Rattle.exports.specs.Carets.{caretOf}
-use Rattle.exports.specs.Moves.{motions}
-use Rattle.exports.specs.Seeks.{seeks}
-use Rattle.exports.specs.Terms.{words, isBig}
-use Rattle.exports.specs.Upright.{verticals, viewports}
+use Rattle.lent.specs.Reply.{number, left, told}
+use Rattle.row_calls.specs.Characters.{fact}
+use Rattle.row_calls.specs.Lists.{keywords}
+use Rattle.row_calls.specs.Tabs.{tabColumns}
+use Rattle.row_calls.specs.Wraps.{offsets, segmentOf, segmented, segmentsLeft}
+use Rattle.text_calls.specs.Rows.{rowCount}
+use Rattle.text_calls.specs.Partners.{partner}
+use Rattle.text_calls.specs.Carets.{caretOf}
+use Rattle.text_calls.specs.Moves.{motions}
+use Rattle.text_calls.specs.Seeks.{seeks}
+use Rattle.fold_calls.specs.Terms.{words, isBig}
+use Rattle.text_calls.specs.Viewports.{viewports}
+use Rattle.fold_calls.specs.Upright.{verticals}
 use Rattle.motions.specs.declared.Caret.{Caret}
-use Rattle.replay.specs.declared.Head.{Head}
-use Rattle.replay.specs.declared.Verdict.{Verdict}
-use Rattle.replay.specs.declared.Verdict.the-variants.{Malformed}
-use Rattle.replay.specs.Answers.{filler, shown, compared}
+use Rattle.record.specs.declared.Head.{Head}
+use Rattle.record.specs.declared.Verdict.{Verdict}
+use Rattle.record.specs.declared.Verdict.the-variants.{Malformed}
+use Rattle.record.specs.Answers.{filler, shown, compared}
 
 -- a fact about the code point a
 unfoldable pub characterOf : Head → List ℕ

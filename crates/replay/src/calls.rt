@@ -1,12 +1,12 @@
-// The exported calls on the numbers of a case, each compared with the stored answer: the number
+// The calls for hosts on the numbers of a case, each compared with the stored answer: the number
 // that the call answers, and what it leaves in the places lent to it.
-use crate::Head;
-use crate::Verdict;
-use crate::answers::FILLER;
-use crate::answers::compared;
-use crate::answers::compared_two;
+use record::FILLER;
+use record::Head;
+use record::Verdict;
+use record::compared;
+use record::compared_two;
 ghost use mathlib.Core.Path.{_≡_};
-ghost use Rattle.replay.specs.Answers.{compared as Answers·compared};
+ghost use Rattle.record.specs.Answers.{compared as Answers·compared};
 ghost use Rattle.replay.specs.Calls.{characterOf, keywordsOf, columnsOf, offsetsOf};
 ghost use Rattle.replay.specs.Calls.{segmentForColOf, wrappedIn, wrapVerdict};
 ghost use Rattle.replay.specs.Calls.{contentRowCountOf, matchingBracketPosOf};
@@ -17,7 +17,7 @@ pub fn character(k: Head, stored: &[u32]) -> Verdict
     ensures { λ r. ⌜ r ≡ Answers·compared (characterOf k) (now (stored .entry)) ⌝ }
 {
     let mut out = [FILLER; 1];
-    let n = exports::tsivareza_character(k.op, k.a, &mut out);
+    let n = row_calls::character(k.op, k.a, &mut out);
     compared(n, &out, stored)
 }
 
@@ -26,7 +26,7 @@ pub fn keywords(k: Head, list: &[u32], stored: &[u32]) -> Verdict
         (now (stored .entry)) ⌝ }
 {
     let mut out = [FILLER; 1];
-    let n = exports::tsivareza_keywords_u32(k.op, list, k.a, &mut out);
+    let n = row_calls::keywords(k.op, list, k.a, &mut out);
     compared(n, &out, stored)
 }
 
@@ -34,7 +34,7 @@ pub fn columns(k: Head, row: &[u32], stored: &[u32]) -> Verdict
     ensures { λ r. ⌜ r ≡ Answers·compared (columnsOf k (now (row .entry))) (now (stored .entry)) ⌝ }
 {
     let mut out = [FILLER; 1];
-    let n = exports::tsivareza_columns_u32(k.op, row, k.a, k.b, &mut out);
+    let n = row_calls::columns(k.op, row, k.a, k.b, &mut out);
     compared(n, &out, stored)
 }
 
@@ -42,7 +42,7 @@ pub fn offsets(k: Head, row: &[u32], stored: &[u32]) -> Verdict
     ensures { λ r. ⌜ r ≡ Answers·compared (offsetsOf k (now (row .entry))) (now (stored .entry)) ⌝ }
 {
     let mut out = [FILLER; 1];
-    let n = exports::tsivareza_offsets_u32(k.op, row, k.a, k.b, k.c, &mut out);
+    let n = row_calls::offsets(k.op, row, k.a, k.b, k.c, &mut out);
     compared(n, &out, stored)
 }
 
@@ -51,7 +51,7 @@ pub fn segment_for_col(k: Head, segments: &[u32], stored: &[u32]) -> Verdict
         (now (stored .entry)) ⌝ }
 {
     let mut out = [FILLER; 1];
-    let n = exports::tsivareza_segment_for_col_u32(segments, k.a, &mut out);
+    let n = row_calls::segment_for_col(segments, k.a, &mut out);
     compared(n, &out, stored)
 }
 
@@ -61,7 +61,7 @@ fn wrap_into(mode: u32, row: &[u32], width: u16, segments: &mut [u32], stored: &
         (now (row .entry))) (now (stored .entry)) ⌝ }
 {
     let mut out = [FILLER; 1];
-    let n = exports::tsivareza_wrap_segments_u32(mode, row, width, segments, &mut out);
+    let n = row_calls::wrap_segments(mode, row, width, segments, &mut out);
     compared_two(n, out[0], segments, stored)
 }
 
@@ -85,7 +85,7 @@ pub fn content_row_count(text: &[u32], stored: &[u32]) -> Verdict
         (now (stored .entry)) ⌝ }
 {
     let mut out = [FILLER; 1];
-    let n = exports::tsivareza_content_row_count_u32(text, &mut out);
+    let n = text_calls::content_row_count(text, &mut out);
     compared(n, &out, stored)
 }
 
@@ -94,7 +94,7 @@ pub fn matching_bracket_pos(k: Head, text: &[u32], stored: &[u32]) -> Verdict
         (now (stored .entry)) ⌝ }
 {
     let mut out = [FILLER; 3];
-    let n = exports::tsivareza_matching_bracket_pos_u32(text, k.a, k.b, &mut out);
+    let n = text_calls::matching_bracket_pos(text, k.a, k.b, &mut out);
     compared(n, &out, stored)
 }
 
@@ -102,7 +102,7 @@ pub fn motion(k: Head, text: &[u32], stored: &[u32]) -> Verdict
     ensures { λ r. ⌜ r ≡ Answers·compared (motionOf k (now (text .entry))) (now (stored .entry)) ⌝ }
 {
     let mut out = [FILLER; 4];
-    let n = exports::tsivareza_motion_u32(k.op, text, k.a, k.b, k.c, k.d, k.e, &mut out);
+    let n = text_calls::motion(k.op, text, k.a, k.b, k.c, k.d, k.e, &mut out);
     compared(n, &out, stored)
 }
 
@@ -110,7 +110,7 @@ pub fn seek(k: Head, text: &[u32], stored: &[u32]) -> Verdict
     ensures { λ r. ⌜ r ≡ Answers·compared (seekOf k (now (text .entry))) (now (stored .entry)) ⌝ }
 {
     let mut out = [FILLER; 5];
-    let n = exports::tsivareza_seek_u32(k.op, text, k.a, k.b, k.c, k.d, k.e, &mut out);
+    let n = text_calls::seek(k.op, text, k.a, k.b, k.c, k.d, k.e, &mut out);
     compared(n, &out, stored)
 }
 
@@ -119,7 +119,7 @@ pub fn word(k: Head, text: &[u32], folds: &[u32], list: &[u32], stored: &[u32]) 
         (now (list .entry))) (now (stored .entry)) ⌝ }
 {
     let mut out = [FILLER; 4];
-    let n = exports::tsivareza_word_u32(
+    let n = fold_calls::word(
         k.op,
         text,
         folds,
@@ -145,7 +145,7 @@ pub fn vertical(k: Head, text: &[u32], folds: &[u32], stored: &[u32]) -> Verdict
         return Verdict::Malformed;
     }
     let mut out = [FILLER; 4];
-    let n = exports::tsivareza_vertical_u32(
+    let n = fold_calls::vertical(
         k.op,
         text,
         folds,
@@ -171,7 +171,7 @@ pub fn viewport(k: Head, text: &[u32], stored: &[u32]) -> Verdict
         return Verdict::Malformed;
     }
     let mut out = [FILLER; 4];
-    let n = exports::tsivareza_viewport_u32(
+    let n = text_calls::viewport(
         k.op,
         text,
         k.a,

@@ -1,55 +1,12 @@
 // The verdicts of a list of cases, counted.
-use crate::Numbers;
-use crate::Tally;
-use crate::Verdict;
 use crate::cases::verdict_of;
-use crate::rows::read_row;
-use crate::rows::row_end;
+use record::Numbers;
+use record::Tally;
+use record::Verdict;
+use record::read_row;
+use record::row_end;
 ghost use mathlib.Core.Path.{_≡_};
-ghost use Rattle.replay.specs.Tallies.{tallyOf, Judged, Countable};
-ghost use Rattle.replay.specs.Tallies.{counted as Tallies·counted};
-ghost use Rattle.replay.specs.Tallies.{faulted as Tallies·faulted};
-
-impl Tally {
-    // One verdict more.
-    fn counted(self, v: Verdict) -> Tally
-        requires { ⌜ Countable self ⌝ }
-        ensures { λ r. ⌜ r ≡ Tallies·counted self v ⌝ }
-    {
-        match v {
-            Verdict::Agrees => Tally {
-                cases: self.cases + 1,
-                agree: self.agree + 1,
-                first: self.first,
-                malformed: self.malformed,
-            },
-            Verdict::Differs => self.faulted(false),
-            Verdict::Malformed => self.faulted(true),
-        }
-    }
-
-    // One case more that doesn't agree; the first such is kept.
-    fn faulted(self, malformed: bool) -> Tally
-        requires { ⌜ Countable self ⌝ }
-        ensures { λ r. ⌜ r ≡ Tallies·faulted self malformed ⌝ }
-    {
-        let n = self.cases + 1;
-        if self.first == 0 {
-            return Tally {
-                cases: n,
-                agree: self.agree,
-                first: n,
-                malformed: malformed,
-            };
-        }
-        Tally {
-            cases: n,
-            agree: self.agree,
-            first: self.first,
-            malformed: self.malformed,
-        }
-    }
-}
+ghost use Rattle.replay.specs.Tallies.{tallyOf, Judged};
 
 // The verdict of one row, whose numbers are put into `room`.
 fn row_verdict(row: &[u8], room: &mut [u32]) -> Verdict

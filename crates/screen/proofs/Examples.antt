@@ -7,14 +7,15 @@ use Rattle.chars.specs.White.{whites, isWhite}
 use Rattle.chars.specs.Width.{zeroWidths, doubleWidths, widthOf}
 use Rattle.columns.specs.Columns.{stopOf, visualFrom, charFrom}
 use Rattle.wrap.specs.declared.Wrap.the-variants.{Char}
-use Rattle.wrap.specs.Segments.{fits, afterWhite, firstSegment, segmentsFrom}
+use Rattle.cells.specs.Cells.{fits}
+use Rattle.wrap.specs.Segments.{afterWhite, firstSegment, segmentsFrom}
 use Rattle.wrap.specs.Modes.{segmentsOf}
-use Rattle.wrap.specs.Offsets.{pairsBefore}
+use Rattle.cells.specs.Offsets.{pairsBefore}
 use Rattle.text.specs.Text.{onFirst, rows}
-use Rattle.text.specs.Folds.{anyFold, visibleFrom, prevVisible}
+use Rattle.folds.specs.Folds.{anyFold, visibleFrom, prevVisible}
 use Rattle.vertical.specs.declared.Sticky.the-variants.{Absent, At}
-use Rattle.vertical.specs.Rounds.{rounds}
-use Rattle.vertical.specs.Visible.{verticalRow}
+use Rattle.visible.specs.Rounds.{rounds}
+use Rattle.visible.specs.Visible.{verticalRow}
 use Rattle.vertical.specs.Moves.{landed}
 use Rattle.screen.specs.Screen.{stepScreen, moveScreen}
 

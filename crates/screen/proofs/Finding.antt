@@ -10,7 +10,7 @@ use borrow.Author.Tests.{ne-eqb}
 use Rattle.chars.specs.White.{isWhite}
 use Rattle.chars.specs.Width.{widthOf}
 use Rattle.wrap.specs.Segments.{firstSegment, segmentsFrom}
-use Rattle.wrap.specs.Offsets.{segmentIndex}
+use Rattle.cells.specs.Offsets.{segmentIndex}
 use Rattle.wrap.proofs.Room.{segments-broken}
 use Rattle.wrap.proofs.Walk.{SegmentsTo, NextSegment, walk-start, walk-next, walk-count, walk-end}
 use Rattle.wrap.proofs.Laws.{walk-finds}

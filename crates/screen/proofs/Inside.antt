@@ -12,18 +12,18 @@ use Rattle.chars.specs.Width.{widthOf}
 use Rattle.wrap.specs.declared.Wrap.{Wrap}
 use Rattle.wrap.specs.Modes.{isNone, segmentsOf}
 use Rattle.text.specs.Text.{rowCount, rowAt, contentRows}
-use Rattle.text.specs.Folds.{closedFoldAt}
-use Rattle.text.specs.declared.Span.{Span}
-use Rattle.text.specs.declared.Span.the-variants.{Of, NoSpan}
-use Rattle.text.specs.declared.Visible.{Visible}
-use Rattle.text.specs.declared.Visible.the-variants.{Row, NoRow}
+use Rattle.folds.specs.Folds.{closedFoldAt}
+use Rattle.folds.specs.declared.Span.{Span}
+use Rattle.folds.specs.declared.Span.the-variants.{Of, NoSpan}
+use Rattle.folds.specs.declared.Visible.{Visible}
+use Rattle.folds.specs.declared.Visible.the-variants.{Row, NoRow}
 use Rattle.text.proofs.Content.{content-near}
 use Rattle.vertical.specs.declared.Sticky.{Sticky}
 use Rattle.vertical.specs.declared.Target.{Target}
-use Rattle.vertical.specs.Rounds.{shift}
-use Rattle.vertical.specs.Visible.{toward, deltaOf}
+use Rattle.visible.specs.Rounds.{shift}
+use Rattle.visible.specs.Visible.{toward, deltaOf}
 use Rattle.vertical.specs.Moves.{moveVertical}
-use Rattle.vertical.proofs.Visible.{toward-within}
+use Rattle.visible.proofs.Visible.{toward-within}
 use Rattle.vertical.proofs.Inside.{Inside, rounds-keep, rows-inside}
 use Rattle.screen.specs.declared.Place.{Place}
 use Rattle.screen.specs.Screen.{segmentCount, aheadOf, seatOf, onSegment, entered, stepScreen, jumpedTo, outOf, jumped}

@@ -5,11 +5,11 @@ use mathlib.Core.Bool.{Bool}
 use Prim.Native.Nat.{ℕ, _-_, _*_, _≤_, _<_, min}
 use native.Mathlib.Omega.{arith}
 use lib.ListN.{length, getD}
-use Rattle.wrap.specs.Offsets.{segmentIndex}
+use Rattle.cells.specs.Offsets.{segmentIndex}
 use Rattle.text.specs.Text.{rowCount, rowAt, rowLen}
-use Rattle.text.specs.declared.Visible.the-variants.{Row, NoRow}
-use Rattle.vertical.specs.Rounds.{rounds}
-use Rattle.vertical.specs.Visible.{toward}
+use Rattle.folds.specs.declared.Visible.the-variants.{Row, NoRow}
+use Rattle.visible.specs.Rounds.{rounds}
+use Rattle.visible.specs.Visible.{toward}
 use Rattle.screen.specs.declared.Part.{Part}
 use Rattle.screen.specs.declared.Place.{Place}
 use Rattle.screen.specs.declared.Seat.{Seat}

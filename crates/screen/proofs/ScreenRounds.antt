@@ -8,14 +8,14 @@ use native.Mathlib.Omega.{arith}
 use lib.ListN.{length}
 use borrow.Author.Tests.{lt-ltb, le-ltb}
 use Rattle.text.specs.Text.{rowCount, rowAt}
-use Rattle.text.specs.declared.Visible.{Visible}
-use Rattle.text.specs.declared.Visible.the-variants.{Row, NoRow}
+use Rattle.folds.specs.declared.Visible.{Visible}
+use Rattle.folds.specs.declared.Visible.the-variants.{Row, NoRow}
 use Rattle.screen.specs.declared.Place.{Place}
-use Rattle.vertical.specs.Rounds.{rounds, shift}
-use Rattle.vertical.specs.Visible.{toward}
+use Rattle.visible.specs.Rounds.{rounds, shift}
+use Rattle.visible.specs.Visible.{toward}
 use Rattle.screen.specs.Screen.{segmentCount, aheadOf, onSegment, entered, seatOf, stepScreen}
 use Rattle.screen.specs.Walks.{placeAt, aheadAt}
-use Rattle.vertical.proofs.Rounds.{rounds-on, rounds-still, rounds-add}
+use Rattle.visible.proofs.Rounds.{rounds-on, rounds-still, rounds-add}
 use Rattle.screen.proofs.Seats.{Laid, seat-is, seat-within}
 
 -- the segments ahead tell the segment, and the other way round

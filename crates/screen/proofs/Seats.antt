@@ -12,9 +12,9 @@ use Rattle.chars.specs.White.{isWhite}
 use Rattle.chars.specs.Width.{widthOf}
 use Rattle.wrap.specs.declared.Wrap.{Wrap}
 use Rattle.wrap.specs.Modes.{segmentsOf}
-use Rattle.wrap.specs.Offsets.{pairsBefore, segmentIndex}
+use Rattle.cells.specs.Offsets.{pairsBefore, segmentIndex}
 use Rattle.wrap.proofs.Tiles.{Tiles}
-use Rattle.wrap.proofs.Pairs.{pair-passed}
+use Rattle.cells.proofs.Pairs.{pair-passed}
 use Rattle.wrap.proofs.Index.{index-only, index-last}
 use Rattle.wrap.proofs.Laws.{wrap-tiles, wrap-even, wrap-empty}
 use Rattle.screen.specs.Screen.{clampTo, segmentCount}

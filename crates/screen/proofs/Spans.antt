@@ -7,13 +7,13 @@ use native.Mathlib.Omega.{arith}
 use borrow.Author.Tests.{eq-eqb, ne-eqb}
 use Rattle.text.specs.Text.{rowCount, rowLen, contentRows}
 use Rattle.text.specs.Offsets.{lineAt, IsLine}
-use Rattle.text.specs.Folds.{hidden, prevVisible, nextVisible, lastBefore, closedFrom, closedFoldAt}
+use Rattle.folds.specs.Folds.{hidden, prevVisible, nextVisible, lastBefore, closedFrom, closedFoldAt}
 use Rattle.text.specs.declared.Line.{Line}
-use Rattle.text.specs.declared.Span.{Span}
-use Rattle.text.specs.declared.Span.the-variants.{Of, NoSpan}
-use Rattle.text.specs.declared.Visible.{Visible}
-use Rattle.text.specs.declared.Visible.the-variants.{Row, NoRow}
-use Rattle.text.proofs.Past.{visible-within, prev-within}
+use Rattle.folds.specs.declared.Span.{Span}
+use Rattle.folds.specs.declared.Span.the-variants.{Of, NoSpan}
+use Rattle.folds.specs.declared.Visible.{Visible}
+use Rattle.folds.specs.declared.Visible.the-variants.{Row, NoRow}
+use Rattle.folds.proofs.Past.{visible-within, prev-within}
 use Rattle.text.proofs.Stands.{line-there}
 use Rattle.screen.specs.declared.Place.{Place}
 use Rattle.vertical.specs.declared.Sticky.{Sticky}

@@ -7,11 +7,11 @@ use native.Mathlib.Omega.{arith}
 use Rattle.text.specs.Text.{rowCount, rowAt}
 use Rattle.text.specs.Offsets.{Stands, lineAt}
 use Rattle.text.specs.declared.Line.{Line}
-use Rattle.text.specs.declared.Visible.the-variants.{Row, NoRow}
+use Rattle.folds.specs.declared.Visible.the-variants.{Row, NoRow}
 use Rattle.text.proofs.Stands.{line-there}
 use Rattle.screen.specs.declared.Spot.{Spot}
-use Rattle.vertical.specs.Rounds.{rounds}
-use Rattle.vertical.specs.Visible.{toward}
+use Rattle.visible.specs.Rounds.{rounds}
+use Rattle.visible.specs.Visible.{toward}
 use Rattle.screen.specs.Screen.{segmentCount, stepScreen}
 use Rattle.screen.specs.Walks.{layOf, modeOf, placeAt, IsSpot, Leads}
 use Rattle.screen.proofs.Seats.{laid}

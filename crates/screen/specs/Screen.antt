@@ -9,18 +9,18 @@ use Rattle.chars.specs.White.{isWhite}
 use Rattle.chars.specs.Width.{widthOf}
 use Rattle.wrap.specs.declared.Wrap.{Wrap}
 use Rattle.wrap.specs.Modes.{isNone, segmentsOf}
-use Rattle.wrap.specs.Offsets.{segmentIndex}
+use Rattle.cells.specs.Offsets.{segmentIndex}
 use Rattle.text.specs.Text.{rowCount, rowAt, rowLen, contentRows}
-use Rattle.text.specs.Folds.{closedFoldAt}
-use Rattle.text.specs.declared.Span.{Span}
-use Rattle.text.specs.declared.Span.the-variants.{Of, NoSpan}
-use Rattle.text.specs.declared.Visible.{Visible}
-use Rattle.text.specs.declared.Visible.the-variants.{Row, NoRow}
+use Rattle.folds.specs.Folds.{closedFoldAt}
+use Rattle.folds.specs.declared.Span.{Span}
+use Rattle.folds.specs.declared.Span.the-variants.{Of, NoSpan}
+use Rattle.folds.specs.declared.Visible.{Visible}
+use Rattle.folds.specs.declared.Visible.the-variants.{Row, NoRow}
 use Rattle.screen.specs.declared.Place.{Place}
 use Rattle.vertical.specs.declared.Sticky.{Sticky}
 use Rattle.vertical.specs.declared.Target.{Target}
-use Rattle.vertical.specs.Rounds.{rounds, shift}
-use Rattle.vertical.specs.Visible.{toward, deltaOf}
+use Rattle.visible.specs.Rounds.{rounds, shift}
+use Rattle.visible.specs.Visible.{toward, deltaOf}
 use Rattle.vertical.specs.Moves.{lastCol, wantedCol, moveVertical}
 
 -- `clamp_to_segment`: so many characters behind the segment's start, within the segment and the row of `len` characters

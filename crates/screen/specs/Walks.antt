@@ -10,17 +10,17 @@ use Rattle.chars.specs.Width.{widthOf}
 use Rattle.wrap.specs.declared.Wrap.{Wrap}
 use Rattle.wrap.specs.declared.Wrap.the-variants.{Char, Word}
 use Rattle.wrap.specs.Modes.{segmentsOf}
-use Rattle.wrap.specs.Offsets.{segmentIndex}
+use Rattle.cells.specs.Offsets.{segmentIndex}
 use Rattle.wrap.specs.Lent.{Tables}
 use Rattle.text.specs.Text.{rowCount, rowAt}
 use Rattle.text.specs.Offsets.{Stands}
-use Rattle.text.specs.Folds.{foldRefusal}
+use Rattle.folds.specs.Folds.{foldRefusal}
 use Rattle.screen.specs.declared.Jump.{Jump}
 use Rattle.screen.specs.declared.Part.{Part}
 use Rattle.screen.specs.declared.Seat.{Seat}
 use Rattle.screen.specs.declared.Spot.{Spot}
 use Rattle.screen.specs.declared.Place.{Place}
-use Rattle.vertical.specs.Rounds.{rounds}
+use Rattle.visible.specs.Rounds.{rounds}
 use Rattle.screen.specs.Screen.{segmentCount, aheadOf, onSegment, seatOf, stepScreen}
 
 abbrev pub modeOf : Bool → Wrap

@@ -1,16 +1,16 @@
 // Out of a closed fold, as `move_screen_vertical` of motions.rs does before its rounds: to the
 // fold's last row, or upwards to its first.
 use crate::Jump;
+use folds::Span;
 use text::Line;
-use text::Span;
-use vertical::least;
-use vertical::minus;
+use text::least;
+use text::minus;
 ghost use mathlib.Core.Path.{_≡_};
 ghost use mathlib.Core.Bool.{cond};
 ghost use Prim.Native.Nat.{_-_, _≤_, _<_};
 ghost use Rattle.text.specs.Text.{rowCount};
 ghost use Rattle.text.specs.Offsets.{IsLine};
-ghost use Rattle.text.specs.Folds.{foldRefusal};
+ghost use Rattle.folds.specs.Folds.{foldRefusal};
 ghost use Rattle.screen.specs.Screen.{jumped, jumpedTo};
 ghost use Rattle.screen.specs.Walks.{JumpedTo};
 
@@ -51,7 +51,7 @@ pub fn jump(t: &[u32], folds: &[u32], rows: usize, down: bool, l: Line, col: usi
     ensures { λ r. ⌜ JumpedTo (now (t .entry))
         (jumped (now (t .entry)) (now (folds .entry)) down (record { row = l .row; col = col })) r ⌝ }
 {
-    match text::folds::closed_fold_at(folds, rows, text::content_rows(t), l.row) {
+    match folds::closed_fold_at(folds, rows, text::content_rows(t), l.row) {
         Span::Of(first, last) => jump_to(t, l, col, pick(down, last, first)),
         Span::NoSpan => Jump {
             row: l.row,

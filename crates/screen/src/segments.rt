@@ -1,9 +1,9 @@
 // The segments of one row, by their number: `segment_for_col` and `clamp_to_segment` as
 // `step_screen` of motions.rs uses them, over the row itself and with no list of segments.
 use crate::Part;
-use vertical::least;
-use vertical::minus;
-use vertical::most;
+use text::least;
+use text::minus;
+use text::most;
 ghost use mathlib.Core.Path.{_≡_};
 ghost use mathlib.Core.Bool.{cond};
 ghost use Prim.Native.Nat.{_+_, _-_, _≤_, _<_};

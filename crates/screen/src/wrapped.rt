@@ -3,9 +3,9 @@
 use crate::jumps;
 use crate::walks;
 use text::Line;
+use text::most;
 use vertical::Sticky;
 use vertical::Target;
-use vertical::most;
 use vertical::moves;
 use wrap::Wrap;
 ghost use mathlib.Core.Path.{_≡_};

@@ -23,6 +23,13 @@ module _ (p : ℕ → Bool) (t : List ℕ) (i : ℕ) where
   any-end true h e = e
   any-end false h e = e ∙ rw (drop-of-length-le t h)
 
+-- what two flags have found, each by its own test
+pub each-its-own : (l h u v : Bool) → ((l || h) || (u || v)) ≡ ((l || u) || (h || v))
+each-its-own true h u v = refl
+each-its-own false true true v = refl
+each-its-own false true false v = refl
+each-its-own false false u v = refl
+
 -- an accepted text is short
 pub accepted-short : (t : List ℕ) → textRefusal t ≡ 0 → length t ≤ 1048576
 unfolding textRefusal

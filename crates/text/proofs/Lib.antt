@@ -7,6 +7,4 @@ pub mod At
 pub mod Before
 pub mod Stands
 pub mod Content
-pub mod Hiding
-pub mod Past
 pub mod Examples

@@ -1,4 +1,2 @@
 pub mod Text
 pub mod Offsets
-pub mod Folds
-pub mod Cover

@@ -2,12 +2,10 @@
 // From document 01, "Text, rows, carets" and "Refusal numbers", and `content_row_count` of
 // motions.rs.
 ghost use mathlib.Core.Path.{_≡_};
-ghost use Prim.Native.Nat.{_+_, _-_, _≤_, _<_};
+ghost use Prim.Native.Nat.{_+_, _-_, _≤_, _<_, min, max};
 ghost use lib.ListN.{length};
-ghost use Rattle.text.specs.Text.{any, notScalar, isBreak, textRefusal};
-ghost use Rattle.text.specs.Text.{rowCount, contentRows, contentRowCount};
+ghost use Rattle.text.specs.Text.{textRefusal, rowCount, contentRows, contentRowCount};
 
-pub mod folds;
 pub mod offsets;
 
 // A row, and the offset at which it starts.
@@ -16,67 +14,38 @@ pub struct Line {
     pub start: usize,
 }
 
-// A row that no fold hides, where there is one.
-pub enum Visible {
-    Row(usize),
-    NoRow,
-}
-
-// The first and the last row of a fold, where there is one.
-pub enum Span {
-    Of(usize, usize),
-    NoSpan,
-}
-
 // The rows of a text with content, or the number that the text is refused with.
 pub enum Counted {
     Rows(u32),
     Refused(u32),
 }
 
-// Whether a text holds a value that is no scalar value. One pass with one flag and no branch on what
-// is read, so that the compiler reads many code points at a time.
-fn holds_wrong(t: &[u32]) -> bool
-    ensures { λ r. ⌜ r ≡ any notScalar (now (t .entry)) ⌝ }
-{
-    let mut wrong = false;
-    let mut i: usize = 0;
-    while i < t.len() {
-        let x = t[i];
-        wrong = wrong | !((x <= 0x10ffff) & ((x < 0xd800) | (x > 0xdfff)));
-        i += 1;
-    }
-    wrong
-}
-
-// Whether it holds a line break other than U+000A. A loop of its own: with both flags in one the
-// compiler reads the code points one by one.
-fn holds_break(t: &[u32]) -> bool
-    ensures { λ r. ⌜ r ≡ any isBreak (now (t .entry)) ⌝ }
-{
-    let mut broken = false;
-    let mut i: usize = 0;
-    while i < t.len() {
-        let x = t[i];
-        broken = broken
-            | (((x >= 0xb) & (x <= 0xd)) | ((x == 0x85) | ((x == 0x2028) | (x == 0x2029))));
-        i += 1;
-    }
-    broken
-}
-
 // The number that a text is refused with: 1 over 1,048,576 code points, 2 a value that is no scalar
 // value, 3 a line break other than U+000A; 0 where it is accepted.
+// One pass with no branch on what is read, so that the compiler reads many code points at a time. Line
+// breaks have two flags: with one the compiler takes the last code point out of the loop, as a switch,
+// and then reads them one by one.
 pub fn text_refusal(t: &[u32]) -> u32
     ensures { λ r. ⌜ r ≡ textRefusal (now (t .entry)) ⌝ }
 {
     if t.len() > 1048576 {
         return 1;
     }
-    if holds_wrong(t) {
+    let mut wrong = false;
+    let mut feed = false;
+    let mut separator = false;
+    let mut i: usize = 0;
+    while i < t.len() {
+        let x = t[i];
+        wrong = wrong | !((x <= 0x10ffff) & ((x < 0xd800) | (x > 0xdfff)));
+        feed = feed | ((x >= 0xb) & (x <= 0xd));
+        separator = separator | ((x == 0x85) | ((x == 0x2028) | (x == 0x2029)));
+        i += 1;
+    }
+    if wrong {
         return 2;
     }
-    if holds_break(t) {
+    if feed | separator {
         return 3;
     }
     0
@@ -122,4 +91,23 @@ pub fn content_row_count(t: &[u32]) -> Counted
     }
     let n = content_rows(t);
     Counted::Rows(n as u32)
+}
+
+// The smaller and the greater of two numbers, and a difference that stops at 0.
+pub fn least(a: usize, b: usize) -> usize
+    ensures { λ r. ⌜ r ≡ min a b ⌝ }
+{
+    if a < b { a } else { b }
+}
+
+pub fn most(a: usize, b: usize) -> usize
+    ensures { λ r. ⌜ r ≡ max a b ⌝ }
+{
+    if a < b { b } else { a }
+}
+
+pub fn minus(a: usize, b: usize) -> usize
+    ensures { λ r. ⌜ r ≡ a - b ⌝ }
+{
+    if a < b { 0 } else { a - b }
 }

@@ -11,7 +11,7 @@ use Rattle.chars.specs.Scalar.{isScalar}
 use Rattle.row.specs.Row.{all, rowRefusal}
 use Rattle.columns.specs.Columns.{columnRefusal}
 use Rattle.text.specs.Text.{any, notScalar, isBreak, textRefusal, rowCount, rowAt, rowLen}
-use Rattle.text.proofs.Hiding.{or-right}
+use Rattle.folds.proofs.Hiding.{or-right}
 use Rattle.text.proofs.Parts.{row-part, row-fits}
 use Rattle.text.specs.Offsets.{rowStart, lineAt}
 use Rattle.text.specs.declared.Line.{Line}

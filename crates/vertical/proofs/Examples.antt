@@ -5,10 +5,10 @@ use mathlib.Core.Bool.{true, false}
 use Rattle.chars.specs.Width.{zeroWidths, doubleWidths, widthOf}
 use Rattle.columns.specs.Columns.{stopOf, visualFrom, charFrom}
 use Rattle.text.specs.Text.{onFirst, rows}
-use Rattle.text.specs.Folds.{anyFold, visibleFrom, prevVisible}
+use Rattle.folds.specs.Folds.{anyFold, visibleFrom, prevVisible}
 use Rattle.vertical.specs.declared.Sticky.the-variants.{Absent}
-use Rattle.vertical.specs.Rounds.{rounds}
-use Rattle.vertical.specs.Visible.{verticalRow, deltaOf}
+use Rattle.visible.specs.Rounds.{rounds}
+use Rattle.visible.specs.Visible.{verticalRow, deltaOf}
 use Rattle.vertical.specs.Moves.{landed, moveVertical}
 
 -- `a` and a separator: `j` reaches the last empty row; on it `j` stays, and the sticky column is set

@@ -9,15 +9,15 @@ use native.Mathlib.Omega.{arith}
 use lib.IntN.{ℤ, pos, negsuc}
 use borrow.Author.Tests.{eq-eqb, ne-eqb}
 use Rattle.text.specs.Text.{rowCount, rowLen}
-use Rattle.text.specs.Folds.{hidden}
-use Rattle.text.specs.declared.Visible.{Visible}
-use Rattle.text.specs.declared.Visible.the-variants.{Row, NoRow}
+use Rattle.folds.specs.Folds.{hidden}
+use Rattle.folds.specs.declared.Visible.{Visible}
+use Rattle.folds.specs.declared.Visible.the-variants.{Row, NoRow}
 use Rattle.vertical.specs.declared.Sticky.{Sticky}
 use Rattle.vertical.specs.declared.Target.{Target}
-use Rattle.vertical.specs.Rounds.{rounds}
-use Rattle.vertical.specs.Visible.{toward, rowOr, stepRow, shownRow, verticalRow}
+use Rattle.visible.specs.Rounds.{rounds}
+use Rattle.visible.specs.Visible.{toward, rowOr, stepRow, shownRow, verticalRow}
 use Rattle.vertical.specs.Moves.{landed, moveVertical}
-use Rattle.vertical.proofs.Visible.{toward-within}
+use Rattle.visible.proofs.Visible.{toward-within}
 
 pub record Inside (t : List ℕ) (row col : ℕ) : Type 0 where
   pub in-row : row < rowCount t

@@ -1,8 +1,4 @@
 -- Laws of the vertical walks, which the proofs of this crate and of the crates above it cite.
-pub mod Rounds
-pub mod Free
-pub mod Visible
-pub mod Signed
 pub mod Accepted
 pub mod Columns
 pub mod Landed

@@ -1,4 +1,2 @@
-pub mod Rounds
-pub mod Visible
 pub mod Moves
 pub mod Viewport

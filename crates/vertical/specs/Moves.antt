@@ -10,12 +10,12 @@ use Rattle.chars.specs.Width.{widthOf}
 use Rattle.columns.specs.Columns.{cursorCol, charCol}
 use Rattle.text.specs.Text.{textRefusal, rowCount, rowAt, rowLen}
 use Rattle.text.specs.Offsets.{Stands, IsLine}
-use Rattle.text.specs.Folds.{foldRefusal}
+use Rattle.folds.specs.Folds.{foldRefusal}
 use Rattle.text.specs.declared.Line.{Line}
 use Rattle.vertical.specs.declared.Sticky.{Sticky}
 use Rattle.vertical.specs.declared.Sticky.the-variants.{Absent, At}
 use Rattle.vertical.specs.declared.Target.{Target}
-use Rattle.vertical.specs.Visible.{verticalRow}
+use Rattle.visible.specs.Visible.{verticalRow}
 
 -- the visual column to aim for: the sticky one, or else where the cursor is drawn
 abbrev pub wantedCol : List ℕ → ℕ → ℕ → ℕ → Sticky → ℕ

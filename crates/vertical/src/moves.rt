@@ -2,18 +2,18 @@
 // tabstop were accepted.
 use crate::Sticky;
 use crate::Target;
-use crate::least;
-use crate::minus;
-use crate::rows;
 use row::Column;
 use text::Line;
+use text::least;
+use text::minus;
+use visible::rows;
 ghost use mathlib.Core.Path.{_≡_};
 ghost use lib.IntN.{negℤ};
 ghost use mir.Syntax.{w64};
 ghost use mir.Val.{SFits};
 ghost use Rattle.chars.specs.Width.{widthOf};
 ghost use Rattle.columns.specs.Columns.{columnRefusal, cursorCol, charCol};
-ghost use Rattle.vertical.specs.Visible.{deltaOf};
+ghost use Rattle.visible.specs.Visible.{deltaOf};
 ghost use Rattle.vertical.specs.Moves.{Accepted, AcceptedRow, wantedCol, aimedCol};
 ghost use Rattle.vertical.specs.Moves.{moveVertical};
 

@@ -1,10 +1,10 @@
 // The rows that the viewport motions lead to: `H`, `M` and `L` of motions.rs, "Viewport-relative
 // motions". Rows and heights are 32 and 16 bits wide and the sums 64, so that none wraps.
 use crate::Edge;
-use crate::least;
-use crate::minus;
-use crate::most;
 use text::Line;
+use text::least;
+use text::minus;
+use text::most;
 ghost use mathlib.Core.Path.{_≡_};
 ghost use Rattle.text.specs.Offsets.{lineAt};
 ghost use Rattle.vertical.specs.Viewport.{bottomRow, topRow, middleRow, baseRow};

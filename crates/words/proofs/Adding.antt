@@ -5,7 +5,7 @@ use mathlib.Core.Bool.{Bool, true, false, cond, _&&_}
 use Prim.Native.Nat.{ℕ, zero, suc, _+_, _-_, _<_, max}
 use native.Mathlib.Omega.{arith}
 use Rattle.text.specs.Text.{rowCount}
-use Rattle.text.specs.Folds.{foldRefusal}
+use Rattle.folds.specs.Folds.{foldRefusal}
 use Rattle.places.specs.Places.{Place, Went, To, Nowhere}
 use Rattle.strides.specs.Words.{nextWordStart, prevWordStart, nextWordEnd, prevWordEnd, atWordEnd}
 use Rattle.words.specs.Rounds.{Turn, On, Off, turn, jumpFwd, jumpBack, roundOf, after, counted, wordMotion}

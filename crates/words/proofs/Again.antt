@@ -8,15 +8,15 @@ use native.Mathlib.Numerals.{add-one}
 use native.Mathlib.Nat.{add-zero}
 use native.Mathlib.Decide.{ℕ-discrete}
 use Rattle.text.specs.Text.{rowCount, contentRows}
-use Rattle.text.specs.Folds.{anyFold, badFold, foldRefusal, hidden, visibleFrom, prevVisible, nextVisible, lastBefore, closedFrom, closedFoldAt}
-use Rattle.text.specs.Cover.{coverOf}
-use Rattle.text.specs.declared.Span.{Span}
-use Rattle.text.specs.declared.Span.the-variants.{Of, NoSpan}
-use Rattle.text.specs.declared.Visible.{Visible}
-use Rattle.text.specs.declared.Visible.the-variants.{Row, NoRow}
+use Rattle.folds.specs.Folds.{anyFold, badFold, foldRefusal, hidden, visibleFrom, prevVisible, nextVisible, lastBefore, closedFrom, closedFoldAt}
+use Rattle.folds.specs.Cover.{coverOf}
+use Rattle.folds.specs.declared.Span.{Span}
+use Rattle.folds.specs.declared.Span.the-variants.{Of, NoSpan}
+use Rattle.folds.specs.declared.Visible.{Visible}
+use Rattle.folds.specs.declared.Visible.the-variants.{Row, NoRow}
 use Rattle.text.proofs.Content.{content-near}
-use Rattle.text.proofs.Hiding.{Covers, cover-covers}
-use Rattle.text.proofs.Past.{folds-good, visible-within}
+use Rattle.folds.proofs.Hiding.{Covers, cover-covers}
+use Rattle.folds.proofs.Past.{folds-good, visible-within}
 use Rattle.places.specs.Places.{Place}
 use Rattle.words.specs.Rounds.{toLast, toFirst, foldAt, jumpFwd, jumpBack}
 

@@ -7,9 +7,9 @@ use native.Mathlib.Omega.{arith}
 use lib.Dec.{eqb, ltb, leb}
 use lib.ListN.{length, getD, drop}
 use borrow.Author.Tests.{ne-eqb, le-ltb, lt-leb, ltb-true, leb-true}
-use Rattle.text.specs.Folds.{anyFold, foldHides, hidden, foldRefusal}
-use Rattle.text.specs.declared.Span.the-variants.{NoSpan}
-use Rattle.text.proofs.Hiding.{any-fold-on, any-fold-end}
+use Rattle.folds.specs.Folds.{anyFold, foldHides, hidden, foldRefusal}
+use Rattle.folds.specs.declared.Span.the-variants.{NoSpan}
+use Rattle.folds.proofs.Hiding.{any-fold-on, any-fold-end}
 use Rattle.places.specs.Places.{Place}
 use Rattle.places.specs.declared.Spot.{Spot}
 use Rattle.places.specs.declared.Setting.{Setting}

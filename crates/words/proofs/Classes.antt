@@ -6,9 +6,9 @@ use mathlib.Core.Bool.{Bool}
 use Prim.Native.Nat.{ℕ, _+_, _≤_}
 use lib.ListN.{length, take}
 use lib.Seq.{length-take-le}
-use Rattle.keywords.specs.declared.Token.{Token}
+use Rattle.tokens.specs.declared.Token.{Token}
 use Rattle.keywords.specs.declared.KeywordSpec.{KeywordSpec}
-use Rattle.keywords.specs.Tokens.{anyToken}
+use Rattle.tokens.specs.Tokens.{anyToken}
 use Rattle.keywords.specs.Table.{kept}
 use Rattle.keywords.specs.Flat.{flat, padded, anyAlpha, flatHolds, flatOf}
 use Rattle.keywords.proofs.FlatLaws.{flat-front, flat-same}

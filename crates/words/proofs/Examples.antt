@@ -6,7 +6,7 @@ use mathlib.Core.Bool.{true, false, cond}
 use Prim.Native.Nat.{ℕ}
 use lib.Dec.{eqb}
 use Rattle.text.specs.Text.{onFirst, rows}
-use Rattle.text.specs.Folds.{anyFold, visibleFrom}
+use Rattle.folds.specs.Folds.{anyFold, visibleFrom}
 use Rattle.words.specs.declared.Motion.the-variants.{Fwd, End}
 use Rattle.places.specs.Places.{place, kindAt, nextRow, stepForward, endOfBuffer}
 use Rattle.places.specs.Walks.{walk, goesOn}

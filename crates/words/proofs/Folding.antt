@@ -8,16 +8,16 @@ use native.Mathlib.Omega.{arith}
 use lib.ListN.{length}
 use Rattle.text.specs.Text.{rowCount, rowLen}
 use Rattle.text.specs.Offsets.{rowStart, lineAt}
-use Rattle.text.specs.Folds.{hidden, prevVisible, nextVisible, lastBefore, closedFrom, closedFoldAt}
+use Rattle.folds.specs.Folds.{hidden, prevVisible, nextVisible, lastBefore, closedFrom, closedFoldAt}
 use Rattle.text.specs.declared.Line.{Line}
-use Rattle.text.specs.declared.Span.{Span}
-use Rattle.text.specs.declared.Span.the-variants.{Of, NoSpan}
-use Rattle.text.specs.declared.Visible.{Visible}
-use Rattle.text.specs.declared.Visible.the-variants.{Row, NoRow}
+use Rattle.folds.specs.declared.Span.{Span}
+use Rattle.folds.specs.declared.Span.the-variants.{Of, NoSpan}
+use Rattle.folds.specs.declared.Visible.{Visible}
+use Rattle.folds.specs.declared.Visible.the-variants.{Row, NoRow}
 use Rattle.text.proofs.Content.{content-near}
 use Rattle.text.proofs.At.{at-start, at-col}
 use Rattle.text.proofs.Parts.{row-fits}
-use Rattle.text.proofs.Past.{visible-within, prev-within}
+use Rattle.folds.proofs.Past.{visible-within, prev-within}
 use Rattle.places.specs.declared.Spot.{Spot}
 use Rattle.places.specs.Places.{Place, place}
 use Rattle.words.specs.Rounds.{toLast, toFirst, foldAt, jumpFwd, jumpBack}

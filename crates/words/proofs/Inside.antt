@@ -6,8 +6,8 @@ use mathlib.Core.Bool.{Bool, true, false, cond, _&&_}
 use Prim.Native.Nat.{ℕ, zero, suc, _-_, _<_, max}
 use native.Mathlib.Omega.{arith}
 use Rattle.text.specs.Text.{rowCount, contentRows}
-use Rattle.text.specs.declared.Span.{Span}
-use Rattle.text.specs.declared.Span.the-variants.{Of, NoSpan}
+use Rattle.folds.specs.declared.Span.{Span}
+use Rattle.folds.specs.declared.Span.the-variants.{Of, NoSpan}
 use Rattle.text.proofs.Content.{content-near}
 use Rattle.places.specs.Places.{Place, Went, To, Nowhere}
 use Rattle.places.proofs.Within.{In, WentTo}

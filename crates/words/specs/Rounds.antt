@@ -4,9 +4,9 @@ use Prim.Native.Nat.{ℕ, zero, suc, _-_, max}
 use mathlib.Core.List.{List}
 use mathlib.Core.Bool.{Bool, false, cond, _&&_}
 use Rattle.text.specs.Text.{rowCount, rowLen, contentRows}
-use Rattle.text.specs.Folds.{closedFoldAt}
-use Rattle.text.specs.declared.Span.{Span}
-use Rattle.text.specs.declared.Span.the-variants.{Of, NoSpan}
+use Rattle.folds.specs.Folds.{closedFoldAt}
+use Rattle.folds.specs.declared.Span.{Span}
+use Rattle.folds.specs.declared.Span.the-variants.{Of, NoSpan}
 use Rattle.places.specs.Places.{Place, place, Went, To, Nowhere}
 use Rattle.strides.specs.Words.{nextWordStart, prevWordStart, nextWordEnd, prevWordEnd, atWordEnd}
 use Rattle.words.specs.declared.Motion.{Motion}

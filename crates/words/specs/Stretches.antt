@@ -4,7 +4,7 @@ use Prim.Native.Nat.{ℕ, _≤_}
 use mathlib.Core.Path.{_≡_}
 use mathlib.Core.List.{List}
 use mathlib.Core.Bool.{false}
-use Rattle.text.specs.Folds.{foldHides, hidden}
+use Rattle.folds.specs.Folds.{foldHides, hidden}
 use Rattle.words.specs.declared.Stretch.{Stretch}
 
 -- r is in w, and a fold hides no row of it, nor the one behind it

@@ -4,7 +4,7 @@ use Prim.Native.Nat.{ℕ}
 use mathlib.Core.Path.{_≡_}
 use mathlib.Core.List.{List}
 use Rattle.text.specs.Text.{rowCount, contentRows}
-use Rattle.text.specs.Folds.{foldRefusal}
+use Rattle.folds.specs.Folds.{foldRefusal}
 use Rattle.places.specs.Spots.{placeOf, IsSpot}
 use Rattle.places.specs.Lent.{Bounds}
 use Rattle.places.specs.declared.Spot.{Spot}

@@ -1,8 +1,7 @@
 // Out of a closed fold: `fold_jump_fwd` and `fold_jump_back` of motions.rs.
+use folds::Span;
 use places::Spot;
 use text::Line;
-use text::Span;
-use text::folds;
 use text::offsets;
 ghost use mathlib.Core.Path.{_≡_};
 ghost use Prim.Native.Nat.{_+_, _-_, _≤_, _<_};

@@ -6,7 +6,8 @@ use Rattle.chars.specs.White.{whites, isWhite}
 use Rattle.chars.specs.Width.{zeroWidths, doubleWidths, widthOf}
 use Rattle.wrap.specs.declared.Wrap.{Wrap}
 use Rattle.wrap.specs.declared.Wrap.the-variants.{None, Char, Word}
-use Rattle.wrap.specs.Segments.{fits, afterWhite, firstSegment, segmentsFrom}
+use Rattle.cells.specs.Cells.{fits}
+use Rattle.wrap.specs.Segments.{afterWhite, firstSegment, segmentsFrom}
 use Rattle.wrap.specs.Modes.{segmentsOf}
 
 -- by today's tables

@@ -10,9 +10,10 @@ use native.Mathlib.Omega.{arith}
 use lib.Dec.{ltb}
 use lib.ListN.{length, take}
 use borrow.Author.Tests.{le-ltb, lt-ltb}
-use Rattle.wrap.specs.Segments.{fits, afterWhite, charSegment, firstSegment}
-use Rattle.wrap.specs.Offsets.{cellsIn}
-use Rattle.wrap.proofs.Fits.{fits-fills, cells-rises}
+use Rattle.cells.specs.Cells.{fits}
+use Rattle.wrap.specs.Segments.{afterWhite, charSegment, firstSegment}
+use Rattle.cells.specs.Offsets.{cellsIn}
+use Rattle.cells.proofs.Fits.{fits-fills, cells-rises}
 use Rattle.wrap.proofs.White.{white-last}
 
 module _ (w : ℕ → ℕ) (width : ℕ) (row : List ℕ) where

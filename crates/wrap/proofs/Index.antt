@@ -8,9 +8,9 @@ use native.Mathlib.Omega.{arith}
 use lib.Dec.{leb}
 use lib.ListN.{length, getD}
 use borrow.Author.Tests.{le-leb, le-ltb, lt-ltb}
-use Rattle.wrap.specs.Offsets.{pairsBefore, segmentIndex}
+use Rattle.cells.specs.Offsets.{pairsBefore, segmentIndex}
 use Rattle.wrap.proofs.Tiles.{Tiles}
-use Rattle.wrap.proofs.Pairs.{pair-holds, pair-passed, pair-none}
+use Rattle.cells.proofs.Pairs.{pair-holds, pair-passed, pair-none}
 
 -- where pairs go from a to z, the one that holds a column between is found
 pub record Found (col : ℕ) (segments : List ℕ) (k : ℕ) : Type 0 where

@@ -11,7 +11,7 @@ use lib.ListN.{length}
 use Rattle.wrap.specs.declared.Wrap.{Wrap}
 use Rattle.wrap.specs.Modes.{isNone, isWord, isWhole, segmentsOf}
 use Rattle.wrap.specs.Segments.{segmentsFrom}
-use Rattle.wrap.specs.Offsets.{part, cellsIn, segmentIndex}
+use Rattle.cells.specs.Offsets.{part, cellsIn, segmentIndex}
 use Rattle.wrap.proofs.Room.{segments-whole, segments-broken}
 use Rattle.wrap.proofs.Tiles.{Tiles, Each, segments-tile, segments-fit}
 use Rattle.wrap.proofs.Index.{Found, index-finds, index-last, index-only, tiles-even}

@@ -1,12 +1,9 @@
-pub mod Fits
 pub mod White
 pub mod First
 pub mod Step
 pub mod Twice
 pub mod Walk
 pub mod Tiles
-pub mod Places
-pub mod Pairs
 pub mod Index
 pub mod Room
 pub mod Laws

@@ -10,9 +10,10 @@ use native.Mathlib.Decide.{decLe, ℕ-discrete}
 use native.Mathlib.Omega.{arith}
 use lib.ListN.{length, getD, take, drop, length-drop}
 use lib.Seq.{take-add, getD-drop}
-use Rattle.wrap.specs.Segments.{fits, afterWhite, charSegment, firstSegment}
-use Rattle.wrap.specs.Offsets.{cellsIn}
-use Rattle.wrap.proofs.Fits.{cells-none, cells-more, cells-rises, fits-fills}
+use Rattle.cells.specs.Cells.{fits}
+use Rattle.wrap.specs.Segments.{afterWhite, charSegment, firstSegment}
+use Rattle.cells.specs.Offsets.{cellsIn}
+use Rattle.cells.proofs.Fits.{cells-none, cells-more, cells-rises, fits-fills}
 use Rattle.wrap.proofs.White.{white-last}
 use Rattle.wrap.proofs.First.{char-is, char-alone, first-cases}
 

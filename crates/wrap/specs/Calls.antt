@@ -1,6 +1,6 @@
 -- What the calls of `src/` answer: the number that they are refused for, or what the definitions give by today's tables.
 -- Definitions only. Assumes nothing.
-use Prim.Native.Nat.{ℕ, _%_}
+use Prim.Native.Nat.{ℕ}
 use mathlib.Core.Path.{_≡_}
 use mathlib.Core.List.{List, [], _∷_}
 use mathlib.Core.Bool.{Bool, cond}
@@ -8,16 +8,12 @@ use lib.ListN.{length}
 use lib.Dec.{eqb}
 use Rattle.chars.specs.White.{isWhite}
 use Rattle.chars.specs.Width.{widthOf}
-use Rattle.row.specs.declared.Column.{Column}
-use Rattle.row.specs.Row.{rowRefusal, columnOf}
+use Rattle.row.specs.Row.{rowRefusal}
 use Rattle.wrap.specs.declared.Wrap.{Wrap}
 use Rattle.wrap.specs.declared.Segments.{Segments}
-use Rattle.wrap.specs.declared.Segment.{Segment}
-use Rattle.wrap.specs.declared.Segment.the-variants.{At, Refused}
 use Rattle.wrap.specs.Segments.{segmentsFrom}
 use Rattle.wrap.specs.Modes.{segmentsOf}
 use Rattle.wrap.specs.Room.{filled, Answered, roomRefusal, Fitted}
-use Rattle.wrap.specs.Offsets.{charAtOffset, offsetOfChar, segmentIndex}
 
 -- the segments of a row that is broken, by today's tables
 abbrev pub rowSegments : Bool → ℕ → List ℕ → List ℕ
@@ -42,13 +38,3 @@ wrapRefusal row segments room = cond (eqb (rowRefusal row) 0) (roomRefusal segme
 abbrev pub Wraps : Wrap → ℕ → List ℕ → List ℕ → Segments → List ℕ → Type 0
 Wraps mode width row room r room′ =
     let segments = segmentsOf widthOf isWhite mode width row in Answered (wrapRefusal row segments room) segments room r room′
-
-abbrev pub charColForVisualOffset : List ℕ → ℕ → ℕ → ℕ → Column
-charColForVisualOffset row start end offset = columnOf (rowRefusal row) (charAtOffset widthOf row start end offset)
-
-abbrev pub visualOffsetForCharCol : List ℕ → ℕ → ℕ → Column
-visualOffsetForCharCol row start col = columnOf (rowRefusal row) (offsetOfChar widthOf row start col)
-
--- 10: a slice of odd length
-abbrev pub segmentForCol : List ℕ → ℕ → Segment
-segmentForCol segments col = cond (eqb (length segments % 2) 0) (At (segmentIndex segments col)) (Refused 10)

@@ -4,16 +4,8 @@ use Prim.Native.Nat.{ℕ, zero, suc, _+_, _-_, max}
 use mathlib.Core.List.{List, [], _∷_}
 use mathlib.Core.Bool.{Bool, cond, _&&_}
 use lib.ListN.{length}
-use lib.Dec.{eqb, leb, ltb}
-
--- the cells of a character: at least one, and a tab is as any other
-abbrev pub cellsOf : (ℕ → ℕ) → ℕ → ℕ
-cellsOf w x = max 1 (w x)
-
--- how many characters the row begins with that go into `room` cells
-unfoldable pub fits : (ℕ → ℕ) → ℕ → List ℕ → ℕ
-fits w room [] = 0
-fits w room (x ∷ row) = cond (leb (cellsOf w x) room) (suc (fits w (room - cellsOf w x) row)) 0
+use lib.Dec.{eqb, ltb}
+use Rattle.cells.specs.Cells.{fits}
 
 -- the place after the last white space among the first n characters, or 0 where there is none
 unfoldable pub afterWhite : (ℕ → Bool) → List ℕ → ℕ → ℕ

@@ -4,7 +4,6 @@
 // therefore reaches past it (`proofs/Twice.antt`).
 use crate::Segments;
 use crate::Wrap;
-use crate::cells;
 ghost use mathlib.Core.Path.{_≡_};
 ghost use Prim.Native.Nat.{_+_, _*_, _≤_, _<_};
 ghost use lib.ListN.{length, set};
@@ -13,7 +12,8 @@ ghost use Rattle.chars.specs.Width.{widthOf};
 ghost use Rattle.wrap.specs.Segments.{afterWhite, charSegment, firstSegment};
 ghost use Rattle.wrap.specs.Modes.{isNone, isWord, isWhole};
 ghost use Rattle.wrap.specs.Calls.{rowSegments, Written, Broken, Whole, Wraps};
-ghost use Rattle.wrap.specs.Lent.{Widths, Tables};
+ghost use Rattle.cells.specs.Lent.{Widths};
+ghost use Rattle.wrap.specs.Lent.{Tables};
 
 // The place after the last white space among the first n characters, or 0 where there is none.
 fn after_white(white: &[u32], row: &[u32], n: usize) -> usize

@@ -7,9 +7,9 @@ use mathlib.Core.Path.{_≡_, refl, sym, _∙_}
 use lib.ListN.{length, getD}
 use borrow.Author.Needs.{needs}
 use Rattle.brackets.specs.Kinds.{keyBracket}
-use Rattle.brackets.specs.Nearest.{firstIn}
+use Rattle.scans.specs.Nearest.{firstIn}
 use Rattle.brackets.specs.Find.{firstBracket}
-use Rattle.brackets.proofs.Nearest.{first-on, first-stop, first-end}
+use Rattle.scans.proofs.Nearest.{first-on, first-stop, first-end}
 use Rattle.brackets.proofs.find.first_bracket.Statement.{statement}
 use Rattle.brackets.proofs.find.first_bracket.Tie as tie
 

@@ -1,7 +1,7 @@
 -- `tsivareza_keywords` meets its contract: the room is filled, and the call on code points answers. Assumes nothing.
 use borrow.Author.Needs.{needs}
-use Rattle.exports.specs.Lists.{keywords}
-use Rattle.exports.proofs.Replies.{answered-unfit, front-count, answered-one}
+use Rattle.row_calls.specs.Lists.{keywords}
+use Rattle.lent.proofs.Replies.{answered-unfit, front-count, answered-one}
 use Rattle.exports.proofs.lists.tsivareza_keywords.Statement.{statement}
 use Rattle.exports.proofs.lists.tsivareza_keywords.Tie as tie
 
@@ -9,10 +9,10 @@ use Rattle.exports.proofs.lists.tsivareza_keywords.Tie as tie
 returns : tie.Need-returns
 returns c = answered-unfit (c .before .before .before .fill .ensures) (c .if1 .taken)
 
-part : tie.Need-slice-reshare-prefix-tsivareza-keywords-u32
+part : tie.Need-slice-reshare-prefix-keywords
 part c = c .before .before .before .fill .ensures .fit (c .if1 .left) .within
 
-part-length : tie.Need-slice-aggregate-tsivareza-keywords-u32
+part-length : tie.Need-slice-aggregate-keywords
 part-length c = front-count (c .before .before .before .before .fill .ensures) (c .before .if1 .left)
 
 -- the call on code points answers
@@ -20,7 +20,7 @@ returns-2 : tie.Need-returns-2
 returns-2 c =
     let b = c .before .before .before in
     let a = b .before .before .before .before .before .before .before .args in
-    answered-one (b .before .before .before .fill .ensures) (keywords (a .op) (a .x)) (b .if1 .left) (c .tsivareza-keywords-u32 .ensures)
+    answered-one (b .before .before .before .fill .ensures) (keywords (a .op) (a .x)) (b .if1 .left) (c .keywords .ensures)
 
 pub tsivareza-keywords-spec : {M : Type 1} → statement M
 tsivareza-keywords-spec =

@@ -1,8 +1,8 @@
 -- `tsivareza_motion` meets its contract: the room is filled, and the call on code points answers. Assumes nothing.
 use borrow.Author.Needs.{needs}
-use Rattle.exports.specs.Carets.{caretOf}
-use Rattle.exports.specs.Moves.{motions}
-use Rattle.exports.proofs.Replies.{answered-unfit, front-count, answered-one}
+use Rattle.text_calls.specs.Carets.{caretOf}
+use Rattle.text_calls.specs.Moves.{motions}
+use Rattle.lent.proofs.Replies.{answered-unfit, front-count, answered-one}
 use Rattle.exports.proofs.moves.tsivareza_motion.Statement.{statement}
 use Rattle.exports.proofs.moves.tsivareza_motion.Tie as tie
 
@@ -10,10 +10,10 @@ use Rattle.exports.proofs.moves.tsivareza_motion.Tie as tie
 returns : tie.Need-returns
 returns c = answered-unfit (c .before .before .before .fill .ensures) (c .if1 .taken)
 
-part : tie.Need-slice-reshare-prefix-tsivareza-motion-u32
+part : tie.Need-slice-reshare-prefix-motion
 part c = c .before .before .before .fill .ensures .fit (c .if1 .left) .within
 
-part-length : tie.Need-slice-aggregate-tsivareza-motion-u32
+part-length : tie.Need-slice-aggregate-motion
 part-length c = front-count (c .before .before .before .before .fill .ensures) (c .before .if1 .left)
 
 -- the call on code points answers
@@ -21,7 +21,7 @@ returns-2 : tie.Need-returns-2
 returns-2 c =
     let b = c .before .before .before in
     let a = b .before .before .before .before .before .before .before .args in
-    answered-one (b .before .before .before .fill .ensures) (motions (a .op) (a .count) (caretOf (a .row) (a .col) (a .held) (a .sticky))) (b .if1 .left) (c .tsivareza-motion-u32 .ensures)
+    answered-one (b .before .before .before .fill .ensures) (motions (a .op) (a .count) (caretOf (a .row) (a .col) (a .held) (a .sticky))) (b .if1 .left) (c .motion .ensures)
 
 pub tsivareza-motion-spec : {M : Type 1} → statement M
 tsivareza-motion-spec =

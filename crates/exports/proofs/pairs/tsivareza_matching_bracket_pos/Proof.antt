@@ -1,7 +1,7 @@
 -- `tsivareza_matching_bracket_pos` meets its contract: the room is filled, and the call on code points answers. Assumes nothing.
 use borrow.Author.Needs.{needs}
-use Rattle.exports.specs.Partners.{partner}
-use Rattle.exports.proofs.Replies.{answered-unfit, front-count, answered-one}
+use Rattle.text_calls.specs.Partners.{partner}
+use Rattle.lent.proofs.Replies.{answered-unfit, front-count, answered-one}
 use Rattle.exports.proofs.pairs.tsivareza_matching_bracket_pos.Statement.{statement}
 use Rattle.exports.proofs.pairs.tsivareza_matching_bracket_pos.Tie as tie
 
@@ -9,10 +9,10 @@ use Rattle.exports.proofs.pairs.tsivareza_matching_bracket_pos.Tie as t
 returns : tie.Need-returns
 returns c = answered-unfit (c .before .before .before .fill .ensures) (c .if1 .taken)
 
-part : tie.Need-slice-reshare-prefix-tsivareza-matching-bracket-pos-u32
+part : tie.Need-slice-reshare-prefix-matching-bracket-pos
 part c = c .before .before .before .fill .ensures .fit (c .if1 .left) .within
 
-part-length : tie.Need-slice-aggregate-tsivareza-matching-bracket-pos-u32
+part-length : tie.Need-slice-aggregate-matching-bracket-pos
 part-length c = front-count (c .before .before .before .before .fill .ensures) (c .before .if1 .left)
 
 -- the call on code points answers
@@ -20,7 +20,7 @@ returns-2 : tie.Need-returns-2
 returns-2 c =
     let b = c .before .before .before in
     let a = b .before .before .before .before .before .before .before .args in
-    answered-one (b .before .before .before .fill .ensures) (partner (a .row) (a .col)) (b .if1 .left) (c .tsivareza-matching-bracket-pos-u32 .ensures)
+    answered-one (b .before .before .before .fill .ensures) (partner (a .row) (a .col)) (b .if1 .left) (c .matching-bracket-pos .ensures)
 
 pub tsivareza-matching-bracket-pos-spec : {M : Type 1} → statement M
 tsivareza-matching-bracket-pos-spec =

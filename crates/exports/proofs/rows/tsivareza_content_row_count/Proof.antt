@@ -1,7 +1,7 @@
 -- `tsivareza_content_row_count` meets its contract: the room is filled, and the call on code points answers. Assumes nothing.
 use borrow.Author.Needs.{needs}
-use Rattle.exports.specs.Rows.{rowCount}
-use Rattle.exports.proofs.Replies.{answered-unfit, front-count, answered-one}
+use Rattle.text_calls.specs.Rows.{rowCount}
+use Rattle.lent.proofs.Replies.{answered-unfit, front-count, answered-one}
 use Rattle.exports.proofs.rows.tsivareza_content_row_count.Statement.{statement}
 use Rattle.exports.proofs.rows.tsivareza_content_row_count.Tie as tie
 
@@ -9,17 +9,17 @@ use Rattle.exports.proofs.rows.tsivareza_content_row_count.Tie as tie
 returns : tie.Need-returns
 returns c = answered-unfit (c .before .before .before .fill .ensures) (c .if1 .taken)
 
-part : tie.Need-slice-reshare-prefix-tsivareza-content-row-count-u32
+part : tie.Need-slice-reshare-prefix-content-row-count
 part c = c .before .before .before .fill .ensures .fit (c .if1 .left) .within
 
-part-length : tie.Need-slice-aggregate-tsivareza-content-row-count-u32
+part-length : tie.Need-slice-aggregate-content-row-count
 part-length c = front-count (c .before .before .before .before .fill .ensures) (c .before .if1 .left)
 
 -- the call on code points answers
 returns-2 : tie.Need-returns-2
 returns-2 c =
     let b = c .before .before .before in
-    answered-one (b .before .before .before .fill .ensures) rowCount (b .if1 .left) (c .tsivareza-content-row-count-u32 .ensures)
+    answered-one (b .before .before .before .fill .ensures) rowCount (b .if1 .left) (c .content-row-count .ensures)
 
 pub tsivareza-content-row-count-spec : {M : Type 1} → statement M
 tsivareza-content-row-count-spec =

@@ -1,8 +1,8 @@
 -- `tsivareza_seek` meets its contract: the room is filled, and the call on code points answers. Assumes nothing.
 use borrow.Author.Needs.{needs}
-use Rattle.exports.specs.Carets.{caretOf}
-use Rattle.exports.specs.Seeks.{seeks}
-use Rattle.exports.proofs.Replies.{answered-unfit, front-count, answered-one}
+use Rattle.text_calls.specs.Carets.{caretOf}
+use Rattle.text_calls.specs.Seeks.{seeks}
+use Rattle.lent.proofs.Replies.{answered-unfit, front-count, answered-one}
 use Rattle.exports.proofs.seeks.tsivareza_seek.Statement.{statement}
 use Rattle.exports.proofs.seeks.tsivareza_seek.Tie as tie
 
@@ -10,10 +10,10 @@ use Rattle.exports.proofs.seeks.tsivareza_seek.Tie as tie
 returns : tie.Need-returns
 returns c = answered-unfit (c .before .before .before .fill .ensures) (c .if1 .taken)
 
-part : tie.Need-slice-reshare-prefix-tsivareza-seek-u32
+part : tie.Need-slice-reshare-prefix-seek
 part c = c .before .before .before .fill .ensures .fit (c .if1 .left) .within
 
-part-length : tie.Need-slice-aggregate-tsivareza-seek-u32
+part-length : tie.Need-slice-aggregate-seek
 part-length c = front-count (c .before .before .before .before .fill .ensures) (c .before .if1 .left)
 
 -- the call on code points answers
@@ -21,7 +21,7 @@ returns-2 : tie.Need-returns-2
 returns-2 c =
     let b = c .before .before .before in
     let a = b .before .before .before .before .before .before .before .args in
-    answered-one (b .before .before .before .fill .ensures) (seeks (a .op) (a .x) (caretOf (a .row) (a .col) (a .held) (a .sticky))) (b .if1 .left) (c .tsivareza-seek-u32 .ensures)
+    answered-one (b .before .before .before .fill .ensures) (seeks (a .op) (a .x) (caretOf (a .row) (a .col) (a .held) (a .sticky))) (b .if1 .left) (c .seek .ensures)
 
 pub tsivareza-seek-spec : {M : Type 1} → statement M
 tsivareza-seek-spec =

@@ -2,9 +2,9 @@
 use mathlib.Core.Path.{refl}
 use native.Mathlib.Omega.{arith}
 use borrow.Author.Needs.{needs}
-use Rattle.exports.specs.Carets.{caretOf}
-use Rattle.exports.specs.Terms.{isBig, words}
-use Rattle.exports.proofs.Joins.{joined-unfit, first-length, joined-three}
+use Rattle.text_calls.specs.Carets.{caretOf}
+use Rattle.fold_calls.specs.Terms.{isBig, words}
+use Rattle.lent.proofs.Joins.{joined-unfit, first-length, joined-three}
 use Rattle.exports.proofs.terms.tsivareza_word.Statement.{statement}
 use Rattle.exports.proofs.terms.tsivareza_word.Tie as tie
 
@@ -13,17 +13,17 @@ returns : tie.Need-returns
 returns c = joined-unfit (c .before .before .before .fill-three .ensures) (c .if1 .taken)
 
 -- the parts of the room
-text-length : tie.Need-slice-aggregate-tsivareza-word-u32
+text-length : tie.Need-slice-aggregate-word
 text-length c =
     let b2 = c .before .before in
     first-length (b2 .before .before .before .fill-three .ensures) (b2 .if1 .left)
 
-folds-end : tie.Need-part-tsivareza-word-u32-end
+folds-end : tie.Need-part-word-end
 folds-end c =
     let b2 = c .before .before in
     omega (arith, b2 .before .before .before .fill-three .ensures .fit (b2 .if1 .left) .within)
 
-list-end : tie.Need-part-tsivareza-word-u32-end-2
+list-end : tie.Need-part-word-end-2
 list-end c =
     let b3 = c .before .before .before in
     omega (arith, b3 .before .before .before .fill-three .ensures .fit (b3 .if1 .left) .within)
@@ -35,7 +35,7 @@ returns-2 c =
     let b9 = b6 .before .before .before in
     let a = b9 .before .before .before .before .before .before .args in
     joined-three (b9 .fill-three .ensures) (words (a .op) (isBig (a .big)) (a .count) (caretOf (a .row) (a .col) (a .held) (a .sticky))) (b6 .if1 .left)
-    _ _ refl refl (c .tsivareza-word-u32 .ensures)
+    _ _ refl refl (c .word .ensures)
 
 pub tsivareza-word-spec : {M : Type 1} → statement M
 tsivareza-word-spec =

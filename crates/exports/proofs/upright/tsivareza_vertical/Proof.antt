@@ -2,10 +2,10 @@
 use mathlib.Core.Path.{refl}
 use native.Mathlib.Omega.{arith}
 use borrow.Author.Needs.{needs}
-use Rattle.exports.specs.Carets.{caretOf}
-use Rattle.exports.specs.Upright.{verticals}
-use Rattle.exports.proofs.Joins.{first-length}
-use Rattle.exports.proofs.Twos.{two-unfit, joined-two}
+use Rattle.text_calls.specs.Carets.{caretOf}
+use Rattle.fold_calls.specs.Upright.{verticals}
+use Rattle.lent.proofs.Joins.{first-length}
+use Rattle.lent.proofs.Twos.{two-unfit, joined-two}
 use Rattle.exports.proofs.upright.tsivareza_vertical.Statement.{statement}
 use Rattle.exports.proofs.upright.tsivareza_vertical.Tie as tie
 
@@ -14,12 +14,12 @@ returns : tie.Need-returns
 returns c = two-unfit (c .before .before .before .fill-two .ensures) (c .if1 .taken)
 
 -- the parts of the room
-text-length : tie.Need-slice-aggregate-tsivareza-vertical-u32
+text-length : tie.Need-slice-aggregate-vertical
 text-length c =
     let b2 = c .before .before in
     first-length (b2 .before .before .before .fill-two .ensures) (b2 .if1 .left)
 
-folds-end : tie.Need-part-tsivareza-vertical-u32-end
+folds-end : tie.Need-part-vertical-end
 folds-end c =
     let b2 = c .before .before in
     omega (arith, b2 .before .before .before .fill-two .ensures .fit (b2 .if1 .left) .within)
@@ -31,7 +31,7 @@ returns-2 c =
     let b8 = b5 .before .before .before in
     let a = b8 .before .before .before .before .before .args in
     joined-two (b8 .fill-two .ensures) (verticals (a .op) (a .mode) (a .width) (a .count) (a .tabstop) (caretOf (a .row) (a .col) (a .held) (a .sticky)))
-    (b5 .if1 .left) _ refl (c .tsivareza-vertical-u32 .ensures)
+    (b5 .if1 .left) _ refl (c .vertical .ensures)
 
 pub tsivareza-vertical-spec : {M : Type 1} → statement M
 tsivareza-vertical-spec =

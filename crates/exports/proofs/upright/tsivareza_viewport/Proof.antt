@@ -1,8 +1,8 @@
 -- `tsivareza_viewport` meets its contract: the room is filled, and the call on code points answers. Assumes nothing.
 use borrow.Author.Needs.{needs}
-use Rattle.exports.specs.Carets.{caretOf}
-use Rattle.exports.specs.Upright.{viewports}
-use Rattle.exports.proofs.Replies.{answered-unfit, front-count, answered-one}
+use Rattle.text_calls.specs.Carets.{caretOf}
+use Rattle.text_calls.specs.Viewports.{viewports}
+use Rattle.lent.proofs.Replies.{answered-unfit, front-count, answered-one}
 use Rattle.exports.proofs.upright.tsivareza_viewport.Statement.{statement}
 use Rattle.exports.proofs.upright.tsivareza_viewport.Tie as tie
 
@@ -10,10 +10,10 @@ use Rattle.exports.proofs.upright.tsivareza_viewport.Tie as tie
 returns : tie.Need-returns
 returns c = answered-unfit (c .before .before .before .fill .ensures) (c .if1 .taken)
 
-part : tie.Need-slice-reshare-prefix-tsivareza-viewport-u32
+part : tie.Need-slice-reshare-prefix-viewport
 part c = c .before .before .before .fill .ensures .fit (c .if1 .left) .within
 
-part-length : tie.Need-slice-aggregate-tsivareza-viewport-u32
+part-length : tie.Need-slice-aggregate-viewport
 part-length c = front-count (c .before .before .before .before .fill .ensures) (c .before .if1 .left)
 
 -- the call on code points answers
@@ -22,7 +22,7 @@ returns-2 c =
     let b = c .before .before .before in
     let a = b .before .before .before .before .before .before .before .args in
     answered-one (b .before .before .before .fill .ensures)
-    (viewports (a .op) (a .top) (a .height) (a .offset) (caretOf (a .row) (a .col) (a .held) (a .sticky))) (b .if1 .left) (c .tsivareza-viewport-u32 .ensures)
+    (viewports (a .op) (a .top) (a .height) (a .offset) (caretOf (a .row) (a .col) (a .held) (a .sticky))) (b .if1 .left) (c .viewport .ensures)
 
 pub tsivareza-viewport-spec : {M : Type 1} → statement M
 tsivareza-viewport-spec =

@@ -1,7 +1,7 @@
 -- `tsivareza_segment_for_col` meets its contract: the room is filled, and the call on code points answers. Assumes nothing.
 use borrow.Author.Needs.{needs}
-use Rattle.exports.specs.Wraps.{segmentOf}
-use Rattle.exports.proofs.Replies.{answered-unfit, front-count, answered-one}
+use Rattle.row_calls.specs.Wraps.{segmentOf}
+use Rattle.lent.proofs.Replies.{answered-unfit, front-count, answered-one}
 use Rattle.exports.proofs.wraps.tsivareza_segment_for_col.Statement.{statement}
 use Rattle.exports.proofs.wraps.tsivareza_segment_for_col.Tie as tie
 
@@ -9,10 +9,10 @@ use Rattle.exports.proofs.wraps.tsivareza_segment_for_col.Tie as tie
 returns : tie.Need-returns
 returns c = answered-unfit (c .before .before .before .fill .ensures) (c .if1 .taken)
 
-part : tie.Need-slice-reshare-prefix-tsivareza-segment-for-col-u32
+part : tie.Need-slice-reshare-prefix-segment-for-col
 part c = c .before .before .before .fill .ensures .fit (c .if1 .left) .within
 
-part-length : tie.Need-slice-aggregate-tsivareza-segment-for-col-u32
+part-length : tie.Need-slice-aggregate-segment-for-col
 part-length c = front-count (c .before .before .before .before .fill .ensures) (c .before .if1 .left)
 
 -- the call on code points answers
@@ -20,7 +20,7 @@ returns-2 : tie.Need-returns-2
 returns-2 c =
     let b = c .before .before .before in
     let a = b .before .before .before .before .before .before .before .args in
-    answered-one (b .before .before .before .fill .ensures) (segmentOf (a .col)) (b .if1 .left) (c .tsivareza-segment-for-col-u32 .ensures)
+    answered-one (b .before .before .before .fill .ensures) (segmentOf (a .col)) (b .if1 .left) (c .segment-for-col .ensures)
 
 pub tsivareza-segment-for-col-spec : {M : Type 1} → statement M
 tsivareza-segment-for-col-spec =

@@ -3,9 +3,9 @@ use mathlib.Core.Path.{ap, sym, _∙_}
 use mathlib.Core.List.{List}
 use Prim.Native.Nat.{ℕ}
 use borrow.Author.Needs.{needs}
-use Rattle.exports.specs.Reply.{told}
-use Rattle.exports.specs.Wraps.{segmented, segmentsLeft}
-use Rattle.exports.proofs.Replies.{answered-unfit, front-count, answered-one, kept-unfit, left-fit}
+use Rattle.lent.specs.Reply.{told}
+use Rattle.row_calls.specs.Wraps.{segmented, segmentsLeft}
+use Rattle.lent.proofs.Replies.{answered-unfit, front-count, answered-one, kept-unfit, left-fit}
 use Rattle.exports.proofs.wraps.tsivareza_wrap_segments.Statement.{statement}
 use Rattle.exports.proofs.wraps.tsivareza_wrap_segments.Tie as tie
 
@@ -15,10 +15,10 @@ returns c =
     let f = c .before .before .before .fill .ensures in
     (answered-unfit f (c .if1 .taken), kept-unfit f (c .if1 .taken) _ _)
 
-part : tie.Need-slice-reshare-prefix-tsivareza-wrap-segments-u32
+part : tie.Need-slice-reshare-prefix-wrap-segments
 part c = c .before .before .before .fill .ensures .fit (c .if1 .left) .within
 
-part-length : tie.Need-slice-aggregate-tsivareza-wrap-segments-u32
+part-length : tie.Need-slice-aggregate-wrap-segments
 part-length c = front-count (c .before .before .before .before .fill .ensures) (c .before .if1 .left)
 
 -- the call on code points answers
@@ -27,7 +27,7 @@ returns-2 c =
     let b = c .before .before .before .before .before .before in
     let a = b .before .before .before .before .before .before .before .before .args in
     let f = b .before .before .before .fill .ensures in
-    let s = c .before .before .tsivareza-wrap-segments-u32 .ensures in
+    let s = c .before .before .wrap-segments .ensures in
     (answered-one f (λ (t : List ℕ). told (segmented (a .mode) (a .width) (a .segments .now) t)) (b .if1 .left) (s .0), left-fit f (segmentsLeft (a .mode) (a .width) (a .segments .now)) (b .if1 .left) _ (s .1))
 
 pub tsivareza-wrap-segments-spec : {M : Type 1} → statement M

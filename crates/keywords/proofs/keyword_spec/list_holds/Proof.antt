@@ -6,9 +6,9 @@ use mathlib.Core.List.{List}
 use native.Mathlib.Omega.{arith}
 use borrow.Author.Needs.{needs}
 use lib.ListN.{length}
-use Rattle.keywords.specs.Tokens.{inList, tokensIn, anyToken}
-use Rattle.keywords.proofs.PartLaws.{partsFrom, parts-from-start}
-use Rattle.keywords.proofs.TokenLaws.{step-next, step-any, parts-none}
+use Rattle.tokens.specs.Tokens.{inList, tokensIn, anyToken}
+use Rattle.tokens.proofs.PartLaws.{partsFrom, parts-from-start}
+use Rattle.tokens.proofs.TokenLaws.{step-next, step-any, parts-none}
 use Rattle.keywords.proofs.keyword_spec.list_holds.Statement.{statement}
 use Rattle.keywords.proofs.keyword_spec.list_holds.Tie as tie
 

@@ -1,12 +1,12 @@
 -- `keywords::keyword_spec::read_all` meets its contract. The invariant of its loop: the table holds the tokens of the parts before `from`. The
 -- measure is how far `from` is from past the list's end. Assumes nothing.
 use Prim.Native.Nat.{_+_, _-_, _≤_}
-use mathlib.Core.Path.{_∙_}
+use mathlib.Core.Path.{refl, _∙_}
 use native.Mathlib.Omega.{arith}
 use borrow.Author.Needs.{needs}
 use borrow.Author.Tests.{le-leb, lt-leb}
 use lib.ListN.{length}
-use Rattle.keywords.proofs.TokenLaws.{step-next}
+use Rattle.tokens.proofs.TokenLaws.{step-next}
 use Rattle.keywords.proofs.TableLaws.{Reading, reading-start, reading-length, reading-skip, reading-keep, reading-full, reading-end}
 use Rattle.keywords.proofs.keyword_spec.read_all.Statement.{statement}
 use Rattle.keywords.proofs.keyword_spec.read_all.Tie as tie
@@ -37,32 +37,45 @@ loop-again c =
 -- one token more than there are places
 returns : tie.Need-returns Inv-loop μ-loop
 returns c =
-    let s = c .before .before .before .before .before .before in
+    let s = c .before .before .before .before .before in
     let l = s.before.before.loop in
-    let some = c .before .before .before .if1 .left in
+    let some = c .before .before .if1 .left in
     let m = reading-full (l.inv .1) s.before.loop-test.taken s.read-part.result s.read-part.ensures some (c .before .if2 .taken) in
     c .refused .ensures ∙ rw (lt-leb _ _ m)
 
-push-requires : tie.Need-push-requires Inv-loop μ-loop
-push-requires c κs =
-    let g = c .before .before .before .before .before .before .before .loop .inv .1 in
+-- the place after the last token is one of the table's
+mul-t : tie.Need-mul-t Inv-loop μ-loop
+mul-t c =
+    let g = c .before .before .before .before .before .before .loop .inv .1 in
+    let few = reading-length g in
+    let most = g .few in
+    search needs
+
+element-set-from-t : tie.Need-element-set-from-t Inv-loop μ-loop
+element-set-from-t c =
+    let g = c .before .before .before .before .before .before .loop .inv .1 in
+    omega (arith, reading-length g, g .few)
+
+add-spec : tie.Need-add-spec Inv-loop μ-loop
+add-spec c =
+    let g = c .before .before .before .before .before .before .loop .inv .1 in
     omega (arith, reading-length g, g .few)
 
 loop-less-2 : tie.Need-loop-less-2 Inv-loop μ-loop
 loop-less-2 c =
-    let s = c .before .before .before .before .before .before in
+    let s = c .before .before .before .before in
     let a = s.before.before.before.before.before.args in
     omega (arith, step-next a.list.now s.before.before.loop.from s.before.loop-test.taken s.read-part.result s.read-part.ensures)
 
--- a token, pushed
+-- a token, put into the table
 loop-again-2 : tie.Need-loop-again-2 Inv-loop μ-loop
 loop-again-2 c =
-    let s = c .before .before .before .before .before .before in
+    let s = c .before .before .before .before in
     let l = s.before.before.loop in
     let n = step-next s.before.before.before.before.before.args.list.now l.from s.before.loop-test.taken s.read-part.result s.read-part.ensures in (
       n .1,
-      reading-keep (l.inv .1) s.before.loop-test.taken s.read-part.result s.read-part.ensures (c .before .before .before .if1 .left) (c .before .if2 .left)
-          (c .push .result) (c .push .ensures),
+      reading-keep (l.inv .1) s.before.loop-test.taken s.read-part.result s.read-part.ensures (c .before .if1 .left) (c .if2 .left)
+          _ refl,
     )
 
 returns-2 : tie.Need-returns-2 Inv-loop μ-loop
@@ -83,7 +96,9 @@ read-all-spec =
     loop-again
     (λ c κs. search needs)
     returns
-    push-requires
+    mul-t
+    element-set-from-t
+    add-spec
     loop-less-2
     loop-again-2
     returns-2)

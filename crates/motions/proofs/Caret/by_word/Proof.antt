@@ -4,11 +4,12 @@ use mathlib.Core.Path.{ap, _∙_}
 use Prim.Native.Nat.{ℕ, _-_}
 use native.Mathlib.Omega.{arith}
 use borrow.Author.Needs.{needs}
-use Rattle.keywords.specs.Tokens.{anyToken}
+use Rattle.tokens.specs.Tokens.{anyToken}
 use Rattle.keywords.specs.Table.{kept}
 use Rattle.places.specs.Places.{Place, kindOf}
 use Rattle.words.specs.Rounds.{wordMotion}
-use Rattle.motions.proofs.Wording.{up-start, place-of, caret-of-spot}
+use Rattle.steps.proofs.Stepping.{up-start}
+use Rattle.motions.proofs.Wording.{place-of, caret-of-spot}
 use Rattle.motions.proofs.Caret.by_word.Statement.{statement}
 use Rattle.motions.proofs.Caret.by_word.Tie as tie
 

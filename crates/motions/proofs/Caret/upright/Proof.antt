@@ -1,7 +1,7 @@
 -- `Caret::upright` meets its contract: the checks in the table's order, and then the walk. Assumes nothing.
 use mathlib.Core.Path.{ap, _∙_}
 use borrow.Author.Needs.{needs}
-use Rattle.text.specs.Folds.{foldRefusal}
+use Rattle.folds.specs.Folds.{foldRefusal}
 use Rattle.motions.proofs.Upright.{upright-caret, upright-folds, upright-stop, upright-ready, upright-to}
 use Rattle.motions.proofs.Caret.upright.Statement.{statement}
 use Rattle.motions.proofs.Caret.upright.Tie as tie

@@ -3,16 +3,15 @@ use mathlib.Core.Path.{_≡_, ap, sym, _∙_}
 use mathlib.Core.List.{List}
 use borrow.Author.Needs.{needs}
 use Rattle.text.specs.Text.{textRefusal, rowCount}
-use Rattle.text.specs.Folds.{foldRefusal}
+use Rattle.folds.specs.Folds.{foldRefusal}
 use Rattle.keywords.specs.declared.Parsed.{Parsed}
-use Rattle.keywords.specs.declared.Token.{Token}
-use Rattle.keywords.specs.Tokens.{anyToken}
+use Rattle.tokens.specs.declared.Token.{Token}
+use Rattle.tokens.specs.Tokens.{anyToken}
 use Rattle.keywords.specs.Table.{parseOf}
 use Rattle.keywords.proofs.Agree.{parse-kept, parse-length}
-use Rattle.motions.specs.Carets.{caretRefusal}
+use Rattle.steps.proofs.Checks.{entry-number, entered}
+use Rattle.motions.specs.Carets.{here, caretRefusal}
 use Rattle.motions.specs.WordMoves.{wordCaret}
-use Rattle.motions.proofs.Checks.{entered}
-use Rattle.motions.proofs.Finding.{entry-number}
 use Rattle.motions.proofs.Wording.{lowest-caret, lowest-folds, lowest-list, lowest-free, moving-refused, moving-to}
 use Rattle.motions.proofs.Caret.word.Statement.{statement}
 use Rattle.motions.proofs.Caret.word.Tie as tie
@@ -21,7 +20,7 @@ returns : tie.Need-returns
 returns c =
     let n = c .before .before in
     let a = n .before .before .before .before .args in
-    let e = entry-number (a .t .now) (a .self) _ (n .enter .ensures) in
+    let e = entry-number (a .t .now) (here (a .self)) _ (n .enter .ensures) in
     moving-refused _ _ _
     (lowest-caret (textRefusal (a .t .now)) (caretRefusal (a .t .now) (a .self)) (foldRefusal (a .folds .now) (rowCount (a .t .now))) (parseOf (a .list .now) .refusal) _ e (c .if1 .taken))
     (c .if1 .taken)
@@ -33,7 +32,7 @@ returns-2 c =
     let i = r .before in
     let n = i .before .before in
     let a = n .before .before .before .before .args in
-    let e = entry-number (a .t .now) (a .self) _ (n .enter .ensures) in
+    let e = entry-number (a .t .now) (here (a .self)) _ (n .enter .ensures) in
     let q = f .fold-refusal .ensures ∙ ap (foldRefusal (a .folds .now)) (r .row-count .ensures) in
     moving-refused _ _ _
     (q ∙ lowest-folds (textRefusal (a .t .now)) (caretRefusal (a .t .now) (a .self)) (foldRefusal (a .folds .now) (rowCount (a .t .now))) (parseOf (a .list .now) .refusal) (sym e ∙ i .if1 .left) (λ z. c .if2 .taken (q ∙ z)))
@@ -48,7 +47,7 @@ returns-3 c =
     let i = r .before in
     let n = i .before .before in
     let a = n .before .before .before .before .args in
-    let e = entry-number (a .t .now) (a .self) _ (n .enter .ensures) in
+    let e = entry-number (a .t .now) (here (a .self)) _ (n .enter .ensures) in
     let q = f .fold-refusal .ensures ∙ ap (foldRefusal (a .folds .now)) (r .row-count .ensures) in
     let d = ap (λ (x : Parsed). x .refusal) (p .parse .ensures) in
     moving-refused _ _ _
@@ -67,7 +66,7 @@ ready c κs =
     let a = n .before .before .before .before .args in
     let q = f .fold-refusal .ensures ∙ ap (foldRefusal (a .folds .now)) (r .row-count .ensures) in
     record {
-      accepted = entered (a .t .now) (a .self) _ (n .enter .ensures) (i .if1 .left);
+      accepted = entered (a .t .now) (here (a .self)) _ (n .enter .ensures) (i .if1 .left);
       folds-fit = sym q ∙ g .if2 .left;
       few = parse-length (a .list .now) (p .parse .result) (p .parse .ensures) (c .before .if3 .left);
     }
@@ -82,7 +81,7 @@ returns-4 c =
     let i = r .before in
     let n = i .before .before in
     let a = n .before .before .before .before .args in
-    let e = entry-number (a .t .now) (a .self) _ (n .enter .ensures) in
+    let e = entry-number (a .t .now) (here (a .self)) _ (n .enter .ensures) in
     let q = f .fold-refusal .ensures ∙ ap (foldRefusal (a .folds .now)) (r .row-count .ensures) in
     let d = ap (λ (x : Parsed). x .refusal) (p .parse .ensures) in
     moving-to _ _ _

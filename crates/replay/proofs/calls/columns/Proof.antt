@@ -1,8 +1,8 @@
 -- `calls::columns` meets its contract: what the call answers and leaves is compared. Assumes nothing.
 use borrow.Author.Needs.{needs}
-use Rattle.exports.specs.Tabs.{tabColumn}
+use Rattle.row_calls.specs.Tabs.{tabColumn}
 use Rattle.replay.specs.Calls.{columnsOf}
-use Rattle.replay.proofs.Comparing.{replied-compared, places-count, told-sized}
+use Rattle.record.proofs.Comparing.{replied-compared, places-count, told-sized}
 use Rattle.replay.proofs.calls.columns.Statement.{statement}
 use Rattle.replay.proofs.calls.columns.Tie as tie
 
@@ -10,11 +10,11 @@ places : tie.Need-slice-aggregate-compared
 places c =
     let a = c .before .before .before .before .before .args in
     let k = a .k in
-    places-count 1 (c .before .tsivareza-columns-u32 .ensures) (told-sized (tabColumn (k .op) (k .a) (k .b) (a .row .now)))
+    places-count 1 (c .before .columns .ensures) (told-sized (tabColumn (k .op) (k .a) (k .b) (a .row .now)))
 
 returns : tie.Need-returns
 unfolding columnsOf
-returns c = replied-compared 1 _ (c .before .before .tsivareza-columns-u32 .ensures) (c .compared .ensures)
+returns c = replied-compared 1 _ (c .before .before .columns .ensures) (c .compared .ensures)
 
 pub columns-spec : {M : Type 1} → statement M
 columns-spec = tie.close (tie.spec (λ c κs. search needs) places (λ c κs. search needs) returns)

@@ -1,8 +1,8 @@
 -- `calls::keywords` meets its contract: what the call answers and leaves is compared. Assumes nothing.
 use borrow.Author.Needs.{needs}
-use Rattle.exports.specs.Lists.{keyword}
+use Rattle.row_calls.specs.Lists.{keyword}
 use Rattle.replay.specs.Calls.{keywordsOf}
-use Rattle.replay.proofs.Comparing.{replied-compared, places-count, told-sized}
+use Rattle.record.proofs.Comparing.{replied-compared, places-count, told-sized}
 use Rattle.replay.proofs.calls.keywords.Statement.{statement}
 use Rattle.replay.proofs.calls.keywords.Tie as tie
 
@@ -10,11 +10,11 @@ places : tie.Need-slice-aggregate-compared
 places c =
     let a = c .before .before .before .before .before .args in
     let k = a .k in
-    places-count 1 (c .before .tsivareza-keywords-u32 .ensures) (told-sized (keyword (k .op) (k .a) (a .list .now)))
+    places-count 1 (c .before .keywords .ensures) (told-sized (keyword (k .op) (k .a) (a .list .now)))
 
 returns : tie.Need-returns
 unfolding keywordsOf
-returns c = replied-compared 1 _ (c .before .before .tsivareza-keywords-u32 .ensures) (c .compared .ensures)
+returns c = replied-compared 1 _ (c .before .before .keywords .ensures) (c .compared .ensures)
 
 pub keywords-spec : {M : Type 1} → statement M
 keywords-spec = tie.close (tie.spec (λ c κs. search needs) places (λ c κs. search needs) returns)

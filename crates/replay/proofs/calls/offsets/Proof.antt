@@ -1,8 +1,8 @@
 -- `calls::offsets` meets its contract: what the call answers and leaves is compared. Assumes nothing.
 use borrow.Author.Needs.{needs}
-use Rattle.exports.specs.Wraps.{offset}
+use Rattle.row_calls.specs.Wraps.{offset}
 use Rattle.replay.specs.Calls.{offsetsOf}
-use Rattle.replay.proofs.Comparing.{replied-compared, places-count, told-sized}
+use Rattle.record.proofs.Comparing.{replied-compared, places-count, told-sized}
 use Rattle.replay.proofs.calls.offsets.Statement.{statement}
 use Rattle.replay.proofs.calls.offsets.Tie as tie
 
@@ -10,11 +10,11 @@ places : tie.Need-slice-aggregate-compared
 places c =
     let a = c .before .before .before .before .before .args in
     let k = a .k in
-    places-count 1 (c .before .tsivareza-offsets-u32 .ensures) (told-sized (offset (k .op) (k .a) (k .b) (k .c) (a .row .now)))
+    places-count 1 (c .before .offsets .ensures) (told-sized (offset (k .op) (k .a) (k .b) (k .c) (a .row .now)))
 
 returns : tie.Need-returns
 unfolding offsetsOf
-returns c = replied-compared 1 _ (c .before .before .tsivareza-offsets-u32 .ensures) (c .compared .ensures)
+returns c = replied-compared 1 _ (c .before .before .offsets .ensures) (c .compared .ensures)
 
 pub offsets-spec : {M : Type 1} → statement M
 offsets-spec = tie.close (tie.spec (λ c κs. search needs) places (λ c κs. search needs) returns)

@@ -1,9 +1,9 @@
 -- `calls::segment_for_col` meets its contract: what the call answers and leaves is compared. Assumes nothing.
 use borrow.Author.Needs.{needs}
-use Rattle.wrap.specs.Calls.{segmentForCol}
-use Rattle.exports.specs.Wraps.{toldSegment}
+use Rattle.cells.specs.Calls.{segmentForCol}
+use Rattle.row_calls.specs.Wraps.{toldSegment}
 use Rattle.replay.specs.Calls.{segmentForColOf}
-use Rattle.replay.proofs.Comparing.{replied-compared, places-count, told-sized}
+use Rattle.record.proofs.Comparing.{replied-compared, places-count, told-sized}
 use Rattle.replay.proofs.calls.segment_for_col.Statement.{statement}
 use Rattle.replay.proofs.calls.segment_for_col.Tie as tie
 
@@ -11,11 +11,11 @@ places : tie.Need-slice-aggregate-compared
 places c =
     let a = c .before .before .before .before .before .args in
     let k = a .k in
-    places-count 1 (c .before .tsivareza-segment-for-col-u32 .ensures) (told-sized (toldSegment (segmentForCol (a .segments .now) (k .a))))
+    places-count 1 (c .before .segment-for-col .ensures) (told-sized (toldSegment (segmentForCol (a .segments .now) (k .a))))
 
 returns : tie.Need-returns
 unfolding segmentForColOf
-returns c = replied-compared 1 _ (c .before .before .tsivareza-segment-for-col-u32 .ensures) (c .compared .ensures)
+returns c = replied-compared 1 _ (c .before .before .segment-for-col .ensures) (c .compared .ensures)
 
 pub segment-for-col-spec : {M : Type 1} → statement M
 segment-for-col-spec = tie.close (tie.spec (λ c κs. search needs) places (λ c κs. search needs) returns)

@@ -2,7 +2,8 @@
 use borrow.Author.Needs.{needs}
 use borrow.Author.Tests.{le-leb, lt-leb}
 use Rattle.replay.specs.Calls.{verticalVerdict}
-use Rattle.replay.proofs.Comparing.{replied-compared, places-count, moved-sized}
+use Rattle.record.proofs.Comparing.{replied-compared, places-count}
+use Rattle.replay.proofs.Sizes.{moved-sized}
 use Rattle.replay.proofs.calls.vertical.Statement.{statement}
 use Rattle.replay.proofs.calls.vertical.Tie as tie
 
@@ -11,13 +12,13 @@ unfolding verticalVerdict
 returns c = rw (lt-leb _ 65535 (c .if1 .taken))
 
 places : tie.Need-slice-aggregate-compared
-places c = places-count 4 (c .before .tsivareza-vertical-u32 .ensures) (moved-sized _)
+places c = places-count 4 (c .before .vertical .ensures) (moved-sized _)
 
 returns-2 : tie.Need-returns-2
 unfolding verticalVerdict
 returns-2 c =
     let b = c .before .before in
-    rw (le-leb _ 65535 (b .before .before .if1 .left)) (replied-compared 4 _ (b .tsivareza-vertical-u32 .ensures) (c .compared .ensures))
+    rw (le-leb _ 65535 (b .before .before .if1 .left)) (replied-compared 4 _ (b .vertical .ensures) (c .compared .ensures))
 
 pub vertical-spec : {M : Type 1} → statement M
 vertical-spec =

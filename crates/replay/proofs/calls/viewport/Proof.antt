@@ -2,7 +2,8 @@
 use borrow.Author.Needs.{needs}
 use borrow.Author.Tests.{le-leb, lt-leb}
 use Rattle.replay.specs.Calls.{viewportVerdict}
-use Rattle.replay.proofs.Comparing.{replied-compared, places-count, moved-sized}
+use Rattle.record.proofs.Comparing.{replied-compared, places-count}
+use Rattle.replay.proofs.Sizes.{moved-sized}
 use Rattle.replay.proofs.calls.viewport.Statement.{statement}
 use Rattle.replay.proofs.calls.viewport.Tie as tie
 
@@ -11,13 +12,13 @@ unfolding viewportVerdict
 returns c = rw (lt-leb _ 65535 (c .if1 .taken))
 
 places : tie.Need-slice-aggregate-compared
-places c = places-count 4 (c .before .tsivareza-viewport-u32 .ensures) (moved-sized _)
+places c = places-count 4 (c .before .viewport .ensures) (moved-sized _)
 
 returns-2 : tie.Need-returns-2
 unfolding viewportVerdict
 returns-2 c =
     let b = c .before .before in
-    rw (le-leb _ 65535 (b .before .before .if1 .left)) (replied-compared 4 _ (b .tsivareza-viewport-u32 .ensures) (c .compared .ensures))
+    rw (le-leb _ 65535 (b .before .before .if1 .left)) (replied-compared 4 _ (b .viewport .ensures) (c .compared .ensures))
 
 pub viewport-spec : {M : Type 1} → statement M
 viewport-spec =

@@ -1,8 +1,8 @@
 -- `calls::wrap_into` meets its contract: what the call answers, and leaves in both lent places, is compared. Assumes nothing.
 use borrow.Author.Needs.{needs}
-use Rattle.exports.specs.Wraps.{segmented}
+use Rattle.row_calls.specs.Wraps.{segmented}
 use Rattle.replay.specs.Calls.{wrappedIn}
-use Rattle.replay.proofs.Comparing.{wrapped-compared}
+use Rattle.record.proofs.Comparing.{wrapped-compared}
 use Rattle.replay.proofs.calls.wrap_into.Statement.{statement}
 use Rattle.replay.proofs.calls.wrap_into.Tie as tie
 
@@ -11,7 +11,7 @@ unfolding wrappedIn
 returns c =
     let b = c .before .before .before .before in
     let a = b .before .before .before .before .before .before .args in
-    let e = b .tsivareza-wrap-segments-u32 .ensures in
+    let e = b .wrap-segments .ensures in
     rw (← e .1) (wrapped-compared (segmented a.mode a.width (a .segments .now) (a .row .now)) _ _ (e .0) (c .compared-two .ensures))
 
 pub wrap-into-spec : {M : Type 1} → statement M

@@ -3,7 +3,7 @@ use mathlib.Core.Path.{sym, ap, _∙_}
 use Prim.Native.Nat.{ℕ}
 use native.Mathlib.Omega.{arith}
 use borrow.Author.Needs.{needs}
-use Rattle.vertical.specs.Visible.{toward}
+use Rattle.visible.specs.Visible.{toward}
 use Rattle.screen.proofs.Landing.{from-inside, from-near, from-on, from-off, from-stuck}
 use Rattle.screen.proofs.walks.screen_from.Statement.{statement}
 use Rattle.screen.proofs.walks.screen_from.Tie as tie

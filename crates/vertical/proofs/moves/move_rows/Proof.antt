@@ -4,7 +4,7 @@ use native.Mathlib.Omega.{arith}
 use borrow.Author.Needs.{needs}
 use lib.IntN.{ℤ}
 use Rattle.vertical.specs.Moves.{moveVertical}
-use Rattle.vertical.proofs.Signed.{read-delta, delta-asked}
+use Rattle.visible.proofs.Signed.{read-delta, delta-asked}
 use Rattle.vertical.proofs.moves.move_rows.Statement.{statement}
 use Rattle.vertical.proofs.moves.move_rows.Tie as tie
 

@@ -4,7 +4,7 @@ use mathlib.Core.Path.{_≡_, ap, sym, _∙_}
 use Prim.Native.Nat.{ℕ}
 use native.Mathlib.Omega.{arith}
 use lib.ListN.{length}
-use Rattle.keywords.proofs.Lists.{places}
+use Rattle.tokens.proofs.Lists.{places}
 use Rattle.words.specs.Rounds.{wordMotion}
 use Rattle.places.specs.Spots.{placeOf}
 use Rattle.words.proofs.Classes.{kinds-by}

@@ -1,0 +1,15 @@
+-- The cells of a character, and how many characters go into a number of cells, over any width function w. From `wrap.rs`.
+-- Cited by the contracts of `src/cells.rt`. Definitions only; the laws are in `proofs/Fits.antt`. Assumes nothing.
+use Prim.Native.Nat.{ℕ, suc, _-_, max}
+use mathlib.Core.List.{List, [], _∷_}
+use mathlib.Core.Bool.{cond}
+use lib.Dec.{leb}
+
+-- the cells of a character: at least one, and a tab is as any other
+abbrev pub cellsOf : (ℕ → ℕ) → ℕ → ℕ
+cellsOf w x = max 1 (w x)
+
+-- how many characters the row begins with that go into `room` cells
+unfoldable pub fits : (ℕ → ℕ) → ℕ → List ℕ → ℕ
+fits w room [] = 0
+fits w room (x ∷ row) = cond (leb (cellsOf w x) room) (suc (fits w (room - cellsOf w x) row)) 0

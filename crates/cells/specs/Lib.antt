@@ -1,0 +1,4 @@
+pub mod Cells
+pub mod Offsets
+pub mod Calls
+pub mod Lent

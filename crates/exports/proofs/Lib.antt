@@ -1,4 +1,0 @@
-pub mod Replies
-pub mod Joins
-pub mod Twos
-pub mod Segments

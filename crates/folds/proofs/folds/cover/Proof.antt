@@ -1,0 +1,62 @@
+-- `folds::folds::cover` meets its contract. The invariant of its loop: the folds from i on decide. The measure is what is left of them.
+-- Assumes nothing.
+use Prim.Native.Nat.{_+_, _-_, _≤_}
+use mathlib.Core.Path.{_≡_, sym, _∙_}
+use native.Mathlib.Omega.{arith}
+use lib.ListN.{length, drop}
+use borrow.Author.Needs.{needs}
+use Rattle.folds.specs.Cover.{coverOf}
+use Rattle.folds.proofs.Hiding.{cover-on, cover-end}
+use Rattle.folds.proofs.folds.cover.Statement.{statement}
+use Rattle.folds.proofs.folds.cover.Tie as tie
+
+abbrev Inv-loop : tie.InvT-loop
+Inv-loop folds row i₀ i = (i ≤ length folds) × (coverOf folds row ≡ coverOf (drop i folds) row)
+
+abbrev μ-loop : tie.MeasureT-loop
+μ-loop folds row i₀ i = length folds - i
+
+-- the numbers of a fold fit
+cast-start : tie.Need-cast-t14 Inv-loop μ-loop
+cast-start c =
+    let k = c .before .before .before .before .before .before in
+    omega (arith, k .before .shared-slice-known .given (k .loop .i))
+
+cast-end : tie.Need-cast-t15 Inv-loop μ-loop
+cast-end c =
+    let k = c .before .before .before .before .before .before in
+    omega (arith, k .before .shared-slice-known .given (k .loop .i + 1))
+
+returns : tie.Need-returns Inv-loop μ-loop
+returns c =
+    let k = c .before .before .before .before .before .before in
+    rw (
+      k .loop .inv .1,
+      cover-on (k .before .before .args .folds .now) (k .loop .i) (c .before .before .before .before .before .loop-test .taken) (k .before .before .args .row),
+      ← c .before .fold-hides .ensures,
+      c .if1 .taken,
+    )
+
+loop-again : tie.Need-loop-again Inv-loop μ-loop
+loop-again c =
+    let k = c .before .before .before .before .before .before in (
+      omega (arith, c .before .before .before .before .before .loop-test .taken),
+      k .loop .inv .1 ∙ rw (
+        cover-on (k .before .before .args .folds .now) (k .loop .i)
+            (c .before .before .before .before .before .loop-test .taken) (k .before .before .args .row),
+        ← c .before .fold-hides .ensures,
+        c .if1 .left,
+      ),
+    )
+
+returns-2 : tie.Need-returns-2 Inv-loop μ-loop
+returns-2 c =
+    let k = c .before in
+    sym (k .loop .inv .1 ∙ cover-end (k .before .before .args .folds .now) (k .loop .i) (c .loop-test .left) (k .before .before .args .row))
+
+pub cover-spec : {M : Type 1} → statement M
+cover-spec =
+    tie.close
+    (tie.spec Inv-loop μ-loop (λ c. search needs) (λ c. search needs) (λ c. search needs) (λ c. search needs) (λ c. search needs) (λ c. search needs)
+    (λ c. search needs) (λ c. search needs) (λ c. search needs) (λ c. search needs) (λ c κs. search needs) cast-start cast-end returns (λ c. search needs)
+    (λ c. search needs) loop-again returns-2)

@@ -1,0 +1,66 @@
+-- `folds::folds::fold_refusal` meets its contract. The invariant of its loop: the folds from i on decide. The measure is what is left of them.
+-- Assumes nothing.
+use Prim.Native.Nat.{_+_, _-_, _≤_}
+use mathlib.Core.Path.{_≡_, sym, _∙_}
+use native.Mathlib.Omega.{arith}
+use lib.ListN.{length, drop}
+use borrow.Author.Needs.{needs}
+use borrow.Author.Tests.{eq-eqb, ne-eqb, lt-ltb, le-ltb}
+use Rattle.folds.specs.Folds.{anyFold, badFold, foldRefusal}
+use Rattle.folds.proofs.Hiding.{any-fold-on, any-fold-end}
+use Rattle.folds.proofs.folds.fold_refusal.Statement.{statement}
+use Rattle.folds.proofs.folds.fold_refusal.Tie as tie
+
+abbrev Inv-loop : tie.InvT-loop
+Inv-loop folds rows i₀ i = (i ≤ length folds) × (anyFold (badFold rows) folds ≡ anyFold (badFold rows) (drop i folds))
+
+abbrev μ-loop : tie.MeasureT-loop
+μ-loop folds rows i₀ i = length folds - i
+
+returns : tie.Need-returns Inv-loop μ-loop
+unfolding foldRefusal
+returns c = rw (ne-eqb _ _ (c .if1 .taken))
+
+returns-2 : tie.Need-returns-2 Inv-loop μ-loop
+unfolding foldRefusal
+returns-2 c = rw (eq-eqb _ _ (c .before .if1 .left), lt-ltb _ _ (c .if2 .taken))
+
+returns-3 : tie.Need-returns-3 Inv-loop μ-loop
+unfolding foldRefusal
+returns-3 c =
+    let k = c .before .before .before .before .before .before in
+    let s = k .before .before .before .before in
+    rw (
+      eq-eqb _ _ (k .before .before .if1 .left),
+      le-ltb _ _ (k .before .if2 .left),
+      k .loop .inv .1,
+      any-fold-on (s .args .folds .now) (k .loop .i) (c .before .before .before .before .before .loop-test .taken) (badFold (s .args .rows)),
+      ← c .before .bad-fold .ensures,
+      c .if3 .taken,
+    )
+
+loop-again : tie.Need-loop-again Inv-loop μ-loop
+loop-again c =
+    let k = c .before .before .before .before .before .before in
+    let s = k .before .before .before .before in
+    let more = c .before .before .before .before .before .loop-test .taken in
+    (omega (arith, more), k .loop .inv .1 ∙ rw (any-fold-on (s .args .folds .now) (k .loop .i) more (badFold (s .args .rows)), ← c .before .bad-fold .ensures, c .if3 .left))
+
+returns-4 : tie.Need-returns-4 Inv-loop μ-loop
+unfolding foldRefusal
+returns-4 c =
+    let k = c .before in
+    let s = k .before .before .before .before in
+    rw (
+      eq-eqb _ _ (k .before .before .if1 .left),
+      le-ltb _ _ (k .before .if2 .left),
+      k .loop .inv .1,
+      any-fold-end (s .args .folds .now) (k .loop .i) (c .loop-test .left) (badFold (s .args .rows)),
+    )
+
+pub fold-refusal-spec : {M : Type 1} → statement M
+fold-refusal-spec =
+    tie.close
+    (tie.spec Inv-loop μ-loop returns returns-2 (λ c. search needs) (λ c. search needs) (λ c. search needs) (λ c. search needs) (λ c. search needs)
+    (λ c. search needs) (λ c. search needs) (λ c. search needs) (λ c. search needs) (λ c. search needs) (λ c κs. search needs) returns-3 (λ c. search needs)
+    (λ c. search needs) loop-again returns-4)

@@ -1,0 +1,26 @@
+-- `sections::section_on` meets its contract: column 0 of the row that the walk leads to.
+-- Assumes nothing.
+use Prim.Native.Nat.{ℕ, _-_}
+use Rattle.text.specs.Text.{contentRows}
+use mathlib.Core.Path.{_≡_, ap, _∙_}
+use native.Mathlib.Omega.{arith}
+use borrow.Author.Needs.{needs}
+use Rattle.steps.specs.Positions.{position}
+use Rattle.lines.specs.Sections.{sectionDown}
+use Rattle.jumps.proofs.sections.section_on.Statement.{statement}
+use Rattle.jumps.proofs.sections.section_on.Tie as tie
+
+-- a mark is no separator
+section-down-requires : tie.Need-section-down-requires
+section-down-requires c κs =
+    let s = c .before .before in
+    (s .pre .0 .line, λ e. omega arith)
+
+returns : tie.Need-returns
+returns c =
+    let a = c .before .before .before .args in
+    ap (λ (r : ℕ). position r 0) (c .section-down .ensures .0 ∙
+    ap (λ (n : ℕ). sectionDown (a .t .now) (a .x) n (a .p .row) (contentRows (a .t .now) - 1 - a .p .row)) (c .before .most .ensures))
+
+pub section-on-spec : {M : Type 1} → statement M
+section-on-spec = tie.close (tie.spec (λ c κs. search needs) section-down-requires returns)

@@ -1,0 +1,25 @@
+-- `lines::margins::first_non_blank` meets its contract: the row's indent, within its last column.
+-- Assumes nothing.
+use mathlib.Core.Path.{_≡_, ap}
+use native.Mathlib.Omega.{arith}
+use lib.ListN.{length}
+use borrow.Author.Needs.{needs}
+use Rattle.text.proofs.Parts.{row-fits}
+use Rattle.lines.specs.Margins.{indentOf}
+use Rattle.lines.proofs.margins.first_non_blank.Statement.{statement}
+use Rattle.lines.proofs.margins.first_non_blank.Tie as tie
+
+returns : tie.Need-returns
+returns c =
+    let r = c .before .before .before in
+    let s = r .before .before in
+    omega (
+      arith,
+      c .before .before .indent .ensures,
+      ap indentOf (r .row .ensures),
+      ap length (r .row .ensures),
+      row-fits (s .args .t .now) (s .args .l .row) (s .pre .0 .in-row),
+    )
+
+pub first-non-blank-spec : {M : Type 1} → statement M
+first-non-blank-spec = tie.close (tie.spec (λ c κs. search needs) (λ c κs. search needs) (λ c κs. search needs) (λ c κs. search needs) returns)

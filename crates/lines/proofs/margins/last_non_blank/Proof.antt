@@ -1,0 +1,33 @@
+-- `lines::margins::last_non_blank` meets its contract: the row up to its last character that is no white space, less one.
+-- Assumes nothing.
+use mathlib.Core.Path.{_≡_, refl, ap}
+use native.Mathlib.Omega.{arith}
+use lib.ListN.{length}
+use borrow.Author.Needs.{needs}
+use Rattle.chars.specs.White.{whites}
+use Rattle.text.specs.Text.{rowAt}
+use Rattle.text.proofs.Parts.{row-fits}
+use Rattle.lines.specs.Margins.{solidOf}
+use Rattle.lines.proofs.Edging.{solid-le}
+use Rattle.lines.proofs.margins.last_non_blank.Statement.{statement}
+use Rattle.lines.proofs.margins.last_non_blank.Tie as tie
+
+-- the list of white space that is lent is the whole of it
+solid-requires : tie.Need-solid-requires
+unfolding whites
+solid-requires c κs = refl
+
+returns : tie.Need-returns
+returns c =
+    let r = c .before .before .before in
+    let s = r .before .before in
+    omega (
+      arith,
+      c .before .solid .ensures,
+      ap solidOf (r .row .ensures),
+      solid-le (rowAt (s .args .t .now) (s .args .l .row)),
+      row-fits (s .args .t .now) (s .args .l .row) (s .pre .0 .in-row),
+    )
+
+pub last-non-blank-spec : {M : Type 1} → statement M
+last-non-blank-spec = tie.close (tie.spec (λ c κs. search needs) (λ c. search needs) solid-requires (λ c κs. search needs) returns)

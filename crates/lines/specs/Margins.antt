@@ -1,0 +1,33 @@
+-- The first and the last character of a row that is no blank, as motions.rs has them.
+-- Definitions only; the laws are in `proofs/Edging.antt`. Assumes nothing.
+use Prim.Native.Nat.{ℕ, zero, suc, _-_, min}
+use mathlib.Core.List.{List, [], _∷_}
+use mathlib.Core.Bool.{Bool, cond, _||_}
+use lib.Dec.{eqb}
+use Rattle.chars.specs.White.{isWhite}
+use Rattle.text.specs.Text.{rowAt, rowLen}
+
+-- the last column of a row: 0 of an empty one
+abbrev pub lastCol : List ℕ → ℕ → ℕ
+lastCol t r = rowLen t r - 1
+
+-- how many blanks a row begins with: spaces and tabs, and no other white space
+abbrev pub isBlank : ℕ → Bool
+isBlank x = eqb x 32 || eqb x 9
+
+unfoldable pub indentOf : List ℕ → ℕ
+indentOf [] = zero
+indentOf (x ∷ row) = cond (isBlank x) (suc (indentOf row)) zero
+
+-- the first column that is no blank, or the last column where there is none
+abbrev pub firstNonBlank : List ℕ → ℕ → ℕ
+firstNonBlank t r = min (indentOf (rowAt t r)) (lastCol t r)
+
+-- how many characters a row has up to the last that is no white space
+unfoldable pub solidOf : List ℕ → ℕ
+solidOf [] = zero
+solidOf (x ∷ row) = let rest = solidOf row in cond (eqb rest 0) (cond (isWhite x) 0 1) (suc rest)
+
+-- the last column that is no white space, or column 0 where there is none
+abbrev pub lastNonBlank : List ℕ → ℕ → ℕ
+lastNonBlank t r = solidOf (rowAt t r) - 1

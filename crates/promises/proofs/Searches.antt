@@ -1,0 +1,110 @@
+-- Where a search by number leads to is in the text, and so is a partner. Assumes nothing.
+use mathlib.Core.Path.{_≡_, refl, sym, _∙_}
+use mathlib.Core.List.{List, [], _∷_}
+use mathlib.Core.Bool.{Bool, true, false, cond}
+use Prim.Native.Nat.{ℕ, _≤_}
+use native.Mathlib.Omega.{arith}
+use lib.Dec.{eqb}
+use borrow.Author.Tests.{eqb-true}
+use Rattle.chars.specs.Scalar.{isScalar}
+use Rattle.text.specs.Text.{textRefusal, rowAt, rowLen}
+use Rattle.scans.specs.declared.Found.{Found as Spotted}
+use Rattle.scans.specs.declared.Found.the-variants.{At, Nothing}
+use Rattle.brackets.specs.declared.Pos.{Pos}
+use Rattle.brackets.specs.declared.Partner.{Partner}
+use Rattle.brackets.specs.declared.Partner.the-variants.{There, None, Refused as Partner·Refused}
+use Rattle.brackets.specs.Matching.{matchingBracketPos}
+use Rattle.scans.specs.Find.{findOnRow}
+use Rattle.brackets.specs.Find.{keyFrom}
+use Rattle.brackets.proofs.Demand.{refuses, unique}
+use Rattle.brackets.proofs.Jump.{key}
+use Rattle.scans.proofs.Finds.{find-within}
+use Rattle.steps.proofs.Checks.{inside, lowest-none}
+use Rattle.motions.specs.declared.Caret.{Caret}
+use Rattle.motions.specs.declared.Moved.the-variants.{To}
+use Rattle.motions.specs.declared.Sought.{Sought}
+use Rattle.motions.specs.declared.Sought.the-variants.{Refused as Sought·Refused}
+use Rattle.motions.specs.Carets.{here, Inside, caretRefusal, refusalOf}
+use Rattle.motions.specs.Finds.{matchBracket, findCharOnLine, seeking, partnerTo, landsOn, orSought}
+use Rattle.text_calls.specs.Seeks.{seek}
+use Rattle.promises.specs.Positions.{inMoved, inSought, inPartner, In, AllIn}
+use Rattle.promises.proofs.Landings.{either}
+
+module _ (t : List ℕ) where
+  pub stands : (k : Caret) → Inside t k → AllIn t (inMoved (To k))
+  stands k h = (record { in-row = h .in-row; in-col = h .in-col }, tt)
+
+  abbrev Sits : Sought → Type 0
+  Sits m = AllIn t (inSought m)
+
+  seeking-sits : (f : ℕ) (m : Sought) → (f ≡ 0 → Sits m) → Sits (seeking f m)
+  unfolding seeking
+  seeking-sits f m h = go (eqb f 0) refl
+    where
+      go : (b : Bool) → eqb f 0 ≡ b → Sits (cond b m (Sought·Refused f))
+      go true e = h (eqb-true f 0 e)
+      go false e = tt
+
+  module _ (k : Caret) where
+    clear : refusalOf t k ≡ 0 → textRefusal t ≡ 0
+    clear z = lowest-none (textRefusal t) (caretRefusal t k ∷ []) z .0
+
+    -- at the partner of a bracket, or where the caret was
+    partner-sits : (p : Partner) → ((q : Pos) → p ≡ There q → In t (record { row = q .row; col = q .col })) → Inside t k → Sits (partnerTo k p)
+    unfolding partnerTo
+    partner-sits (There q) h w = (h q refl, tt)
+    partner-sits None h w = stands k w
+    partner-sits (Partner·Refused f) h w = tt
+
+    key-sits : Sits (matchBracket t k)
+    key-sits =
+        seeking-sits (refusalOf t k) _
+        (λ z. partner-sits (keyFrom t (k .row) (k .col))
+        (λ q e. let p = key t (clear z) .lands (k .row) (k .col) q e .partner .to in record { in-row = p .in-row; in-col = omega (arith, p .in-col) })
+        (inside t (here k) z))
+
+    -- at a column of the row, or where the caret was
+    found-sits : (f : Spotted) → ((i : ℕ) → f ≡ At i → i ≤ rowLen t (k .row)) → Inside t k → Sits (landsOn k f)
+    unfolding landsOn
+    found-sits (At i) h w = (record { in-row = w .in-row; in-col = h i refl }, tt)
+    found-sits Nothing h w = stands k w
+
+    or-none : (f : ℕ) (b : Bool) → orSought f b ≡ 0 → f ≡ 0
+    unfolding orSought
+    or-none f b e = go (eqb f 1) b e
+      where
+        go : (c b : Bool) → cond c 1 (cond b f 2) ≡ 0 → f ≡ 0
+        go true b e = absurd (omega arith)
+        go false true e = e
+        go false false e = absurd (omega arith)
+
+    find-sits : (x : ℕ) (forward till skip : Bool) → Sits (findCharOnLine t x forward till skip k)
+    find-sits x forward till skip =
+        seeking-sits (orSought (refusalOf t k) (isScalar x)) _
+        (λ z. let w = inside t (here k) (or-none (refusalOf t k) (isScalar x) z) in
+        found-sits (findOnRow (rowAt t (k .row)) (k .col) x forward till skip) (λ i e. find-within (rowAt t (k .row)) (k .col) x forward till skip (w .in-col) e) w)
+
+    pub seek-sits : (op x : ℕ) → Sits (seek op x k t)
+    unfolding seek
+    seek-sits op x =
+        either Sits (eqb op 0) _ _ key-sits
+        (either Sits (eqb op 1) _ _ (find-sits x false false false)
+        (either Sits (eqb op 2) _ _ (find-sits x true false false)
+        (either Sits (eqb op 3) _ _ (find-sits x false true false)
+        (either Sits (eqb op 4) _ _ (find-sits x true true false)
+        (either Sits (eqb op 5) _ _ (find-sits x false false true)
+        (either Sits (eqb op 6) _ _ (find-sits x true false true)
+        (either Sits (eqb op 7) _ _ (find-sits x false true true)
+        (either Sits (eqb op 8) _ _ (find-sits x true true true) tt))))))))
+
+  -- a partner, of an accepted text alone
+  pub pair-sits : (row col : ℕ) → AllIn t (inPartner (matchingBracketPos t row col))
+  pair-sits row col = go (matchingBracketPos t row col) refl
+    where
+      go : (p : Partner) → matchingBracketPos t row col ≡ p → AllIn t (inPartner p)
+      go (There q) e =
+          let ok : textRefusal t ≡ 0 = sym (refuses t (record { row = row; col = col })) ∙ rw e in
+          let w = unique t ok .told (record { row = row; col = col }) q e .to in
+          (record { in-row = w .in-row; in-col = omega (arith, w .in-col) }, tt)
+      go None e = tt
+      go (Partner·Refused f) e = tt

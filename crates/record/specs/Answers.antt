@@ -1,0 +1,29 @@
+-- What a call answers and leaves, as the list has it, and when that is the stored answer. What the contracts of `record::answers` cite.
+-- Definitions only; the laws are in `proofs/Comparing.antt`. Assumes nothing.
+use Prim.Native.Nat.{ℕ}
+use mathlib.Core.List.{List, [], _∷_}
+use mathlib.Core.Bool.{Bool, true, false, cond, _&&_}
+use lib.ListN.{replicate}
+use lib.Dec.{eqb}
+use Rattle.lent.specs.Reply.{Reply, number, left}
+use Rattle.record.specs.declared.Verdict.{Verdict}
+use Rattle.record.specs.declared.Verdict.the-variants.{Agrees, Differs}
+
+-- the same numbers
+unfoldable pub same : List ℕ → List ℕ → Bool
+same [] [] = true
+same [] (y ∷ b) = false
+same (x ∷ a) [] = false
+same (x ∷ a) (y ∷ b) = eqb x y && same a b
+
+-- an answer against the stored one
+unfoldable pub compared : List ℕ → List ℕ → Verdict
+compared answer stored = cond (same answer stored) Agrees Differs
+
+-- what lent places hold before a call
+abbrev pub filler : ℕ
+filler = 2779096485
+
+-- the number that a call answers, and what it leaves in n places
+unfoldable pub shown : ℕ → Reply → List ℕ
+shown n m = number m ∷ left m (replicate n filler)

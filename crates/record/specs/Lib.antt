@@ -1,0 +1,4 @@
+pub mod Rows
+pub mod Answers
+pub mod Cases
+pub mod Tallies

@@ -1,0 +1,31 @@
+-- Each kind of reply fills its places. Assumes nothing.
+use mathlib.Core.Path.{_≡_, refl}
+use lib.ListN.{length, replicate}
+use Rattle.brackets.specs.declared.Partner.{Partner}
+use Rattle.brackets.specs.declared.Partner.the-variants.{There, None, Refused as Partner·Refused}
+use Rattle.motions.specs.declared.Moved.{Moved}
+use Rattle.motions.specs.declared.Moved.the-variants.{To, Refused as Moved·Refused}
+use Rattle.motions.specs.declared.Sought.{Sought}
+use Rattle.motions.specs.declared.Sought.the-variants.{Found, Missing, Refused as Sought·Refused}
+use Rattle.lent.specs.Reply.{left}
+use Rattle.text_calls.specs.Partners.{partnered}
+use Rattle.text_calls.specs.Carets.{moved}
+use Rattle.text_calls.specs.Seeks.{sought}
+use Rattle.record.specs.Answers.{filler}
+
+pub partnered-sized : (p : Partner) → length (left (partnered p) (replicate 3 filler)) ≡ 3
+unfolding partnered
+partnered-sized (There p) = refl
+partnered-sized None = refl
+partnered-sized (Partner·Refused f) = refl
+
+pub moved-sized : (m : Moved) → length (left (moved m) (replicate 4 filler)) ≡ 4
+unfolding moved
+moved-sized (To k) = refl
+moved-sized (Moved·Refused f) = refl
+
+pub sought-sized : (s : Sought) → length (left (sought s) (replicate 5 filler)) ≡ 5
+unfolding sought
+sought-sized (Found k) = refl
+sought-sized (Missing k) = refl
+sought-sized (Sought·Refused f) = refl

@@ -1,0 +1,4 @@
+pub mod Characters
+pub mod Lists
+pub mod Tabs
+pub mod Wraps

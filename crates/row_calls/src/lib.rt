@@ -1,0 +1,13 @@
+// The calls for hosts on a character, a row or a list, by numbers: each puts its answer into `out`
+// and answers 0, or answers the number of a refusal and leaves `out` as it was.
+mod characters;
+mod lists;
+mod tabs;
+mod wraps;
+
+pub use characters::character;
+pub use lists::keywords;
+pub use tabs::columns;
+pub use wraps::offsets;
+pub use wraps::segment_for_col;
+pub use wraps::wrap_segments;

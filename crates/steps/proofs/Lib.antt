@@ -1,0 +1,5 @@
+-- Laws of positions and steps, which the proofs of this crate and of the crates above it cite.
+pub mod Checks
+pub mod Rounds
+pub mod Stepping
+pub mod Staying

@@ -1,0 +1,36 @@
+-- Laws of a round that is gone through so many times.
+-- Assumes nothing.
+use mathlib.Core.Path.{_≡_, refl, ap, _∙_}
+use Prim.Native.Nat.{ℕ, zero, suc, _+_, _-_, _≤_, _<_}
+use native.Mathlib.Nat.{zero-add}
+use native.Mathlib.Omega.{arith}
+use Rattle.steps.specs.declared.Position.{Position}
+use Rattle.steps.specs.Steps.{rounds}
+
+module _ (f : Position → Position) where
+  -- one round of those that are left
+  pub rounds-on : (n : ℕ) (p : Position) → 0 < n → rounds f n p ≡ rounds f (n - 1) (f p)
+  unfolding rounds
+  rounds-on zero p h = absurd (omega arith)
+  rounds-on (suc n) p h =
+      let one : suc n - 1 ≡ n = omega arith in
+      rw one
+
+  pub rounds-none : (n : ℕ) (p : Position) → n ≤ 0 → rounds f n p ≡ p
+  unfolding rounds
+  rounds-none zero p h = refl
+  rounds-none (suc n) p h = absurd (omega arith)
+
+  -- a round that leaves the position as it is ends them all
+  pub rounds-still : (n : ℕ) (p : Position) → f p ≡ p → rounds f n p ≡ p
+  unfolding rounds
+  rounds-still zero p e = refl
+  rounds-still (suc n) p e = ap (rounds f n) e ∙ rounds-still n p e
+
+  -- m rounds and then n are m + n
+  pub rounds-add : (m n : ℕ) (p : Position) → rounds f (m + n) p ≡ rounds f n (rounds f m p)
+  unfolding rounds
+  rounds-add zero n p = rw (zero-add n)
+  rounds-add (suc m) n p =
+      let one : suc m + n ≡ suc (m + n) = omega arith in
+      rw one (rounds-add m n (f p))

@@ -1,0 +1,87 @@
+-- `walks::space_fwd` meets its contract. The invariant of its loop: what is left of the rounds, from the place of the walk, leads where all of them do.
+-- The measure is the rounds that are left. Assumes nothing.
+use Prim.Native.Nat.{_≤_, _+_, _-_, max}
+use mathlib.Core.Path.{_∙_}
+use native.Mathlib.Omega.{arith}
+use lib.ListN.{length}
+use borrow.Author.Needs.{needs}
+use Rattle.text.proofs.Stands.{step-char, step-nl}
+use Rattle.steps.specs.Positions.{position}
+use Rattle.steps.specs.Steps.{spaceFwd}
+use Rattle.steps.proofs.Stepping.{Going, going-start, going-on, going-done, going-stop, going-from, space-end, space-nl, space-last, space-wrap, space-on}
+use Rattle.steps.proofs.walks.space_fwd.Statement.{statement}
+use Rattle.steps.proofs.walks.space_fwd.Tie as tie
+
+abbrev Inv-loop : tie.InvT-loop
+Inv-loop t begin count row₀ start₀ at₀ left₀ row start at left = Going (spaceFwd t) (position row₀ (at₀ - begin)) (max count 1) t row start at left × (length t ≤ 1048576)
+
+abbrev μ-loop : tie.MeasureT-loop
+μ-loop t begin count row₀ start₀ at₀ left₀ row start at left = left
+
+loop-holds : tie.Need-loop-holds Inv-loop μ-loop
+loop-holds c =
+    let s = c .before .before .before in
+    let a = s .args in
+    (going-start (spaceFwd (a .t .now)) (position (a .p .row) (a .begin + a .p .col - a .begin)) (max (a .count) 1) _ _ _ (s .pre .here) (omega arith) (c .most .ensures), s .pre .brief)
+
+-- at the end of the text
+returns : tie.Need-returns Inv-loop μ-loop
+returns c =
+    let l = c .before .before in
+    let g = l .loop .inv .0 in
+    going-stop g (space-end (g .stands) (c .if1 .taken)) ∙ going-from (spaceFwd (l .before .before .before .before .args .t .now)) _ (l .before .before .before .before .args .p) (l .before .before .before .before .args .begin)
+
+-- on a separator
+loop-again : tie.Need-loop-again Inv-loop μ-loop
+loop-again c =
+    let o = c .before .before in
+    let l = o .before .before in
+    let g = l .loop .inv .0 in (
+      going-on g _ _ _ (o .before .loop-test .taken) (step-nl (g .stands) (o .if1 .left) (c .if2 .taken)) (space-nl (g .stands) (o .if1 .left) (c .if2 .taken)),
+      l .loop .inv .1,
+    )
+
+-- on the last character of the text
+returns-2 : tie.Need-returns-2 Inv-loop μ-loop
+returns-2 c =
+    let o = c .before .before .before in
+    let l = o .before .before in
+    let g = l .loop .inv .0 in
+    going-stop g (space-last (g .stands) (o .if1 .left) (c .before .if2 .left) (c .if3 .taken)) ∙ going-from (spaceFwd (l .before .before .before .before .args .t .now)) _ (l .before .before .before .before .args .p) (l .before .before .before .before .args .begin)
+
+-- before a separator
+loop-again-2 : tie.Need-loop-again-2 Inv-loop μ-loop
+loop-again-2 c =
+    let o = c .before .before .before .before .before in
+    let l = o .before .before in
+    let g = l .loop .inv .0 in
+    let on = c .before .before .before .if2 .left in
+    let more = c .before .before .if3 .left in (
+      going-on g _ _ _ (o .before .loop-test .taken) (step-nl (step-char (g .stands) (o .if1 .left) on) more (c .if4 .taken))
+          (space-wrap (g .stands) (o .if1 .left) on more (c .if4 .taken)),
+      l .loop .inv .1,
+    )
+
+-- before another character
+loop-again-3 : tie.Need-loop-again-3 Inv-loop μ-loop
+loop-again-3 c =
+    let o = c .before .before .before .before .before in
+    let l = o .before .before in
+    let g = l .loop .inv .0 in
+    let on = c .before .before .before .if2 .left in (
+      going-on g _ _ _ (o .before .loop-test .taken) (step-char (g .stands) (o .if1 .left) on)
+          (space-on (g .stands) (o .if1 .left) on (c .before .before .if3 .left) (c .if4 .left)),
+      l .loop .inv .1,
+    )
+
+returns-3 : tie.Need-returns-3 Inv-loop μ-loop
+returns-3 c = going-done (c .before .loop .inv .0) (c .loop-test .left) ∙ going-from (spaceFwd (c .before .before .before .before .before .args .t .now)) _ (c .before .before .before .before .before .args .p) (c .before .before .before .before .before .args .begin)
+
+pub space-fwd-spec : {M : Type 1} → statement M
+space-fwd-spec =
+    tie.close
+    (tie.spec Inv-loop μ-loop (λ c. search needs) (λ c κs. search needs) loop-holds (λ c. search needs) returns
+    (λ c. search needs) (λ c. search needs) (λ c. search needs) (λ c. search needs) (λ c. search needs) (λ c. search needs) loop-again
+    (λ c. search needs) returns-2
+    (λ c. search needs) (λ c. search needs) (λ c. search needs) (λ c. search needs) (λ c. search needs) (λ c. search needs) (λ c. search needs) loop-again-2
+    (λ c. search needs) (λ c. search needs) loop-again-3 (λ c. search needs) returns-3)

@@ -1,0 +1,6 @@
+pub mod Rows
+pub mod Carets
+pub mod Moves
+pub mod Partners
+pub mod Seeks
+pub mod Viewports

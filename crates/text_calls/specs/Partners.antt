@@ -1,0 +1,16 @@
+-- The reply of `matching_bracket_pos`. Cited by `text_calls::pairs`. Assumes nothing.
+use Prim.Native.Nat.{ℕ}
+use mathlib.Core.List.{List, [], _∷_}
+use Rattle.brackets.specs.declared.Partner.{Partner}
+use Rattle.brackets.specs.declared.Partner.the-variants.{There, None, Refused}
+use Rattle.brackets.specs.Matching.{matchingBracketPos}
+use Rattle.lent.specs.Reply.{Reply, answer, refused}
+
+-- 1 and the partner's row and column; 0, 0 and 0 where there is none; or a refusal's number
+unfoldable pub partnered : Partner → Reply
+partnered (There p) = answer (1 ∷ p .row ∷ p .col ∷ [])
+partnered None = answer (0 ∷ 0 ∷ 0 ∷ [])
+partnered (Refused f) = refused f
+
+abbrev pub partner : ℕ → ℕ → List ℕ → Reply
+partner row col t = partnered (matchingBracketPos t row col)

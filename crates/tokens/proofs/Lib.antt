@@ -1,0 +1,6 @@
+pub mod Lists
+pub mod NumberLaws
+pub mod PartLaws
+pub mod RefusalLaws
+pub mod TokenLaws
+pub mod TrimLaws

@@ -1,0 +1,5 @@
+pub mod Grammar
+pub mod Numbers
+pub mod Parts
+pub mod Refusals
+pub mod Tokens

@@ -1,0 +1,19 @@
+// The tokens of a keyword list: its parts, what token a part is, and what a token holds. The given
+// hjkl-buffer/motion.rs; document 01, "Keyword lists". Names are the Rust's.
+mod numbers;
+mod parts;
+mod refusals;
+mod tokens;
+
+pub use refusals::refused_char;
+pub use refusals::refused_list;
+pub use tokens::EMPTY;
+pub use tokens::read_part;
+
+// One token of a list. Kind 0: none; 1: every letter; 2: the codes lo to hi, both ends in (a code
+// or a literal character of the Rust is from itself to itself).
+pub struct Token {
+    pub kind: u32,
+    pub lo: u32,
+    pub hi: u32,
+}
