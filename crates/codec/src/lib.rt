@@ -34,7 +34,8 @@ pub fn decode(bytes: &[u8], room: &mut [u32]) -> usize
 // Puts the code points of `first`, and then those of `second`, at the start of `room`.
 pub fn decode_two(first: &[u8], second: &[u8], room: &mut [u32])
     requires { ⌜ length (now first) / 4 + length (now second) / 4 ≤ length (now room) ⌝ }
-    ensures { λ _. ⌜ Two (now (first .entry)) (now (second .entry)) (now (room .entry)) (now (room .exit)) ⌝ }
+    ensures { λ _. ⌜ Two (now (first .entry)) (now (second .entry)) (now (room .entry))
+        (now (room .exit)) ⌝ }
 {
     let n = decode(first, room);
     decode(second, &mut room[n..]);
@@ -44,7 +45,8 @@ pub fn decode_two(first: &[u8], second: &[u8], room: &mut [u32])
 pub fn decode_three(first: &[u8], second: &[u8], third: &[u8], room: &mut [u32])
     requires { ⌜ length (now first) / 4 + (length (now second) / 4 + length (now third) / 4) ≤
         length (now room) ⌝ }
-    ensures { λ _. ⌜ Three (now (first .entry)) (now (second .entry)) (now (third .entry)) (now (room .entry)) (now (room .exit)) ⌝ }
+    ensures { λ _. ⌜ Three (now (first .entry)) (now (second .entry)) (now (third .entry))
+        (now (room .entry)) (now (room .exit)) ⌝ }
 {
     let n = decode(first, room);
     decode_two(second, third, &mut room[n..]);

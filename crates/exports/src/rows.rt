@@ -7,7 +7,8 @@ ghost use Rattle.text_calls.specs.Rows.{rowCount};
 // `content_row_count` on code points.
 #[no_mangle]
 pub extern "C" fn tsivareza_content_row_count_u32(text: &[u32], out: &mut [u32; 1]) -> u32
-    ensures { λ r. ⌜ Replied (rowCount (now (text .entry))) (now (out .entry)) r (now (out .exit)) ⌝ }
+    ensures { λ r. ⌜ Replied (rowCount (now (text .entry))) (now (out .entry)) r
+        (now (out .exit)) ⌝ }
 {
     text_calls::content_row_count(text, out)
 }

@@ -70,9 +70,9 @@ pub fn is_row_hidden(folds: &[u32], row: usize) -> bool
     }
 }
 
-// The first row after `row` that no fold hides. From a hidden row it goes on behind the end of a fold
-// that hides it, so that each fold is passed at most once: a pass over the folds for each fold, not
-// for each row.
+// The first row after `row` that no fold hides. From a hidden row it goes on behind the end of a
+// fold that hides it, so that each fold is passed at most once: a pass over the folds for each
+// fold, not for each row.
 pub fn next_visible_row(folds: &[u32], rows: usize, row: usize) -> Visible
     requires { ⌜ (foldRefusal (now folds) rows ≡ 0) × (row < rows) ⌝ }
     ensures { λ r. ⌜ r ≡ nextVisible (now (folds .entry)) rows row ⌝ }

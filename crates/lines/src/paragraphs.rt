@@ -28,7 +28,8 @@ fn is_void(t: &[u32], l: Line) -> bool
 // One round: on to the first empty row behind one that isn't, or to the row at the edge.
 fn paragraph_round(t: &[u32], forward: bool, last: usize, from: Line) -> Round
     requires { ⌜ IsLine (now t) from × (last ≡ lastRow (now t)) × (length (now t) ≤ 1048576) ⌝ }
-    ensures { λ r. ⌜ (r ≡ roundOf (now (t .entry)) forward (from .row)) × EndsIn (now (t .entry)) r ⌝ }
+    ensures { λ r. ⌜ (r ≡ roundOf (now (t .entry)) forward (from .row)) ×
+        EndsIn (now (t .entry)) r ⌝ }
 {
     let mut row = from.row;
     let mut start = from.start;
@@ -60,7 +61,8 @@ fn paragraph_round(t: &[u32], forward: bool, last: usize, from: Line) -> Round
 // `find_paragraph`: so many rounds. A round that runs off with others still owed leads nowhere.
 pub fn find_paragraph(t: &[u32], forward: bool, from: Line, n: usize) -> Paragraph
     requires { ⌜ IsLine (now t) from × (0 < n) × (length (now t) ≤ 1048576) ⌝ }
-    ensures { λ r. ⌜ (r ≡ paragraphs (now (t .entry)) forward (n - 1) (from .row)) × LeadsIn (now (t .entry)) r ⌝ }
+    ensures { λ r. ⌜ (r ≡ paragraphs (now (t .entry)) forward (n - 1) (from .row)) ×
+        LeadsIn (now (t .entry)) r ⌝ }
 {
     let last = text::content_rows(t) - 1;
     let mut here = from;

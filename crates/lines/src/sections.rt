@@ -1,5 +1,6 @@
-// Rows that begin with a mark, which is no separator: the walks of the section motions of motions.rs.
-// A walk goes from row start to row start, so that it reads the text once, whatever the count.
+// Rows that begin with a mark, which is no separator: the walks of the section motions of
+// motions.rs. A walk goes from row start to row start, so that it reads the text once, whatever the
+// count.
 use text::Line;
 ghost use mathlib.Core.Path.{_≡_};
 ghost use Prim.Native.Nat.{_-_, _≤_};
@@ -23,7 +24,8 @@ fn begins(t: &[u32], l: Line, x: u32) -> bool
 // The row of the n-th section up from `from`, or row 0.
 pub fn section_up(t: &[u32], from: Line, x: u32, n: usize) -> usize
     requires { ⌜ IsLine (now t) from × (x ≡ 10 → ⊥) ⌝ }
-    ensures { λ r. ⌜ (r ≡ sectionUp (now (t .entry)) x n (from .row)) × (r ≤ length (now (t .entry))) ⌝ }
+    ensures { λ r. ⌜ (r ≡ sectionUp (now (t .entry)) x n (from .row)) ×
+        (r ≤ length (now (t .entry))) ⌝ }
 {
     let mut row = from.row;
     let mut start = from.start;
@@ -48,7 +50,8 @@ pub fn section_up(t: &[u32], from: Line, x: u32, n: usize) -> usize
 // The row of the n-th section down from `from`, or the last row with content.
 pub fn section_down(t: &[u32], from: Line, x: u32, n: usize) -> usize
     requires { ⌜ IsLine (now t) from × (x ≡ 10 → ⊥) ⌝ }
-    ensures { λ r. ⌜ (r ≡ sectionDown (now (t .entry)) x n (from .row) (lastRow (now (t .entry)) - from .row)) × (r ≤ length (now (t .entry))) ⌝ }
+    ensures { λ r. ⌜ (r ≡ sectionDown (now (t .entry)) x n (from .row)
+        (lastRow (now (t .entry)) - from .row)) × (r ≤ length (now (t .entry))) ⌝ }
 {
     let mut row = from.row;
     let mut start = from.start;

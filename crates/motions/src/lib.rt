@@ -1,7 +1,7 @@
 // Carets, and every motion as a method on them: the public surface of motions.rs.
-// A motion tests its inputs in the order of document 01's refusal table, walks the text, and answers
-// with the new caret. A caret goes in by value, so that the caller's own stands as it did where a call
-// is refused.
+// A motion tests its inputs in the order of document 01's refusal table, walks the text, and
+// answers with the new caret. A caret goes in by value, so that the caller's own stands as it did
+// where a call is refused.
 use steps::Entry;
 use steps::Position;
 ghost use mathlib.Core.Path.{_≡_};

@@ -1,4 +1,5 @@
-// `w`, `b`, `e`, `ge` and their capitals: motions.rs, "Word motions". The walks are those of `words`.
+// `w`, `b`, `e`, `ge` and their capitals: motions.rs, "Word motions". The walks are those of
+// `words`.
 use crate::Caret;
 use crate::Moved;
 use keywords::KeywordSpec;
@@ -25,7 +26,8 @@ impl Caret {
         start: usize,
     ) -> Caret
         requires { ⌜ WordReady (now t) (now folds) spec self start ⌝ }
-        ensures { λ r. ⌜ r ≡ wordCaret (now (t .entry)) (now (folds .entry)) (anyToken (kept spec)) big m stop count self ⌝ }
+        ensures { λ r. ⌜ r ≡ wordCaret (now (t .entry)) (now (folds .entry))
+            (anyToken (kept spec)) big m stop count self ⌝ }
     {
         let p = Spot {
             row: self.row as usize,
@@ -47,7 +49,8 @@ impl Caret {
         stop: bool,
         count: u32,
     ) -> Moved
-        ensures { λ r. ⌜ r ≡ moveWord (now (t .entry)) (now (folds .entry)) (now (list .entry)) big m stop count self ⌝ }
+        ensures { λ r. ⌜ r ≡ moveWord (now (t .entry)) (now (folds .entry))
+            (now (list .entry)) big m stop count self ⌝ }
     {
         let e = self.enter(t);
         if e.refusal != 0 {
@@ -74,7 +77,8 @@ impl Caret {
         count: u32,
         list: &[u32],
     ) -> Moved
-        ensures { λ r. ⌜ r ≡ moveWord (now (t .entry)) (now (folds .entry)) (now (list .entry)) big Motion.Fwd false count self ⌝ }
+        ensures { λ r. ⌜ r ≡ moveWord (now (t .entry)) (now (folds .entry))
+            (now (list .entry)) big Motion.Fwd false count self ⌝ }
     {
         self.word(t, folds, list, big, Motion::Fwd, false, count)
     }
@@ -88,7 +92,8 @@ impl Caret {
         count: u32,
         list: &[u32],
     ) -> Moved
-        ensures { λ r. ⌜ r ≡ moveWord (now (t .entry)) (now (folds .entry)) (now (list .entry)) big Motion.Back false count self ⌝ }
+        ensures { λ r. ⌜ r ≡ moveWord (now (t .entry)) (now (folds .entry))
+            (now (list .entry)) big Motion.Back false count self ⌝ }
     {
         self.word(t, folds, list, big, Motion::Back, false, count)
     }
@@ -103,14 +108,16 @@ impl Caret {
         stop: bool,
         list: &[u32],
     ) -> Moved
-        ensures { λ r. ⌜ r ≡ moveWord (now (t .entry)) (now (folds .entry)) (now (list .entry)) big Motion.End stop count self ⌝ }
+        ensures { λ r. ⌜ r ≡ moveWord (now (t .entry)) (now (folds .entry))
+            (now (list .entry)) big Motion.End stop count self ⌝ }
     {
         self.word(t, folds, list, big, Motion::End, stop, count)
     }
 
     // `ge`, `gE`: the end of the word before. It takes no folds.
     pub fn move_word_end_back(self, t: &[u32], big: bool, count: u32, list: &[u32]) -> Moved
-        ensures { λ r. ⌜ r ≡ moveWord (now (t .entry)) [] (now (list .entry)) big Motion.EndBack false count self ⌝ }
+        ensures { λ r. ⌜ r ≡ moveWord (now (t .entry)) [] (now (list .entry)) big
+            Motion.EndBack false count self ⌝ }
     {
         let none = &t[..0];
         self.word(t, none, list, big, Motion::EndBack, false, count)

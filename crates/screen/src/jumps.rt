@@ -49,7 +49,8 @@ pub fn jump(t: &[u32], folds: &[u32], rows: usize, down: bool, l: Line, col: usi
     requires { ⌜ (rows ≡ rowCount (now t)) × (foldRefusal (now folds) rows ≡ 0) × IsLine (now t) l ×
         (col ≤ 1048576) ⌝ }
     ensures { λ r. ⌜ JumpedTo (now (t .entry))
-        (jumped (now (t .entry)) (now (folds .entry)) down (record { row = l .row; col = col })) r ⌝ }
+        (jumped (now (t .entry)) (now (folds .entry)) down (record { row = l .row; col = col }))
+        r ⌝ }
 {
     match folds::closed_fold_at(folds, rows, text::content_rows(t), l.row) {
         Span::Of(first, last) => jump_to(t, l, col, pick(down, last, first)),

@@ -46,7 +46,8 @@ fn walk(
 ) -> Spot
     requires { ⌜ Ready (now zeros) (now doubles) (now white) (now t) (now folds) rows width ×
         IsSpot (now t) (layOf word width) from ⌝ }
-    ensures { λ r. ⌜ Leads (now (t .entry)) (now (folds .entry)) (layOf word width) down n from r ⌝ }
+    ensures { λ r. ⌜ Leads (now (t .entry)) (now (folds .entry)) (layOf word width) down n from
+        r ⌝ }
     ensures { λ r. ⌜ IsSpot (now (t .entry)) (layOf word width) r ⌝ }
 {
     let mut row = from.row;

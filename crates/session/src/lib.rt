@@ -17,7 +17,8 @@ ghost use Rattle.text.specs.Text.{any};
 ghost use Rattle.print.specs.Print.{Wrote, bytes};
 ghost use Rattle.motions.specs.Carets.{caretAfter};
 ghost use Rattle.session.specs.Parts.{isStop, stopOf};
-ghost use Rattle.session.specs.Session.{isAbove, turned, shownOf, lineOf, outputOf, sessionOf};
+ghost use Rattle.session.specs.Session.{isAbove, turned, shownOf};
+ghost use Rattle.session.specs.Session.{lineOf, outputOf, sessionOf};
 ghost use Rattle.session.specs.Written.{Printed, Widened};
 
 // Where a text begins in an input, or that the input has none.
@@ -79,8 +80,8 @@ fn widen(input: &[u8], from: usize, room: &mut [u32]) -> usize
     n
 }
 
-// What a command row does: where it leads to, or the number that it is refused with, 0 for an unknown
-// key or a malformed row.
+// What a command row does: where it leads to, or the number that it is refused with, 0 for an
+// unknown key or a malformed row.
 fn turn(t: &[u32], k: Caret, row: &[u8]) -> Moved
     ensures { λ r. ⌜ r ≡ turned (now (t .entry)) k (now (row .entry)) ⌝ }
 {
@@ -103,7 +104,8 @@ fn after(k: Caret, m: Moved) -> Caret
 // Writes what stands in the key's place.
 fn put_shown(out: &mut [u8], at: usize, key: &[u8], m: Moved) -> usize
     requires { ⌜ at + length (shownOf (now key) m) ≤ length (now out) ⌝ }
-    ensures { λ r. ⌜ Wrote (now (out .entry)) at (shownOf (now (key .entry)) m) r (now (out .exit)) ⌝ }
+    ensures { λ r. ⌜ Wrote (now (out .entry)) at (shownOf (now (key .entry)) m) r
+        (now (out .exit)) ⌝ }
 {
     match m {
         Moved::To(_) => put_bytes(out, at, key),
@@ -120,7 +122,8 @@ fn put_shown(out: &mut [u8], at: usize, key: &[u8], m: Moved) -> usize
 // Writes a line: the key or what stands in its place, the caret's row and its column.
 fn put_line(out: &mut [u8], at: usize, key: &[u8], m: Moved, k: Caret) -> usize
     requires { ⌜ at + length (lineOf (shownOf (now key) m) k) ≤ length (now out) ⌝ }
-    ensures { λ r. ⌜ Wrote (now (out .entry)) at (lineOf (shownOf (now (key .entry)) m) k) r (now (out .exit)) ⌝ }
+    ensures { λ r. ⌜ Wrote (now (out .entry)) at (lineOf (shownOf (now (key .entry)) m) k) r
+        (now (out .exit)) ⌝ }
 {
     let a = put_shown(out, at, key, m);
     let b = put(out, a, b' ');
@@ -133,7 +136,8 @@ fn put_line(out: &mut [u8], at: usize, key: &[u8], m: Moved, k: Caret) -> usize
 // Writes the lines of all command rows, and answers how many bytes they are.
 fn lines(input: &[u8], t: &[u32], out: &mut [u8]) -> usize
     requires { ⌜ (length (now input) ≤ 16384) × (393240 ≤ length (now out)) ⌝ }
-    ensures { λ r. ⌜ Wrote (now (out .entry)) 0 (outputOf (now (t .entry)) (now (input .entry))) r (now (out .exit)) ⌝ }
+    ensures { λ r. ⌜ Wrote (now (out .entry)) 0 (outputOf (now (t .entry)) (now (input .entry))) r
+        (now (out .exit)) ⌝ }
 {
     let mut k = Caret {
         row: 0,
@@ -159,7 +163,8 @@ fn lines(input: &[u8], t: &[u32], out: &mut [u8]) -> usize
 // What an input with a full-stop row prints; its text begins at `from`.
 fn run(input: &[u8], from: usize, out: &mut [u8]) -> usize
     requires { ⌜ (length (now input) ≤ 16384) × (393240 ≤ length (now out)) ⌝ }
-    ensures { λ r. ⌜ Wrote (now (out .entry)) 0 (outputOf (drop from (now (input .entry))) (now (input .entry))) r (now (out .exit)) ⌝ }
+    ensures { λ r. ⌜ Wrote (now (out .entry)) 0 (outputOf (drop from (now (input .entry)))
+        (now (input .entry))) r (now (out .exit)) ⌝ }
 {
     let mut room = [0u32; 16384];
     let n = widen(input, from, &mut room);
@@ -175,10 +180,11 @@ fn refuse(out: &mut [u8]) -> usize
 }
 
 // Prints into out what the input asks for, and answers how many bytes that is. Input over 16,384
-// bytes, with a byte above 127 or with no full-stop row prints `refused`. The room is enough for the
-// longest output: a row prints at most 24 bytes for each of its own, its separator included.
+// bytes, with a byte above 127 or with no full-stop row prints `refused`. The room is enough for
+// the longest output: a row prints at most 24 bytes for each of its own, its separator included.
 pub fn session(input: &[u8], out: &mut [u8; 393240]) -> usize
-    ensures { λ r. ⌜ Printed (now (out .entry)) (sessionOf (now (input .entry))) r (now (out .exit)) ⌝ }
+    ensures { λ r. ⌜ Printed (now (out .entry)) (sessionOf (now (input .entry))) r
+        (now (out .exit)) ⌝ }
 {
     if input.len() > 16384 {
         return refuse(out);

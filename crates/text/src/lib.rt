@@ -22,9 +22,9 @@ pub enum Counted {
 
 // The number that a text is refused with: 1 over 1,048,576 code points, 2 a value that is no scalar
 // value, 3 a line break other than U+000A; 0 where it is accepted.
-// One pass with no branch on what is read, so that the compiler reads many code points at a time. Line
-// breaks have two flags: with one the compiler takes the last code point out of the loop, as a switch,
-// and then reads them one by one.
+// One pass with no branch on what is read, so that the compiler reads many code points at a time.
+// Line breaks have two flags: with one the compiler takes the last code point out of the loop, as a
+// switch, and then reads them one by one.
 pub fn text_refusal(t: &[u32]) -> u32
     ensures { λ r. ⌜ r ≡ textRefusal (now (t .entry)) ⌝ }
 {

@@ -1,5 +1,5 @@
-// Rows and offsets: walks from row to row, the ends of a row, a row as a part of the text, and where
-// an offset stands.
+// Rows and offsets: walks from row to row, the ends of a row, a row as a part of the text, and
+// where an offset stands.
 // From document 01, "Text, rows, carets"; the Rust asks its rope for these.
 use crate::Line;
 ghost use mathlib.Core.Path.{_≡_};
@@ -11,7 +11,8 @@ ghost use Rattle.text.specs.Offsets.{rowStart, Stands, IsLine, lineAt, e
 // The row n rows below `from`, or the last row where there are fewer.
 pub fn down(t: &[u32], from: Line, n: usize) -> Line
     requires { ⌜ IsLine (now t) from ⌝ }
-    ensures { λ r. ⌜ r ≡ lineAt (now (t .entry)) (min (from .row + n) (rowCount (now (t .entry)) - 1)) ⌝ }
+    ensures { λ r. ⌜ r ≡ lineAt (now (t .entry)) (min (from .row + n)
+        (rowCount (now (t .entry)) - 1)) ⌝ }
 {
     let mut row = from.row;
     let mut start = from.start;
@@ -89,7 +90,8 @@ pub fn content_line(t: &[u32], row: usize) -> Line
 // The end of the row that has the offset `at`: its separator, or the end of the text.
 pub fn row_end(t: &[u32], at: usize) -> usize
     requires { ⌜ at ≤ length (now t) ⌝ }
-    ensures { λ e. ⌜ (e ≡ endFrom (now (t .entry)) at) × (at ≤ e) × (e ≤ length (now (t .entry))) ⌝ }
+    ensures { λ e. ⌜ (e ≡ endFrom (now (t .entry)) at) × (at ≤ e) ×
+        (e ≤ length (now (t .entry))) ⌝ }
 {
     let mut e = at;
     while e < t.len() {

@@ -17,7 +17,8 @@ fn told_rows(m: Counted) -> Told
 
 // `content_row_count` on code points.
 pub fn content_row_count(text: &[u32], out: &mut [u32; 1]) -> u32
-    ensures { λ r. ⌜ Replied (rowCount (now (text .entry))) (now (out .entry)) r (now (out .exit)) ⌝ }
+    ensures { λ r. ⌜ Replied (rowCount (now (text .entry))) (now (out .entry)) r
+        (now (out .exit)) ⌝ }
 {
     reply(told_rows(text::content_row_count(text)), out)
 }
