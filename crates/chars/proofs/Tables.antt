@@ -40,6 +40,12 @@ module _ (x : ℕ) where
   unfolding isLetter letters
   letter-low h = low x (65 ∷ 91 ∷ 97 ∷ 123 ∷ []) 0xaa (drop 5 letters) letters refl letters-ascend h
 
+  -- up to U+02C1: the last bound begins the range that ends there
+  pub letter-latin : x < 0x2c2 → isLetter x ≡ inTable x (65 ∷ 91 ∷ 97 ∷ 123 ∷ 0xaa ∷ 0xab ∷ 0xb5 ∷ 0xb6 ∷ 0xba ∷ 0xbb ∷ 0xc0 ∷ 0xd7 ∷ 0xd8 ∷ 0xf7 ∷ 0xf8 ∷ [])
+  unfolding isLetter letters
+  letter-latin h =
+      low x (65 ∷ 91 ∷ 97 ∷ 123 ∷ 0xaa ∷ 0xab ∷ 0xb5 ∷ 0xb6 ∷ 0xba ∷ 0xbb ∷ 0xc0 ∷ 0xd7 ∷ 0xd8 ∷ 0xf7 ∷ 0xf8 ∷ []) 0x2c2 (drop 16 letters) letters refl letters-ascend h
+
   pub zero-width-low : x < 0x300 → inTable x zeroWidths ≡ inTable x (0 ∷ 1 ∷ [])
   unfolding zeroWidths
   zero-width-low h = low x (0 ∷ 1 ∷ []) 0x300 (drop 3 zeroWidths) zeroWidths refl zero-widths-ascend h

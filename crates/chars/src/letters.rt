@@ -1,7 +1,7 @@
 // Letters: the property Alphabetic, as `char::is_alphabetic`. Document 01, "Character facts".
 use crate::letter_table::LETTERS;
 ghost use mathlib.Core.Path.{_≡_};
-ghost use Prim.Native.Nat.{_<_};
+ghost use Prim.Native.Nat.{_≤_, _<_};
 ghost use Rattle.chars.specs.Letters.{letters, isLetter};
 
 // Whether x, below U+00AA, is a letter: A to Z or a to z.
@@ -21,6 +21,17 @@ fn low_letter(x: u32) -> bool
     x < 123
 }
 
+// Whether x, from U+00AA up to U+02C1, is a letter: the Latin letters beyond ASCII.
+fn latin_letter(x: u32) -> bool
+    requires { ⌜ (0xaa ≤ x) × (x < 0x2c2) ⌝ }
+    ensures { λ r. ⌜ r ≡ isLetter x ⌝ }
+{
+    ((0xaa <= x) & (x < 0xab))
+        | (((0xb5 <= x) & (x < 0xb6))
+            | (((0xba <= x) & (x < 0xbb))
+                | (((0xc0 <= x) & (x < 0xd7)) | (((0xd8 <= x) & (x < 0xf7)) | (0xf8 <= x)))))
+}
+
 // Whether x is a letter, by the table LETTERS that is lent.
 pub fn letter_in(table: &[u32], x: u32) -> bool
     requires { ⌜ now table ≡ letters ⌝ }
@@ -28,6 +39,9 @@ pub fn letter_in(table: &[u32], x: u32) -> bool
 {
     if x < 0xaa {
         return low_letter(x);
+    }
+    if x < 0x2c2 {
+        return latin_letter(x);
     }
     ranges::in_table(table, x)
 }
@@ -45,6 +59,9 @@ pub fn is_letter(x: u32) -> bool
 {
     if x < 0xaa {
         return low_letter(x);
+    }
+    if x < 0x2c2 {
+        return latin_letter(x);
     }
     high_letter(x)
 }

@@ -5,8 +5,8 @@ use Prim.Native.String.{String}
 use mathlib.Core.List.{List, [], _∷_, _++_}
 use mathlib.Core.Bool.{Bool, true, false}
 use Rattle.print.specs.Print.{bytes}
-use Rattle.words.specs.declared.Motion.{Motion}
-use Rattle.words.specs.declared.Motion.the-variants.{Fwd, Back, End, EndBack}
+use Rattle.turns.specs.declared.Motion.{Motion}
+use Rattle.turns.specs.declared.Motion.the-variants.{Fwd, Back, End, EndBack}
 use Rattle.motions.specs.declared.Caret.{Caret}
 use Rattle.motions.specs.declared.Moved.{Moved}
 use Rattle.motions.specs.declared.Moved.the-variants.{To, Refused}

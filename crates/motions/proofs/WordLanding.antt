@@ -10,9 +10,9 @@ use Rattle.tokens.specs.Tokens.{inList}
 use Rattle.keywords.specs.Table.{parseOf}
 use Rattle.places.specs.Places.{place, kindOf}
 use Rattle.places.proofs.Within.{In}
-use Rattle.words.specs.declared.Motion.{Motion}
-use Rattle.words.specs.Rounds.{wordMotion}
-use Rattle.words.proofs.Inside.{word-motion-in}
+use Rattle.turns.specs.declared.Motion.{Motion}
+use Rattle.turns.specs.Rounds.{wordMotion}
+use Rattle.turns.proofs.Inside.{word-motion-in}
 use Rattle.steps.specs.Positions.{lowest}
 use Rattle.steps.proofs.Checks.{lowest-none, inside}
 use Rattle.motions.specs.declared.Caret.{Caret}

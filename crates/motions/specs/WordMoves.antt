@@ -10,8 +10,8 @@ use Rattle.keywords.specs.declared.KeywordSpec.{KeywordSpec}
 use Rattle.tokens.specs.Tokens.{inList}
 use Rattle.keywords.specs.Table.{parseOf}
 use Rattle.places.specs.Places.{Place, place, kindOf}
-use Rattle.words.specs.declared.Motion.{Motion}
-use Rattle.words.specs.Rounds.{wordMotion}
+use Rattle.turns.specs.declared.Motion.{Motion}
+use Rattle.turns.specs.Rounds.{wordMotion}
 use Rattle.steps.specs.Positions.{lowest, Accepted}
 use Rattle.motions.specs.declared.Caret.{Caret}
 use Rattle.motions.specs.declared.Moved.{Moved}

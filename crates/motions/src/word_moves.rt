@@ -4,7 +4,7 @@ use crate::Caret;
 use crate::Moved;
 use keywords::KeywordSpec;
 use places::Spot;
-use words::Motion;
+use turns::Motion;
 ghost use mathlib.Core.Path.{_≡_};
 ghost use mathlib.Core.Bool.{false};
 ghost use mathlib.Core.List.{[]};

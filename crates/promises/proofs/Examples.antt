@@ -35,7 +35,7 @@ use Rattle.visible.specs.Visible.{verticalRow}
 use Rattle.vertical.specs.Moves.{landed}
 use Rattle.screen.specs.Screen.{stepScreen}
 use Rattle.strides.specs.Words.{nextWordStart, prevWordStart, nextWordEnd, prevWordEnd, atWordEnd}
-use Rattle.words.specs.Rounds.{roundOf, counted, wordMotion}
+use Rattle.turns.specs.Rounds.{roundOf, counted, wordMotion}
 use Rattle.steps.specs.Positions.{positionRefusal, lowest}
 use Rattle.steps.specs.Steps.{rounds, spaceFwd, backspaceBack}
 use Rattle.motions.specs.Carets.{moving}

@@ -12,7 +12,7 @@ use Rattle.motions.specs.declared.Moved.the-variants.{Refused}
 use Rattle.motions.proofs.Landing.{Lands, step-lands, jump-lands}
 use Rattle.motions.proofs.WordLanding.{word-lands as each-word-lands}
 use Rattle.motions.proofs.Reaching.{rows-lands, screen-lands, viewport-lands}
-use Rattle.words.specs.declared.Motion.the-variants.{Fwd, Back, End, EndBack}
+use Rattle.turns.specs.declared.Motion.the-variants.{Fwd, Back, End, EndBack}
 use Rattle.vertical.specs.declared.Edge.the-variants.{Top, Middle, Bottom}
 use Rattle.row_calls.specs.Wraps.{modeOf}
 use Rattle.text_calls.specs.Moves.{motion}

@@ -1,9 +1,2 @@
-pub mod Folding
 pub mod Bare
-pub mod Again
-pub mod Counts
-pub mod Adding
-pub mod Turning
-pub mod Inside
 pub mod Classes
-pub mod Examples

@@ -1,11 +1,11 @@
 // A word motion as a whole: the first round, the rest of the count, and what they are lent.
 // `move_word_fwd` and its like of motions.rs.
-use crate::Motion;
-use crate::Round;
 use crate::rounds;
 use keywords::KeywordSpec;
 use places::Setting;
 use places::Spot;
+use turns::Motion;
+use turns::Round;
 ghost use mathlib.Core.Path.{_≡_};
 ghost use mathlib.Core.Bool.{false};
 ghost use Prim.Native.Nat.{_+_, _-_, _≤_, _<_, max};
@@ -15,9 +15,9 @@ ghost use Rattle.folds.specs.Folds.{foldRefusal};
 ghost use Rattle.tokens.specs.Tokens.{anyToken};
 ghost use Rattle.keywords.specs.Table.{kept};
 ghost use Rattle.places.specs.Places.{kindOf};
-ghost use Rattle.words.specs.Rounds.{wordMotion};
+ghost use Rattle.turns.specs.Rounds.{wordMotion};
 ghost use Rattle.places.specs.Spots.{placeOf, IsSpot};
-ghost use Rattle.words.specs.Turns.{Folded, Set};
+ghost use Rattle.turns.specs.Turns.{Folded, Set};
 ghost use Rattle.places.specs.Lent.{kindBy, isHigh};
 
 // How many rounds follow the first: count 0 acts as 1.
@@ -49,7 +49,7 @@ fn motion_in(
         (s .big) m stop count (placeOf (now (t .entry)) p)) ×
         IsSpot (now (t .entry)) r ⌝ }
 {
-    match rounds::round(t, folds, bounds, table, s, m, stop, p) {
+    match turns::rounds::round(t, folds, bounds, table, s, m, stop, p) {
         Round::Next(q) => rounds::rounds(t, folds, bounds, table, s, m, rest(count), q),
         Round::Last(q) => q,
     }

@@ -1,129 +1,17 @@
-// The rounds of the word motions: of `move_word_fwd`, `move_word_back`, `move_word_end` and
+// The rounds of a count: the loops of `move_word_fwd`, `move_word_back`, `move_word_end` and
 // `move_word_end_back` of motions.rs.
-use crate::Motion;
-use crate::Round;
-use crate::Stretch;
-use crate::jumps;
-use crate::stretches;
 use places::Setting;
 use places::Spot;
-use places::Step;
+use stretches::Stretch;
+use turns::Motion;
+use turns::Round;
 ghost use mathlib.Core.Path.{_≡_};
 ghost use mathlib.Core.Bool.{false};
-ghost use Rattle.words.specs.Rounds.{roundOf, counted};
-ghost use Rattle.words.specs.declared.Motion.the-variants as variant;
 ghost use Rattle.places.specs.Spots.{placeOf, IsSpot};
-ghost use Rattle.words.specs.Turns.{turnOf, RoundIn, turned, Set};
 ghost use Rattle.places.specs.Lent.{kindBy};
-ghost use Rattle.words.specs.Stretches.{NoFold};
-
-// The round's answer: the word found, or the place from which none was found.
-fn turned(from: Spot, found: Step) -> Round
-    ensures { λ r. ⌜ r ≡ turned from found ⌝ }
-{
-    match found {
-        Step::At(q) => Round::Next(q),
-        Step::NoStep => Round::Last(from),
-    }
-}
-
-// A round of `move_word_fwd`.
-fn fwd_round(t: &[u32], folds: &[u32], bounds: &[u32], table: &[u32], s: Setting, p: Spot) -> Round
-    requires { ⌜ Set (now t) (now folds) (now bounds) (now table) s p ⌝ }
-    ensures { λ r.
-        ⌜ (turnOf (now (t .entry)) r ≡
-        roundOf (now (t .entry)) (now (folds .entry)) (kindBy (now (bounds .entry)) s) (s .big)
-        variant.Fwd false (placeOf (now (t .entry)) p)) ×
-        RoundIn (now (t .entry)) r ⌝ }
-{
-    let from = jumps::fold_jump_fwd(t, folds, s.rows, s.content, p);
-    turned(from, strides::next_word_start(t, bounds, table, s, from))
-}
-
-// A round of `move_word_back`.
-fn back_round(t: &[u32], folds: &[u32], bounds: &[u32], table: &[u32], s: Setting, p: Spot) -> Round
-    requires { ⌜ Set (now t) (now folds) (now bounds) (now table) s p ⌝ }
-    ensures { λ r.
-        ⌜ (turnOf (now (t .entry)) r ≡
-        roundOf (now (t .entry)) (now (folds .entry)) (kindBy (now (bounds .entry)) s) (s .big)
-        variant.Back false (placeOf (now (t .entry)) p)) ×
-        RoundIn (now (t .entry)) r ⌝ }
-{
-    let from = jumps::fold_jump_back(t, folds, s.rows, s.content, p);
-    turned(from, strides::prev_word_start(t, bounds, table, s, from))
-}
-
-// A round of `move_word_end`; `stop` holds it at the end of a word.
-fn end_round(
-    t: &[u32],
-    folds: &[u32],
-    bounds: &[u32],
-    table: &[u32],
-    s: Setting,
-    stop: bool,
-    p: Spot,
-) -> Round
-    requires { ⌜ Set (now t) (now folds) (now bounds) (now table) s p ⌝ }
-    ensures { λ r.
-        ⌜ (turnOf (now (t .entry)) r ≡
-        roundOf (now (t .entry)) (now (folds .entry)) (kindBy (now (bounds .entry)) s) (s .big)
-        variant.End stop (placeOf (now (t .entry)) p)) ×
-        RoundIn (now (t .entry)) r ⌝ }
-{
-    let from = jumps::fold_jump_fwd(t, folds, s.rows, s.content, p);
-    if stop {
-        if strides::at_word_end(t, bounds, table, s, from) {
-            return Round::Next(from);
-        }
-        return turned(from, strides::next_word_end(t, bounds, table, s, from));
-    }
-    turned(from, strides::next_word_end(t, bounds, table, s, from))
-}
-
-// A round of `move_word_end_back`, which takes no folds.
-fn end_back_round(
-    t: &[u32],
-    folds: &[u32],
-    bounds: &[u32],
-    table: &[u32],
-    s: Setting,
-    p: Spot,
-) -> Round
-    requires { ⌜ Set (now t) (now folds) (now bounds) (now table) s p ⌝ }
-    ensures { λ r.
-        ⌜ (turnOf (now (t .entry)) r ≡
-        roundOf (now (t .entry)) (now (folds .entry)) (kindBy (now (bounds .entry)) s) (s .big)
-        variant.EndBack false (placeOf (now (t .entry)) p)) ×
-        RoundIn (now (t .entry)) r ⌝ }
-{
-    turned(p, strides::prev_word_end(t, bounds, table, s, p))
-}
-
-// A round of a motion.
-pub fn round(
-    t: &[u32],
-    folds: &[u32],
-    bounds: &[u32],
-    table: &[u32],
-    s: Setting,
-    m: Motion,
-    stop: bool,
-    p: Spot,
-) -> Round
-    requires { ⌜ Set (now t) (now folds) (now bounds) (now table) s p ⌝ }
-    ensures { λ r.
-        ⌜ (turnOf (now (t .entry)) r ≡
-        roundOf (now (t .entry)) (now (folds .entry)) (kindBy (now (bounds .entry)) s) (s .big) m
-        stop (placeOf (now (t .entry)) p)) ×
-        RoundIn (now (t .entry)) r ⌝ }
-{
-    match m {
-        Motion::Fwd => fwd_round(t, folds, bounds, table, s, p),
-        Motion::Back => back_round(t, folds, bounds, table, s, p),
-        Motion::End => end_round(t, folds, bounds, table, s, stop, p),
-        Motion::EndBack => end_back_round(t, folds, bounds, table, s, p),
-    }
-}
+ghost use Rattle.stretches.specs.Stretches.{NoFold};
+ghost use Rattle.turns.specs.Rounds.{roundOf, counted};
+ghost use Rattle.turns.specs.Turns.{turnOf, RoundIn, Set};
 
 // A round after the first, where a stretch of rows without closed folds is known: outside it the
 // folds are lent, and in it none.
@@ -146,9 +34,9 @@ fn round_near(
 {
     if (w.lo <= p.row) & (p.row < w.hi) {
         let none = &folds[..0];
-        return round(t, none, bounds, table, s, m, false, p);
+        return turns::rounds::round(t, none, bounds, table, s, m, false, p);
     }
-    round(t, folds, bounds, table, s, m, false, p)
+    turns::rounds::round(t, folds, bounds, table, s, m, false, p)
 }
 
 // Rounds up to a count. One that changes nothing ends them: where a closed fold covers the end of

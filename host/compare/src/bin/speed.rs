@@ -6,7 +6,7 @@
 
 use compare::port;
 use oracle::case::{Call, Case, Input};
-use oracle::{Caret, Viewport, Wrap, generate};
+use oracle::{Caret, Viewport, Wrap, calls, generate};
 use std::hint::black_box;
 use std::io::{BufRead, BufReader};
 use std::process::{Command, Stdio};
@@ -59,9 +59,38 @@ fn case(call: &'static Call, n: usize, count: u32) -> Case {
     case
 }
 
+/// A fact about one code point, by the library and by the Rust.
+type Fact = fn(u32) -> u32;
+
+fn facts(name: &str) -> Option<(Fact, Fact)> {
+    Some(match name {
+        "is_scalar" => (|x| tsivareza::is_scalar(x).into(), |x| char::from_u32(x).is_some().into()),
+        "is_letter" => (|x| tsivareza::is_letter(x).into(), |x| calls::is_letter(x).unwrap_or(false).into()),
+        "is_white" => (|x| tsivareza::is_white(x).into(), |x| calls::is_white(x).unwrap_or(false).into()),
+        "width" => (tsivareza::width, |x| calls::width(x).unwrap_or(0).into()),
+        _ => return None,
+    })
+}
+
+/// Such a call is too short to be timed alone: both go through the text, a call for each code point.
+fn measure_facts((library, rust): (Fact, Fact), text: &[u32]) {
+    for fact in [library, rust] {
+        let through = || {
+            for &x in text {
+                black_box(black_box(fact)(x));
+            }
+        };
+        println!("{}", best(through));
+    }
+}
+
 /// One case, in this process: the library's time, then the Rust's.
 fn measure(name: &str, n: usize, count: u32) -> Result<(), String> {
     let case = case(oracle::case::call(name)?, n, count);
+    if let Some(both) = facts(name) {
+        measure_facts(both, &case.text);
+        return Ok(());
+    }
     if port(&case, None) != case.answer() {
         return Err(format!("the answers differ on {name}"));
     }
@@ -75,6 +104,21 @@ fn alone(name: &str, n: usize, count: u32) -> Result<(), String> {
     let case = case(oracle::case::call(name)?, n, count);
     println!("{}", best(|| drop(black_box(port(black_box(&case), None)))));
     Ok(())
+}
+
+/// The check of a text against reading it: the text is refused for its last code point, so that a call is the check alone.
+fn check() {
+    let mut text = prose(SIZES[2].1, false);
+    text.extend([0x0B]);
+    text.remove(0);
+    let read = best(|| {
+        black_box(black_box(&text).iter().fold(0, |sum: u32, x| sum.wrapping_add(*x)));
+    });
+    let checked = best(|| {
+        let _ = black_box(tsivareza::content_row_count(black_box(&text)));
+    });
+    println!("\n## The check of a text, 1,048,576 code points\n");
+    println!("Adding them up takes {}, the check {}: {:.1} times that.", shown(read), shown(checked), checked / read);
 }
 
 /// What a process of this program prints, or nothing where it takes too long.
@@ -113,6 +157,7 @@ fn table() -> Result<(), String> {
             let counts: &[u32] = if call.takes.contains(&Input::Count) { &[1, u32::MAX] } else { &[0] };
             for &count in counts {
                 let with = match count {
+                    0 if facts(call.name).is_some() => ", each of them",
                     0 => "",
                     1 => ", count 1",
                     _ => ", largest count",
@@ -142,7 +187,7 @@ fn main() {
     let done = match words.first().map(String::as_str) {
         Some("measure") => measure(&words[1], number(2) as usize, number(3) as u32),
         Some("alone") => alone(&words[1], number(2) as usize, number(3) as u32),
-        _ => table(),
+        _ => table().map(|()| check()),
     };
     if let Err(why) = done {
         eprintln!("speed: {why}");

@@ -7,11 +7,11 @@ use Rattle.chars.proofs.letters.letter_in.Statement.{statement}
 use Rattle.chars.proofs.letters.letter_in.Tie as tie
 
 in-table-requires : tie.Need-in-table-requires
-in-table-requires c κs = rw (c .before .before .pre) letters-ascend
+in-table-requires c κs = rw (c .before .before .before .pre) letters-ascend
 
-returns-2 : tie.Need-returns-2
+returns-3 : tie.Need-returns-3
 unfolding isLetter
-returns-2 c = c .in-table .ensures ∙ rw (c .before .before .before .pre)
+returns-3 c = c .in-table .ensures ∙ rw (c .before .before .before .before .pre)
 
 pub letter-in-spec : {M : Type 1} → statement M
-letter-in-spec = tie.close (tie.spec (λ c κs. search needs) (λ c. search needs) in-table-requires returns-2)
+letter-in-spec = tie.close (tie.spec (λ c κs. search needs) (λ c. search needs) (λ c κs. search needs) (λ c. search needs) in-table-requires returns-3)

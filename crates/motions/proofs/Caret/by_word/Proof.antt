@@ -7,7 +7,7 @@ use borrow.Author.Needs.{needs}
 use Rattle.tokens.specs.Tokens.{anyToken}
 use Rattle.keywords.specs.Table.{kept}
 use Rattle.places.specs.Places.{Place, kindOf}
-use Rattle.words.specs.Rounds.{wordMotion}
+use Rattle.turns.specs.Rounds.{wordMotion}
 use Rattle.steps.proofs.Stepping.{up-start}
 use Rattle.motions.proofs.Wording.{place-of, caret-of-spot}
 use Rattle.motions.proofs.Caret.by_word.Statement.{statement}

@@ -2,8 +2,8 @@
 use mathlib.Core.Path.{_∙_}
 use Rattle.places.specs.Spots.{placeOf}
 use Rattle.places.specs.Lent.{kindBy}
-use Rattle.words.proofs.Counts.{motion-on, motion-off}
-use Rattle.words.proofs.Turning.{turn-next, turn-last, next-in, last-in, set-at}
+use Rattle.turns.proofs.Counts.{motion-on, motion-off}
+use Rattle.turns.proofs.Turning.{turn-next, turn-last, next-in, last-in, set-at}
 use borrow.Author.Needs.{needs}
 use Rattle.words.proofs.entry.motion_in.Statement.{statement}
 use Rattle.words.proofs.entry.motion_in.Tie as tie

@@ -5,7 +5,7 @@ use Prim.Native.Nat.{ℕ}
 use native.Mathlib.Omega.{arith}
 use lib.ListN.{length}
 use Rattle.tokens.proofs.Lists.{places}
-use Rattle.words.specs.Rounds.{wordMotion}
+use Rattle.turns.specs.Rounds.{wordMotion}
 use Rattle.places.specs.Spots.{placeOf}
 use Rattle.words.proofs.Classes.{kinds-by}
 use borrow.Author.Needs.{needs}

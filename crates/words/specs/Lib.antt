@@ -1,3 +1,0 @@
-pub mod Rounds
-pub mod Turns
-pub mod Stretches
