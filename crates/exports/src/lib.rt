@@ -5,6 +5,7 @@
 //   100  no such operation
 //   101  bytes that make no whole code points
 //   102  too little room for the code points
+//   103  an answer that no u32 holds
 // A call on bytes decodes into the lent room; its `_u32` form takes code points as they are.
 mod characters;
 mod lists;

@@ -1,3 +1,2 @@
 pub mod Reading
-pub mod Comparing
-pub mod Counting
+pub mod Lines

@@ -1,4 +1,2 @@
 pub mod Rows
-pub mod Answers
 pub mod Cases
-pub mod Tallies

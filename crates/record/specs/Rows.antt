@@ -7,6 +7,7 @@ use mathlib.Core.Bool.{Bool, true, false, cond, _&&_, _||_, not}
 use lib.ListN.{length, take, replicate}
 use lib.Seq.{paste}
 use lib.Dec.{eqb, ltb, leb}
+use Rattle.text.specs.Text.{onFirst}
 use Rattle.record.specs.declared.Reader.{Reader}
 use Rattle.record.specs.declared.Numbers.{Numbers}
 use Rattle.record.specs.declared.Numbers.the-variants.{Count, Malformed}
@@ -85,3 +86,8 @@ pub record Filled (room : List ℕ) (from times x : ℕ) (room′ : List ℕ) : 
 unfoldable pub rowLength : List ℕ → ℕ
 rowLength [] = 0
 rowLength (x ∷ s) = cond (eqb x 10) 1 (suc (rowLength s))
+
+-- the rows of a list, each with its end
+unfoldable pub lines : List ℕ → List (List ℕ)
+lines [] = []
+lines (x ∷ s) = cond (eqb x 10) ((x ∷ []) ∷ lines s) (onFirst x (lines s))

@@ -1,23 +1,11 @@
-// A record of answers, one case to a row: rows of numbers read, an answer held against the stored
-// one, and verdicts counted. Which call a case is about is for the reader to say.
-mod answers;
+// A record of answers, one case to a row: rows of numbers read, and the parts of a case. Which call a
+// case is about is for the reader to say.
 mod cases;
 mod rows;
-mod tallies;
 
-pub use answers::FILLER;
-pub use answers::compared;
-pub use answers::compared_two;
 pub use cases::head_of;
 pub use rows::read_row;
 pub use rows::row_end;
-
-// What a case comes to.
-pub enum Verdict {
-    Agrees,
-    Differs,
-    Malformed,
-}
 
 // The first numbers of a case after its group: the operation in it, and what that takes.
 pub struct Head {
@@ -46,13 +34,4 @@ pub struct Reader {
     pub begun: bool,
     pub many: bool,
     pub ok: bool,
-}
-
-// How many cases there are and agree, the first row that doesn't (from 1 on, 0 for none), and
-// whether that one is malformed.
-pub struct Tally {
-    pub cases: usize,
-    pub agree: usize,
-    pub first: usize,
-    pub malformed: bool,
 }

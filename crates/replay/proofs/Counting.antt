@@ -6,12 +6,13 @@ use native.Mathlib.Omega.{arith}
 use lib.ListN.{length, take, drop, drop-of-length-le}
 use Rattle.record.specs.declared.Numbers.{Numbers}
 use Rattle.record.specs.declared.Numbers.the-variants.{Count, Malformed as Numbers·Malformed}
-use Rattle.record.specs.declared.Tally.{Tally}
-use Rattle.record.specs.declared.Verdict.{Verdict}
-use Rattle.record.specs.declared.Verdict.the-variants.{Malformed}
-use Rattle.record.specs.Rows.{RowRead, readRow, rowLength}
-use Rattle.record.specs.Tallies.{lines, counted, none, Countable}
-use Rattle.record.proofs.Counting.{row-within, lines-step, counted-cases}
+use Rattle.verdicts.specs.declared.Tally.{Tally}
+use Rattle.verdicts.specs.declared.Verdict.{Verdict}
+use Rattle.verdicts.specs.declared.Verdict.the-variants.{Malformed}
+use Rattle.record.specs.Rows.{RowRead, readRow, rowLength, lines}
+use Rattle.verdicts.specs.Tallies.{counted, none, Countable}
+use Rattle.record.proofs.Lines.{row-within, lines-step}
+use Rattle.verdicts.proofs.Counting.{counted-cases}
 use Rattle.replay.specs.Cases.{verdictOf}
 use Rattle.replay.specs.Tallies.{judged, most, tallied, tallyOf, Judged}
 

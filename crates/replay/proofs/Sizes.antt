@@ -11,7 +11,7 @@ use Rattle.lent.specs.Reply.{left}
 use Rattle.text_calls.specs.Partners.{partnered}
 use Rattle.text_calls.specs.Carets.{moved}
 use Rattle.text_calls.specs.Seeks.{sought}
-use Rattle.record.specs.Answers.{filler}
+use Rattle.verdicts.specs.Answers.{filler}
 
 pub partnered-sized : (p : Partner) → length (left (partnered p) (replicate 3 filler)) ≡ 3
 unfolding partnered

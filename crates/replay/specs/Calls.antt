@@ -19,9 +19,9 @@ use Rattle.text_calls.specs.Viewports.{viewports}
 use Rattle.fold_calls.specs.Upright.{verticals}
 use Rattle.motions.specs.declared.Caret.{Caret}
 use Rattle.record.specs.declared.Head.{Head}
-use Rattle.record.specs.declared.Verdict.{Verdict}
-use Rattle.record.specs.declared.Verdict.the-variants.{Malformed}
-use Rattle.record.specs.Answers.{filler, shown, compared}
+use Rattle.verdicts.specs.declared.Verdict.{Verdict}
+use Rattle.verdicts.specs.declared.Verdict.the-variants.{Malformed}
+use Rattle.verdicts.specs.Answers.{filler, shown, compared}
 
 -- a fact about the code point a
 unfoldable pub characterOf : Head → List ℕ

@@ -5,9 +5,9 @@ use mathlib.Core.Bool.{cond, _&&_}
 use lib.ListN.{length, getD}
 use lib.Dec.{eqb, leb}
 use Rattle.record.specs.declared.Head.{Head}
-use Rattle.record.specs.declared.Verdict.{Verdict}
-use Rattle.record.specs.declared.Verdict.the-variants.{Malformed}
-use Rattle.record.specs.Answers.{compared}
+use Rattle.verdicts.specs.declared.Verdict.{Verdict}
+use Rattle.verdicts.specs.declared.Verdict.the-variants.{Malformed}
+use Rattle.verdicts.specs.Answers.{compared}
 use Rattle.record.specs.Cases.{headOf, foldsAt, listAt, storedAt, part}
 use Rattle.replay.specs.Calls.{characterOf, keywordsOf, columnsOf, offsetsOf, segmentForColOf, wrapVerdict}
 use Rattle.replay.specs.Calls.{contentRowCountOf, matchingBracketPosOf, motionOf, seekOf, wordOf, verticalVerdict, viewportVerdict}

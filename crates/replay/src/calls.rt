@@ -1,12 +1,12 @@
 // The calls for hosts on the numbers of a case, each compared with the stored answer: the number
 // that the call answers, and what it leaves in the places lent to it.
-use record::FILLER;
 use record::Head;
-use record::Verdict;
-use record::compared;
-use record::compared_two;
+use verdicts::FILLER;
+use verdicts::Verdict;
+use verdicts::compared;
+use verdicts::compared_two;
 ghost use mathlib.Core.Path.{_≡_};
-ghost use Rattle.record.specs.Answers.{compared as Answers·compared};
+ghost use Rattle.verdicts.specs.Answers.{compared as Answers·compared};
 ghost use Rattle.replay.specs.Calls.{characterOf, keywordsOf, columnsOf, offsetsOf};
 ghost use Rattle.replay.specs.Calls.{segmentForColOf, wrappedIn, wrapVerdict};
 ghost use Rattle.replay.specs.Calls.{contentRowCountOf, matchingBracketPosOf};

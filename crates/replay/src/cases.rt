@@ -1,8 +1,8 @@
 // The verdict of a case, a row of numbers as `record` has it.
 use crate::calls;
 use record::Head;
-use record::Verdict;
 use record::head_of;
+use verdicts::Verdict;
 ghost use mathlib.Core.Path.{_≡_};
 ghost use Rattle.replay.specs.Cases.{byGroup, verdictOf};
 

@@ -7,7 +7,7 @@ mod tallies;
 
 use libc::STDIN_FILENO;
 use libc::STDOUT_FILENO;
-use record::Tally;
+use verdicts::Tally;
 
 fn print_number(n: usize) {
     io::print_decimal(STDOUT_FILENO, n as u64);

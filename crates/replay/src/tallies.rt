@@ -1,10 +1,10 @@
 // The verdicts of a list of cases, counted.
 use crate::cases::verdict_of;
 use record::Numbers;
-use record::Tally;
-use record::Verdict;
 use record::read_row;
 use record::row_end;
+use verdicts::Tally;
+use verdicts::Verdict;
 ghost use mathlib.Core.Path.{_≡_};
 ghost use Rattle.replay.specs.Tallies.{tallyOf, Judged};
 

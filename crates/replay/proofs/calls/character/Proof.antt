@@ -2,7 +2,7 @@
 use borrow.Author.Needs.{needs}
 use Rattle.row_calls.specs.Characters.{fact}
 use Rattle.replay.specs.Calls.{characterOf}
-use Rattle.record.proofs.Comparing.{replied-compared, places-count, told-sized}
+use Rattle.verdicts.proofs.Comparing.{replied-compared, places-count, told-sized}
 use Rattle.replay.proofs.calls.character.Statement.{statement}
 use Rattle.replay.proofs.calls.character.Tie as tie
 

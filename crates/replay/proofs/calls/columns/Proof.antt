@@ -2,7 +2,7 @@
 use borrow.Author.Needs.{needs}
 use Rattle.row_calls.specs.Tabs.{tabColumn}
 use Rattle.replay.specs.Calls.{columnsOf}
-use Rattle.record.proofs.Comparing.{replied-compared, places-count, told-sized}
+use Rattle.verdicts.proofs.Comparing.{replied-compared, places-count, told-sized}
 use Rattle.replay.proofs.calls.columns.Statement.{statement}
 use Rattle.replay.proofs.calls.columns.Tie as tie
 

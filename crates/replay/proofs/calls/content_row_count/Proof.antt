@@ -3,7 +3,7 @@ use borrow.Author.Needs.{needs}
 use Rattle.text.specs.Text.{contentRowCount}
 use Rattle.text_calls.specs.Rows.{toldRows}
 use Rattle.replay.specs.Calls.{contentRowCountOf}
-use Rattle.record.proofs.Comparing.{replied-compared, places-count, told-sized}
+use Rattle.verdicts.proofs.Comparing.{replied-compared, places-count, told-sized}
 use Rattle.replay.proofs.calls.content_row_count.Statement.{statement}
 use Rattle.replay.proofs.calls.content_row_count.Tie as tie
 

@@ -2,7 +2,7 @@
 use borrow.Author.Needs.{needs}
 use Rattle.row_calls.specs.Lists.{keyword}
 use Rattle.replay.specs.Calls.{keywordsOf}
-use Rattle.record.proofs.Comparing.{replied-compared, places-count, told-sized}
+use Rattle.verdicts.proofs.Comparing.{replied-compared, places-count, told-sized}
 use Rattle.replay.proofs.calls.keywords.Statement.{statement}
 use Rattle.replay.proofs.calls.keywords.Tie as tie
 

@@ -2,7 +2,7 @@
 use borrow.Author.Needs.{needs}
 use Rattle.row_calls.specs.Wraps.{offset}
 use Rattle.replay.specs.Calls.{offsetsOf}
-use Rattle.record.proofs.Comparing.{replied-compared, places-count, told-sized}
+use Rattle.verdicts.proofs.Comparing.{replied-compared, places-count, told-sized}
 use Rattle.replay.proofs.calls.offsets.Statement.{statement}
 use Rattle.replay.proofs.calls.offsets.Tie as tie
 

@@ -3,7 +3,7 @@ use borrow.Author.Needs.{needs}
 use Rattle.cells.specs.Calls.{segmentForCol}
 use Rattle.row_calls.specs.Wraps.{toldSegment}
 use Rattle.replay.specs.Calls.{segmentForColOf}
-use Rattle.record.proofs.Comparing.{replied-compared, places-count, told-sized}
+use Rattle.verdicts.proofs.Comparing.{replied-compared, places-count, told-sized}
 use Rattle.replay.proofs.calls.segment_for_col.Statement.{statement}
 use Rattle.replay.proofs.calls.segment_for_col.Tie as tie
 

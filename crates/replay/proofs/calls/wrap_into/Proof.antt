@@ -2,7 +2,7 @@
 use borrow.Author.Needs.{needs}
 use Rattle.row_calls.specs.Wraps.{segmented}
 use Rattle.replay.specs.Calls.{wrappedIn}
-use Rattle.record.proofs.Comparing.{wrapped-compared}
+use Rattle.verdicts.proofs.Comparing.{wrapped-compared}
 use Rattle.replay.proofs.calls.wrap_into.Statement.{statement}
 use Rattle.replay.proofs.calls.wrap_into.Tie as tie
 

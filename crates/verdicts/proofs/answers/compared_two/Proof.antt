@@ -3,9 +3,9 @@ use mathlib.Core.Path.{sym, _∙_}
 use mathlib.Core.List.{_∷_}
 use native.Mathlib.Omega.{arith}
 use borrow.Author.Needs.{needs}
-use Rattle.record.proofs.Comparing.{compared-none, compared-other, compared-first}
-use Rattle.record.proofs.answers.compared_two.Statement.{statement}
-use Rattle.record.proofs.answers.compared_two.Tie as tie
+use Rattle.verdicts.proofs.Comparing.{compared-none, compared-other, compared-first}
+use Rattle.verdicts.proofs.answers.compared_two.Statement.{statement}
+use Rattle.verdicts.proofs.answers.compared_two.Tie as tie
 
 returns : tie.Need-returns
 returns c =

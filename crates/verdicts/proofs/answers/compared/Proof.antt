@@ -2,10 +2,10 @@
 use mathlib.Core.Path.{sym, _∙_}
 use native.Mathlib.Omega.{arith}
 use borrow.Author.Needs.{needs}
-use Rattle.record.specs.Answers.{compared}
-use Rattle.record.proofs.Comparing.{compared-none, compared-other, compared-first}
-use Rattle.record.proofs.answers.compared.Statement.{statement}
-use Rattle.record.proofs.answers.compared.Tie as tie
+use Rattle.verdicts.specs.Answers.{compared}
+use Rattle.verdicts.proofs.Comparing.{compared-none, compared-other, compared-first}
+use Rattle.verdicts.proofs.answers.compared.Statement.{statement}
+use Rattle.verdicts.proofs.answers.compared.Tie as tie
 
 returns : tie.Need-returns
 returns c =

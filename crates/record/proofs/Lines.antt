@@ -1,7 +1,6 @@
--- Laws of the rows of a list, and of counting verdicts. Assumes nothing.
-use mathlib.Core.Path.{_≡_, refl, sym}
+-- Laws of the rows of a list. Assumes nothing.
+use mathlib.Core.Path.{_≡_, sym}
 use mathlib.Core.List.{List, [], _∷_}
-use mathlib.Core.Bool.{Bool, true, false}
 use Prim.Native.Nat.{ℕ, suc, _+_, _-_, _≤_, _<_}
 use native.Mathlib.Decide.{ℕ-discrete}
 use native.Mathlib.Omega.{arith}
@@ -10,11 +9,7 @@ use lib.Seq.{drop-drop}
 use borrow.Author.Tests.{eq-eqb, ne-eqb}
 use Rattle.text.specs.Text.{onFirst}
 use Rattle.text.proofs.Lists.{drop-at}
-use Rattle.record.specs.declared.Tally.{Tally}
-use Rattle.record.specs.declared.Verdict.{Verdict}
-use Rattle.record.specs.declared.Verdict.the-variants.{Agrees, Differs, Malformed}
-use Rattle.record.specs.Rows.{rowLength}
-use Rattle.record.specs.Tallies.{lines, faulted, counted}
+use Rattle.record.specs.Rows.{rowLength, lines}
 
 -- the first row of a list, and the rows after it
 abbrev Split : List ℕ → Type 0
@@ -62,21 +57,3 @@ module _ (s : List ℕ) (at e : ℕ) (h : at < length s) (q : e ≡ at + rowLeng
       let n : e - at ≡ rowLength (drop at s) = omega arith in
       let d : drop e s ≡ drop (rowLength (drop at s)) (drop at s) = rw q (sym (drop-drop (rowLength (drop at s)) at s)) in
       rw (n, d) (rw (drop-at s at h) (lines-first _ _))
-
--- one verdict more is one case more, and agrees at most
-abbrev pub OneMore : Tally → Tally → Type 0
-OneMore t u = (u .cases ≡ t .cases + 1) × (u .agree ≤ t .agree + 1)
-
-faulted-cases : (t : Tally) (bad : Bool) → OneMore t (faulted t bad)
-unfolding faulted
-faulted-cases t bad = go (ℕ-discrete (t .first) 0)
-  where
-    go : Dec (t .first ≡ 0) → OneMore t (faulted t bad)
-    go (yes e) = rw (eq-eqb (t .first) 0 e) (refl, omega arith)
-    go (no n) = rw (ne-eqb (t .first) 0 n) (refl, omega arith)
-
-pub counted-cases : (t : Tally) (v : Verdict) → OneMore t (counted t v)
-unfolding counted
-counted-cases t Agrees = (refl, omega arith)
-counted-cases t Differs = faulted-cases t false
-counted-cases t Malformed = faulted-cases t true

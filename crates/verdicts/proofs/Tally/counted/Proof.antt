@@ -1,8 +1,8 @@
 -- `Tally::counted` meets its contract, by the cases of the verdict. Assumes nothing.
 use borrow.Author.Needs.{needs}
-use Rattle.record.specs.Tallies.{counted}
-use Rattle.record.proofs.Tally.counted.Statement.{statement}
-use Rattle.record.proofs.Tally.counted.Tie as tie
+use Rattle.verdicts.specs.Tallies.{counted}
+use Rattle.verdicts.proofs.Tally.counted.Statement.{statement}
+use Rattle.verdicts.proofs.Tally.counted.Tie as tie
 
 returns : tie.Need-returns
 unfolding counted

@@ -1,4 +1,4 @@
--- What a call answers and leaves, as the list has it, and when that is the stored answer. What the contracts of `record::answers` cite.
+-- What a call answers and leaves, as the list has it, and when that is the stored answer. What the contracts of `verdicts::answers` cite.
 -- Definitions only; the laws are in `proofs/Comparing.antt`. Assumes nothing.
 use Prim.Native.Nat.{ℕ}
 use mathlib.Core.List.{List, [], _∷_}
@@ -6,8 +6,8 @@ use mathlib.Core.Bool.{Bool, true, false, cond, _&&_}
 use lib.ListN.{replicate}
 use lib.Dec.{eqb}
 use Rattle.lent.specs.Reply.{Reply, number, left}
-use Rattle.record.specs.declared.Verdict.{Verdict}
-use Rattle.record.specs.declared.Verdict.the-variants.{Agrees, Differs}
+use Rattle.verdicts.specs.declared.Verdict.{Verdict}
+use Rattle.verdicts.specs.declared.Verdict.the-variants.{Agrees, Differs}
 
 -- the same numbers
 unfoldable pub same : List ℕ → List ℕ → Bool

@@ -1,9 +1,9 @@
 -- `Tally::faulted` meets its contract, by the test of the definition. Assumes nothing.
 use borrow.Author.Needs.{needs}
 use borrow.Author.Tests.{eq-eqb, ne-eqb}
-use Rattle.record.specs.Tallies.{faulted}
-use Rattle.record.proofs.Tally.faulted.Statement.{statement}
-use Rattle.record.proofs.Tally.faulted.Tie as tie
+use Rattle.verdicts.specs.Tallies.{faulted}
+use Rattle.verdicts.proofs.Tally.faulted.Statement.{statement}
+use Rattle.verdicts.proofs.Tally.faulted.Tie as tie
 
 returns : tie.Need-returns
 unfolding faulted

@@ -2,9 +2,9 @@
 use crate::Tally;
 use crate::Verdict;
 ghost use mathlib.Core.Path.{_≡_};
-ghost use Rattle.record.specs.Tallies.{Countable};
-ghost use Rattle.record.specs.Tallies.{counted as Tallies·counted};
-ghost use Rattle.record.specs.Tallies.{faulted as Tallies·faulted};
+ghost use Rattle.verdicts.specs.Tallies.{Countable};
+ghost use Rattle.verdicts.specs.Tallies.{counted as Tallies·counted};
+ghost use Rattle.verdicts.specs.Tallies.{faulted as Tallies·faulted};
 
 impl Tally {
     // One verdict more.

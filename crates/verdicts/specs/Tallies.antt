@@ -1,17 +1,10 @@
--- The rows of a list, and verdicts counted. What the contracts of `record::tallies` cite. Assumes nothing.
+-- Verdicts counted. What the contracts of `verdicts::tallies` cite. Definitions only; the laws are in `proofs/Counting.antt`. Assumes nothing.
 use Prim.Native.Nat.{ℕ, _+_, _<_, _≤_}
-use mathlib.Core.List.{List, [], _∷_}
 use mathlib.Core.Bool.{Bool, true, false, cond}
 use lib.Dec.{eqb}
-use Rattle.text.specs.Text.{onFirst}
-use Rattle.record.specs.declared.Tally.{Tally}
-use Rattle.record.specs.declared.Verdict.{Verdict}
-use Rattle.record.specs.declared.Verdict.the-variants.{Agrees, Differs, Malformed}
-
--- the rows of a list, each with its end
-unfoldable pub lines : List ℕ → List (List ℕ)
-lines [] = []
-lines (x ∷ s) = cond (eqb x 10) ((x ∷ []) ∷ lines s) (onFirst x (lines s))
+use Rattle.verdicts.specs.declared.Tally.{Tally}
+use Rattle.verdicts.specs.declared.Verdict.{Verdict}
+use Rattle.verdicts.specs.declared.Verdict.the-variants.{Agrees, Differs, Malformed}
 
 -- one case more that agrees
 abbrev pub agreed : Tally → Tally

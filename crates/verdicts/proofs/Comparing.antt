@@ -12,9 +12,9 @@ use Rattle.text.proofs.Lists.{drop-at}
 use Rattle.lent.specs.declared.Told.{Told}
 use Rattle.lent.specs.declared.Told.the-variants.{Value, Refused as Told·Refused}
 use Rattle.lent.specs.Reply.{Reply, Replied, number, left, told}
-use Rattle.record.specs.declared.Verdict.{Verdict}
-use Rattle.record.specs.declared.Verdict.the-variants.{Differs}
-use Rattle.record.specs.Answers.{same, compared, filler, shown}
+use Rattle.verdicts.specs.declared.Verdict.{Verdict}
+use Rattle.verdicts.specs.declared.Verdict.the-variants.{Differs}
+use Rattle.verdicts.specs.Answers.{same, compared, filler, shown}
 
 pub same-length : (a b : List ℕ) → (length a ≡ length b → ⊥) → same a b ≡ false
 unfolding same

@@ -5,10 +5,10 @@ use mathlib.Core.Path.{_≡_, refl, sym, _∙_}
 use native.Mathlib.Omega.{arith}
 use borrow.Author.Needs.{needs}
 use lib.ListN.{length, drop}
-use Rattle.record.specs.Answers.{same}
-use Rattle.record.proofs.Comparing.{same-length, same-off, same-on, same-end}
-use Rattle.record.proofs.answers.equal.Statement.{statement}
-use Rattle.record.proofs.answers.equal.Tie as tie
+use Rattle.verdicts.specs.Answers.{same}
+use Rattle.verdicts.proofs.Comparing.{same-length, same-off, same-on, same-end}
+use Rattle.verdicts.proofs.answers.equal.Statement.{statement}
+use Rattle.verdicts.proofs.answers.equal.Tie as tie
 
 abbrev Inv-loop : tie.InvT-loop
 Inv-loop a b i₀ i = (i ≤ length a) × (same a b ≡ same (drop i a) (drop i b))

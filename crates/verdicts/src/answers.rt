@@ -2,8 +2,8 @@
 use crate::Verdict;
 ghost use mathlib.Core.Path.{_≡_};
 ghost use mathlib.Core.List.{_∷_};
-ghost use Rattle.record.specs.Answers.{same};
-ghost use Rattle.record.specs.Answers.{compared as Answers·compared};
+ghost use Rattle.verdicts.specs.Answers.{same};
+ghost use Rattle.verdicts.specs.Answers.{compared as Answers·compared};
 
 // What lent places hold before a call.
 pub const FILLER: u32 = 2779096485;
