@@ -1,14 +1,14 @@
--- Laws of `matchingBracketPos`: refused, outside the text, and inside it; and the row that the call finds.
+-- Laws of `matchingBracketPos`: refused, outside the text, and inside it; the row that the call finds; and what the % key makes of it.
 -- Assumes nothing.
-use mathlib.Core.Path.{_≡_, refl, sym, _∙_, ap, subst}
-use mathlib.Core.Bool.{Bool, true, false, cond, _&&_, and-false}
+use mathlib.Core.Path.{_≡_, sym, _∙_, ap, subst}
+use mathlib.Core.Bool.{and-false}
 use mathlib.Core.List.{List}
 use Prim.Native.Nat.{ℕ, _+_, _-_, _<_, min}
-use native.Mathlib.Decide.{decLt, ℕ-discrete}
+use native.Mathlib.Decide.{decLt}
 use native.Mathlib.Omega.{arith}
-use lib.Dec.{ltb}
+use lib.ListN.{getD}
 use borrow.Author.Tests.{eq-eqb, ne-eqb, lt-ltb, le-ltb}
-use Rattle.text.specs.Text.{textRefusal, rowCount, rowLen}
+use Rattle.text.specs.Text.{textRefusal, rowCount, rowAt, rowLen}
 use Rattle.text.specs.Offsets.{rowStart, lineAt, IsLine}
 use Rattle.text.specs.declared.Line.{Line}
 use Rattle.text.proofs.Check.{accepted-short}
@@ -16,45 +16,22 @@ use Rattle.text.proofs.Parts.{row-fits}
 use Rattle.text.proofs.Stands.{row-missed, row-found, stands-in}
 use Rattle.scans.specs.declared.Found.{Found}
 use Rattle.scans.specs.declared.Found.the-variants.{At, Nothing}
-use Rattle.brackets.specs.declared.Pos.{Pos}
-use Rattle.brackets.specs.declared.Partner.{Partner}
-use Rattle.brackets.specs.declared.Partner.the-variants.{There, None, Refused}
-use Rattle.brackets.specs.Matching.{partnerOf, placed, matchingBracketPos, Inside, numberOf}
-use Rattle.brackets.specs.Walk.{columnOf, Starts}
-use Rattle.brackets.proofs.Placed.{column-told, column-none}
-
-pub there-once : {p q : Pos} → There p ≡ There q → p ≡ q
-there-once e = cc
-
-pub there-some : {p : Pos} → There p ≡ None → ⊥
-there-some e = let z : _≡_ {A = ℕ} 0 1 = cc in omega arith
+use Rattle.partners.specs.declared.Partner.{Partner}
+use Rattle.partners.specs.declared.Partner.the-variants.{None, Refused}
+use Rattle.partners.specs.Matching.{partnerOf, placed}
+use Rattle.brackets.specs.Matching.{matchingBracketPos, Inside}
+use Rattle.partners.specs.Walk.{Starts}
+use Rattle.brackets.specs.Walk.{columnOf}
+use Rattle.signs.specs.Kinds.{keyBracket}
+use Rattle.signs.specs.Find.{firstBracket}
+use Rattle.brackets.specs.Find.{keyTo, keyFrom}
+use Rattle.scans.proofs.Told.{first-told}
+use Rattle.brackets.proofs.Columns.{column-told, column-none}
 
 module _ (t : List ℕ) (row col : ℕ) where
-  pub inside? : Dec (Inside t row col)
-  inside? = on (decLt row (rowCount t)) (decLt col (rowLen t row))
-    where
-      on : Dec (row < rowCount t) → Dec (col < rowLen t row) → Dec (Inside t row col)
-      on (yes p) (yes q) = yes (record { in-row = p; in-col = q })
-      on (yes p) (no q) = no (λ h. q (h .in-col))
-      on (no p) d = no (λ h. p (h .in-row))
-
   pub call-refused : (textRefusal t ≡ 0 → ⊥) → matchingBracketPos t row col ≡ Refused (textRefusal t)
   unfolding matchingBracketPos
   call-refused n = rw (ne-eqb _ _ n)
-
-  -- refused exactly where the text is, and with its number
-  pub call-number : numberOf (matchingBracketPos t row col) ≡ textRefusal t
-  unfolding matchingBracketPos placed
-  call-number = on (ℕ-discrete (textRefusal t) 0)
-    where
-      met : (r : Found) (b : Bool) → numberOf (cond b (placed t r) None) ≡ 0
-      met (At j) true = refl
-      met Nothing true = refl
-      met r false = refl
-
-      on : Dec (textRefusal t ≡ 0) → numberOf (matchingBracketPos t row col) ≡ textRefusal t
-      on (yes e) = rw (eq-eqb _ _ e) (met (partnerOf t (rowStart t row + col)) (ltb row (rowCount t) && ltb col (rowLen t row)) ∙ sym e)
-      on (no n) = ap numberOf (call-refused n)
 
   module _ (ok : textRefusal t ≡ 0) where
     pub call-inside : Inside t row col → matchingBracketPos t row col ≡ placed t (partnerOf t (rowStart t row + col))
@@ -108,3 +85,24 @@ module _ (t : List ℕ) (n col : ℕ) {l : Line} (e : l ≡ lineAt t (min n (row
         place-answer a =
             let same = line-answer t ok row-line col (there .0) ∙ ap (λ (b : ℕ). placed t (partnerOf t b)) (there .1) in
             a ∙ sym same ∙ ap (λ (k : ℕ). matchingBracketPos t k col) h
+
+-- what `match_bracket_from` finds in the row, and what it makes of it
+module _ (t : List ℕ) (ok : textRefusal t ≡ 0) {l : Line} (line : IsLine t l) (col : ℕ) {x : List ℕ} {f : Found}
+    (e : x ≡ rowAt t (l .row)) (g : f ≡ firstBracket x col) where
+  found-in : f ≡ firstBracket (rowAt t (l .row)) col
+  found-in = g ∙ ap (λ (r : List ℕ). firstBracket r col) e
+
+  module _ (i : ℕ) (s : f ≡ At i) where
+    in-row : i < rowLen t (l .row)
+    in-row = first-told (λ m. keyBracket (getD (rowAt t (l .row)) m 0)) col (rowLen t (l .row)) i (sym found-in ∙ s) .below
+
+    pub jump-starts : Starts t l (l .start + i)
+    jump-starts = line-starts t ok line i in-row
+
+    pub jump-answer : {r : Partner} → r ≡ placed t (partnerOf t (l .start + i)) → r ≡ keyFrom t (l .row) col
+    unfolding keyTo
+    jump-answer a = a ∙ sym (line-answer t ok line i in-row) ∙ ap (keyTo t (l .row)) (sym s ∙ found-in)
+
+  pub jump-none : f ≡ Nothing → None ≡ keyFrom t (l .row) col
+  unfolding keyTo
+  jump-none s = ap (keyTo t (l .row)) (sym s ∙ found-in)

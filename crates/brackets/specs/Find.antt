@@ -1,20 +1,14 @@
--- The bracket that the % key starts from, and the place that it goes to.
--- From motions.rs, `match_bracket`. Definitions only; the laws are in `proofs/Plain.antt`. Assumes nothing.
+-- The place that the % key goes to. From motions.rs, `match_bracket`.
+-- Definitions only; the laws are in `proofs/Call.antt`. Assumes nothing.
 use mathlib.Core.List.{List}
 use Prim.Native.Nat.{ℕ}
-use lib.ListN.{length, getD}
 use Rattle.text.specs.Text.{rowAt}
 use Rattle.scans.specs.declared.Found.{Found}
 use Rattle.scans.specs.declared.Found.the-variants.{At, Nothing}
-use Rattle.brackets.specs.declared.Partner.{Partner}
-use Rattle.brackets.specs.declared.Partner.the-variants.{None}
-use Rattle.brackets.specs.Kinds.{keyBracket}
-use Rattle.scans.specs.Nearest.{firstIn}
+use Rattle.signs.specs.Find.{firstBracket}
+use Rattle.partners.specs.declared.Partner.{Partner}
+use Rattle.partners.specs.declared.Partner.the-variants.{None}
 use Rattle.brackets.specs.Matching.{matchingBracketPos}
-
--- the first bracket at or after the column that the % key starts on
-abbrev pub firstBracket : List ℕ → ℕ → Found
-firstBracket row col = firstIn (λ i. keyBracket (getD row i 0)) col (length row)
 
 -- the partner of what stands in the row at an index, where there is one
 unfoldable pub keyTo : List ℕ → ℕ → Found → Partner

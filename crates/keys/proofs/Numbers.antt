@@ -10,10 +10,12 @@ use Rattle.text.specs.Text.{textRefusal, rowCount, rowLen, rowAt}
 use Rattle.text.specs.Offsets.{rowStart}
 use Rattle.scans.specs.declared.Found.{Found}
 use Rattle.scans.specs.declared.Found.the-variants.{At, Nothing}
-use Rattle.brackets.specs.declared.Partner.{Partner}
-use Rattle.brackets.specs.declared.Partner.the-variants.{There, None, Refused as Partner·Refused}
-use Rattle.brackets.specs.Matching.{partnerOf, placed, matchingBracketPos}
-use Rattle.brackets.specs.Find.{firstBracket, keyTo}
+use Rattle.partners.specs.declared.Partner.{Partner}
+use Rattle.partners.specs.declared.Partner.the-variants.{There, None, Refused as Partner·Refused}
+use Rattle.partners.specs.Matching.{partnerOf, placed}
+use Rattle.brackets.specs.Matching.{matchingBracketPos}
+use Rattle.signs.specs.Find.{firstBracket}
+use Rattle.brackets.specs.Find.{keyTo}
 use Rattle.commands.specs.Commands.{isSame}
 use Rattle.motions.specs.declared.Caret.{Caret}
 use Rattle.motions.specs.declared.Moved.{Moved}

@@ -9,7 +9,7 @@ use lib.Dec.{leb}
 use borrow.Author.Tests.{ne-eqb, leb-true}
 use Rattle.tokens.specs.declared.Token.{Token}
 use Rattle.keywords.specs.declared.Parsed.{Parsed}
-use Rattle.tokens.specs.Refusals.{listRefusal, tableRefusal, lowest}
+use Rattle.parts.specs.Refusals.{listRefusal, tableRefusal, lowest}
 use Rattle.tokens.specs.Tokens.{tokens, inList}
 use Rattle.keywords.specs.Table.{table, kept, parsed, parseOf}
 use Rattle.keywords.specs.Flat.{flatOf}

@@ -6,7 +6,7 @@ use Prim.Native.Nat.{ℕ, zero, suc}
 use borrow.Author.Tests.{ne-eqb}
 use Rattle.tokens.specs.declared.Token.{Token}
 use Rattle.keywords.specs.declared.Matched.the-variants.{Refused}
-use Rattle.tokens.specs.Refusals.{lowest}
+use Rattle.parts.specs.Refusals.{lowest}
 use Rattle.keywords.specs.Table.{matched, parsed, refusedBy}
 
 -- a refusal is given by its number

@@ -12,7 +12,7 @@ use Rattle.tokens.specs.Grammar.{noToken}
 use Rattle.tokens.specs.Tokens.{tokens, tokensIn, stepOf}
 use Rattle.keywords.specs.Table.{table, kept, pushed}
 use Rattle.tokens.proofs.Lists.{fill-push}
-use Rattle.tokens.proofs.PartLaws.{partsFrom, parts-from-start, parts-from-end}
+use Rattle.parts.proofs.PartLaws.{partsFrom, parts-from-start, parts-from-end}
 use Rattle.tokens.proofs.TokenLaws.{step-skip, step-keep}
 
 pub table-push : (ts : List Token) (t : Token) → length ts < 128 → pushed (table ts) t ≡ table (ts ++ (t ∷ []))

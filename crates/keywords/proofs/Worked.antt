@@ -7,8 +7,8 @@ use native.Mathlib.Omega.{arith}
 use lib.Dec.{eqb, leb}
 use borrow.Author.Tests.{le-leb, lt-leb, eq-eqb, ne-eqb}
 use Rattle.chars.specs.White.{whites, isWhite}
-use Rattle.tokens.specs.Numbers.{allDigits, value}
-use Rattle.tokens.specs.Parts.{parts, trimStart, trimEnd, upTo}
+use Rattle.parts.specs.Numbers.{allDigits, value}
+use Rattle.parts.specs.Parts.{parts, trimStart, trimEnd, upTo}
 use Rattle.tokens.specs.Tokens.{tokensIn, any}
 use Rattle.keywords.specs.Worked.{P11}
 

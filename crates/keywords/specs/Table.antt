@@ -11,7 +11,7 @@ use Rattle.keywords.specs.declared.Matched.{Matched}
 use Rattle.keywords.specs.declared.Matched.the-variants.{Is, Refused}
 use Rattle.tokens.specs.Grammar.{noToken}
 use Rattle.tokens.specs.Tokens.{tokens, anyToken, inList}
-use Rattle.tokens.specs.Refusals.{charRefusal, listRefusal, tableRefusal, lowest}
+use Rattle.parts.specs.Refusals.{charRefusal, listRefusal, tableRefusal, lowest}
 
 -- the table of a list of tokens: they, and then empty places up to 128
 abbrev pub table : List Token → KeywordSpec

@@ -25,7 +25,7 @@ impl KeywordSpec {
     pub fn parse(list: &[u32]) -> Parsed
         ensures { λ r. ⌜ r ≡ parseOf (now (list .entry)) ⌝ }
     {
-        let n = tokens::refused_list(list);
+        let n = parts::refused_list(list);
         if n != 0 {
             return refused(n);
         }
@@ -54,7 +54,7 @@ impl KeywordSpec {
     pub fn matches(self, c: u32) -> Matched
         ensures { λ r. ⌜ r ≡ matchesOf self c ⌝ }
     {
-        let n = tokens::refused_char(c);
+        let n = parts::refused_char(c);
         if n != 0 {
             return Matched::Refused(n);
         }
@@ -124,11 +124,11 @@ fn list_holds(list: &[u32], c: u32) -> bool
 pub fn is_keyword_char(c: u32, list: &[u32]) -> Matched
     ensures { λ r. ⌜ r ≡ keywordChar c (now (list .entry)) ⌝ }
 {
-    let n = tokens::refused_char(c);
+    let n = parts::refused_char(c);
     if n != 0 {
         return Matched::Refused(n);
     }
-    let m = tokens::refused_list(list);
+    let m = parts::refused_list(list);
     if m != 0 {
         return Matched::Refused(m);
     }

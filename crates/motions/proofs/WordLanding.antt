@@ -9,7 +9,7 @@ use Rattle.folds.specs.Folds.{foldRefusal}
 use Rattle.tokens.specs.Tokens.{inList}
 use Rattle.keywords.specs.Table.{parseOf}
 use Rattle.places.specs.Places.{place, kindOf}
-use Rattle.places.proofs.Within.{In}
+use Rattle.loops.proofs.Within.{In}
 use Rattle.turns.specs.declared.Motion.{Motion}
 use Rattle.turns.specs.Rounds.{wordMotion}
 use Rattle.turns.proofs.Inside.{word-motion-in}

@@ -8,8 +8,8 @@ use Rattle.chars.specs.Scalar.{isScalar}
 use Rattle.text.specs.Text.{rowAt}
 use Rattle.scans.specs.declared.Found.{Found}
 use Rattle.scans.specs.declared.Found.the-variants.{At, Nothing}
-use Rattle.brackets.specs.declared.Partner.{Partner}
-use Rattle.brackets.specs.declared.Partner.the-variants.{There, None, Refused as Partner·Refused}
+use Rattle.partners.specs.declared.Partner.{Partner}
+use Rattle.partners.specs.declared.Partner.the-variants.{There, None, Refused as Partner·Refused}
 use Rattle.scans.specs.Find.{findOnRow}
 use Rattle.brackets.specs.Find.{keyFrom}
 use Rattle.motions.specs.declared.Caret.{Caret}

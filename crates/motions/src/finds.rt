@@ -1,7 +1,7 @@
 // `%`, and `f`, `F`, `t`, `T`: motions.rs, "Find / match".
 use crate::Caret;
 use crate::Sought;
-use brackets::Partner;
+use partners::Partner;
 use scans::Found;
 use text::Line;
 ghost use mathlib.Core.Path.{_≡_};

@@ -1,4 +1,3 @@
 pub mod Places
-pub mod Walks
 pub mod Spots
 pub mod Lent

@@ -6,12 +6,9 @@ use mathlib.Core.List.{List}
 use lib.ListN.{length, getD}
 use Rattle.text.specs.Offsets.{rowStart, Stands}
 use Rattle.places.specs.Places.{Place, Went, To, Nowhere}
-use Rattle.places.specs.Walks.{Halt, Onto, Stuck}
 use Rattle.places.specs.declared.Spot.{Spot}
 use Rattle.places.specs.declared.Step.{Step}
 use Rattle.places.specs.declared.Step.the-variants.{At, NoStep}
-use Rattle.places.specs.declared.Halted.{Halted}
-use Rattle.places.specs.declared.Halted.the-variants.{Done, Stood}
 
 -- the place of a spot
 abbrev pub placeOf : List ℕ → Spot → Place
@@ -25,10 +22,6 @@ abbrev pub wentOf : List ℕ → Step → Went
 wentOf t (At q) = To (placeOf t q)
 wentOf t NoStep = Nowhere
 
-abbrev pub haltOf : List ℕ → Halted → Halt
-haltOf t (Done q) = Onto (placeOf t q)
-haltOf t (Stood q) = Stuck (placeOf t q)
-
 -- an answer's spot is one of the text, and a step's lies between two offsets, so that each step goes one way
 abbrev pub StepIn : List ℕ → ℕ → ℕ → Step → Type 0
 StepIn t low high (At q) = IsSpot t q × (low ≤ q .at) × (q .at < high)
@@ -37,10 +30,6 @@ StepIn t low high NoStep = Unit {0}
 abbrev pub WentIn : List ℕ → Step → Type 0
 WentIn t (At q) = IsSpot t q
 WentIn t NoStep = Unit {0}
-
-abbrev pub HaltIn : List ℕ → Halted → Type 0
-HaltIn t (Done q) = IsSpot t q
-HaltIn t (Stood q) = IsSpot t q
 
 -- the offset `end` is the separator that ends a row
 pub record Ends (t : List ℕ) (row end : ℕ) : Type 0 where

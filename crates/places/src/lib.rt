@@ -1,8 +1,7 @@
-// Places of a text, their kinds, and the loops of the word motions from place to place, on offsets:
-// motions.rs, "Internals". The calls take what a caller has checked.
+// Places of a text, their kinds, and the steps from place to place, on offsets: motions.rs,
+// "Internals". The calls take what a caller has checked.
 mod kinds;
 pub mod steps;
-pub mod walks;
 
 // A place of the text: its row, and its offset, which is a separator's where the place is the row's
 // end.
@@ -25,10 +24,4 @@ pub struct Setting {
 pub enum Step {
     At(Spot),
     NoStep,
-}
-
-// Where a loop ended: at the first place that fails its test, or at one that has no step.
-pub enum Halted {
-    Done(Spot),
-    Stood(Spot),
 }

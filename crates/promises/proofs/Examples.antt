@@ -7,7 +7,8 @@ use Rattle.row.specs.Row.{all, rowRefusal}
 use Rattle.row.specs.Row.{columnOf as columnAt}
 use Rattle.columns.specs.Columns.{columnRefusal, stopOf, visualFrom, charFrom, leadingFrom}
 use Rattle.cells.specs.Cells.{fits}
-use Rattle.wrap.specs.Segments.{afterWhite, firstSegment, segmentsFrom}
+use Rattle.cuts.specs.Segments.{afterWhite, firstSegment}
+use Rattle.wrap.specs.Segments.{segmentsFrom}
 use Rattle.wrap.specs.Modes.{segmentsOf}
 use Rattle.wrap.specs.Calls.{wrapRefusal}
 use Rattle.cells.specs.Offsets.{cellsIn, pairsBefore}
@@ -15,21 +16,22 @@ use Rattle.wrap.specs.Room.{countOf, roomRefusal}
 use Rattle.text.specs.Text.{any, textRefusal, onFirst, rows}
 use Rattle.text.specs.Offsets.{startIn, rowOf}
 use Rattle.folds.specs.Folds.{anyFold, foldRefusal, visibleFrom, prevVisible}
-use Rattle.tokens.specs.Numbers.{allDigits, value}
-use Rattle.tokens.specs.Parts.{parts, trimStart, trimEnd, upTo}
-use Rattle.tokens.specs.Refusals.{allScalar}
+use Rattle.parts.specs.Numbers.{allDigits, value}
+use Rattle.parts.specs.Parts.{parts, trimStart, trimEnd, upTo}
+use Rattle.parts.specs.Refusals.{allScalar}
 use Rattle.tokens.specs.Tokens.{tokensIn}
 use Rattle.tokens.specs.Tokens.{any as anyOf}
-use Rattle.brackets.specs.Kinds.{sideOf, keyBracket}
+use Rattle.signs.specs.Kinds.{sideOf, keyBracket}
 use Rattle.scans.specs.Nearest.{firstFrom, lastBelow}
-use Rattle.brackets.specs.Pairs.{count, stretch}
-use Rattle.brackets.specs.Matching.{nearestOf, placed, matchingBracketPos}
+use Rattle.partners.specs.Pairs.{count, stretch}
+use Rattle.partners.specs.Matching.{nearestOf, placed}
+use Rattle.brackets.specs.Matching.{matchingBracketPos}
 use Rattle.scans.specs.Find.{landing, findAhead}
 use Rattle.brackets.specs.Find.{keyTo}
 use Rattle.lines.specs.Paragraphs.{roundFrom, paragraphs}
 use Rattle.lines.specs.Sections.{sectionUp, sectionDown}
 use Rattle.places.specs.Places.{kindOf, kindAt, onEmptyRow, nextRow, stepForward, inc, dec, endOfBuffer}
-use Rattle.places.specs.Walks.{walk, goesOn}
+use Rattle.loops.specs.Walks.{walk, goesOn}
 use Rattle.visible.specs.Rounds.{rounds as roundsOf}
 use Rattle.visible.specs.Visible.{verticalRow}
 use Rattle.vertical.specs.Moves.{landed}

@@ -10,14 +10,14 @@ use Rattle.chars.specs.Scalar.{isScalar}
 use Rattle.text.specs.Text.{textRefusal, rowAt, rowLen}
 use Rattle.scans.specs.declared.Found.{Found as Spotted}
 use Rattle.scans.specs.declared.Found.the-variants.{At, Nothing}
-use Rattle.brackets.specs.declared.Pos.{Pos}
-use Rattle.brackets.specs.declared.Partner.{Partner}
-use Rattle.brackets.specs.declared.Partner.the-variants.{There, None, Refused as Partner·Refused}
+use Rattle.partners.specs.declared.Pos.{Pos}
+use Rattle.partners.specs.declared.Partner.{Partner}
+use Rattle.partners.specs.declared.Partner.the-variants.{There, None, Refused as Partner·Refused}
 use Rattle.brackets.specs.Matching.{matchingBracketPos}
 use Rattle.scans.specs.Find.{findOnRow}
 use Rattle.brackets.specs.Find.{keyFrom}
-use Rattle.brackets.proofs.Demand.{refuses, unique}
-use Rattle.brackets.proofs.Jump.{key}
+use Rattle.pairing.proofs.Demand.{refuses, unique}
+use Rattle.pairing.proofs.Jump.{key}
 use Rattle.scans.proofs.Finds.{find-within}
 use Rattle.steps.proofs.Checks.{inside, lowest-none}
 use Rattle.motions.specs.declared.Caret.{Caret}

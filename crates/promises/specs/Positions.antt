@@ -4,8 +4,8 @@ use Prim.Native.Nat.{ℕ, _<_, _≤_}
 use mathlib.Core.List.{List, [], _∷_}
 use mathlib.Core.Bool.{Bool}
 use Rattle.text.specs.Text.{rowCount, rowLen}
-use Rattle.brackets.specs.declared.Partner.{Partner}
-use Rattle.brackets.specs.declared.Partner.the-variants.{There, None, Refused as Partner·Refused}
+use Rattle.partners.specs.declared.Partner.{Partner}
+use Rattle.partners.specs.declared.Partner.the-variants.{There, None, Refused as Partner·Refused}
 use Rattle.brackets.specs.Matching.{matchingBracketPos}
 use Rattle.motions.specs.declared.Caret.{Caret}
 use Rattle.motions.specs.declared.Moved.{Moved}

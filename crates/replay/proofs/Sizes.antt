@@ -1,8 +1,8 @@
 -- Each kind of reply fills its places. Assumes nothing.
 use mathlib.Core.Path.{_≡_, refl}
 use lib.ListN.{length, replicate}
-use Rattle.brackets.specs.declared.Partner.{Partner}
-use Rattle.brackets.specs.declared.Partner.the-variants.{There, None, Refused as Partner·Refused}
+use Rattle.partners.specs.declared.Partner.{Partner}
+use Rattle.partners.specs.declared.Partner.the-variants.{There, None, Refused as Partner·Refused}
 use Rattle.motions.specs.declared.Moved.{Moved}
 use Rattle.motions.specs.declared.Moved.the-variants.{To, Refused as Moved·Refused}
 use Rattle.motions.specs.declared.Sought.{Sought}

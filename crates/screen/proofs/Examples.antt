@@ -8,7 +8,8 @@ use Rattle.chars.specs.Width.{zeroWidths, doubleWidths, widthOf}
 use Rattle.columns.specs.Columns.{stopOf, visualFrom, charFrom}
 use Rattle.wrap.specs.declared.Wrap.the-variants.{Char}
 use Rattle.cells.specs.Cells.{fits}
-use Rattle.wrap.specs.Segments.{afterWhite, firstSegment, segmentsFrom}
+use Rattle.cuts.specs.Segments.{afterWhite, firstSegment}
+use Rattle.wrap.specs.Segments.{segmentsFrom}
 use Rattle.wrap.specs.Modes.{segmentsOf}
 use Rattle.cells.specs.Offsets.{pairsBefore}
 use Rattle.text.specs.Text.{onFirst, rows}

@@ -9,7 +9,8 @@ use lib.ListN.{length, getD, take, drop}
 use borrow.Author.Tests.{ne-eqb}
 use Rattle.chars.specs.White.{isWhite}
 use Rattle.chars.specs.Width.{widthOf}
-use Rattle.wrap.specs.Segments.{firstSegment, segmentsFrom}
+use Rattle.cuts.specs.Segments.{firstSegment}
+use Rattle.wrap.specs.Segments.{segmentsFrom}
 use Rattle.cells.specs.Offsets.{segmentIndex}
 use Rattle.wrap.proofs.Room.{segments-broken}
 use Rattle.wrap.proofs.Walk.{SegmentsTo, NextSegment, walk-start, walk-next, walk-count, walk-end}

@@ -11,7 +11,7 @@ use Rattle.wrap.specs.declared.Wrap.{Wrap}
 use Rattle.wrap.specs.declared.Wrap.the-variants.{Char, Word}
 use Rattle.wrap.specs.Modes.{segmentsOf}
 use Rattle.cells.specs.Offsets.{segmentIndex}
-use Rattle.wrap.specs.Lent.{Tables}
+use Rattle.cuts.specs.Lent.{Tables}
 use Rattle.text.specs.Text.{rowCount, rowAt}
 use Rattle.text.specs.Offsets.{Stands}
 use Rattle.folds.specs.Folds.{foldRefusal}

@@ -9,7 +9,7 @@ ghost use mathlib.Core.Bool.{cond};
 ghost use Prim.Native.Nat.{_+_, _-_, _≤_, _<_};
 ghost use lib.Dec.{ltb};
 ghost use lib.ListN.{length};
-ghost use Rattle.wrap.specs.Lent.{Tables};
+ghost use Rattle.cuts.specs.Lent.{Tables};
 ghost use Rattle.screen.specs.Screen.{segmentCount, aheadOf, clampTo};
 ghost use Rattle.screen.specs.Walks.{layOf, partFor};
 
@@ -33,7 +33,7 @@ pub fn find_segment(
     let mut start: usize = 0;
     while start < row.len() {
         let rest = &row[start..];
-        let end = start + wrap::first_segment(zeros, doubles, white, rest, width, word);
+        let end = start + cuts::first_segment(zeros, doubles, white, rest, width, word);
         if k == index {
             return Part {
                 index: k,

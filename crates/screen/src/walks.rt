@@ -12,7 +12,7 @@ use visible::rows;
 ghost use mathlib.Core.Path.{_≡_};
 ghost use Prim.Native.Nat.{_≤_, _<_};
 ghost use lib.ListN.{length};
-ghost use Rattle.wrap.specs.Lent.{Tables};
+ghost use Rattle.cuts.specs.Lent.{Tables};
 ghost use Rattle.text.specs.Text.{rowCount};
 ghost use Rattle.text.specs.Offsets.{IsLine, lineAt};
 ghost use Rattle.visible.specs.Rounds.{rounds};

@@ -4,8 +4,8 @@ use mathlib.Core.Bool.{Bool, true, false, cond}
 use Prim.Native.Nat.{ℕ}
 use lib.Dec.{eqb}
 use Rattle.places.specs.Places.{Place, Went, To, Nowhere, space, end, kindAt, cls, onEmptyRow, stepForward, inc, dec, endOfBuffer, further}
-use Rattle.places.specs.Walks.{Halt, Onto, Stuck, skip, leave, run, back}
-use Rattle.places.proofs.Within.{In, WentTo, Halts, end-in, forward-in, inc-in, dec-in, further-in, skip-in, back-in, leave-in, run-in}
+use Rattle.loops.specs.Walks.{Halt, Onto, Stuck, skip, leave, run, back}
+use Rattle.loops.proofs.Within.{In, WentTo, Halts, end-in, forward-in, inc-in, dec-in, further-in, skip-in, back-in, leave-in, run-in}
 use Rattle.strides.specs.Words
 
 module _ (t : List ℕ) where

@@ -6,7 +6,7 @@ use Prim.Native.Nat.{ℕ}
 use Rattle.places.specs.declared.Spot.{Spot}
 use Rattle.places.specs.declared.Setting.{Setting}
 use Rattle.places.specs.Places.{Place, Nowhere, space, end}
-use Rattle.places.specs.Walks.{Onto, Stuck, skip}
+use Rattle.loops.specs.Walks.{Onto, Stuck, skip}
 use Rattle.places.specs.Spots.{IsSpot}
 use Rattle.strides.specs.Words.{orEnd, fromEnd}
 use Rattle.strides.specs.Ready.{Ready}

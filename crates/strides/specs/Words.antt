@@ -5,7 +5,7 @@ use mathlib.Core.List.{List}
 use mathlib.Core.Bool.{Bool, cond, _&&_, not}
 use lib.Dec.{eqb}
 use Rattle.places.specs.Places.{Place, place, Went, To, Nowhere, space, end, kindAt, cls, onEmptyRow, stepForward, inc, dec, endOfBuffer, further}
-use Rattle.places.specs.Walks.{Halt, Onto, Stuck, skip, leave, run, back}
+use Rattle.loops.specs.Walks.{Halt, Onto, Stuck, skip, leave, run, back}
 
 -- the place where a loop ended, the end of the buffer for one that was stuck
 abbrev pub orEnd : List ℕ → Halt → Went

@@ -1,14 +1,14 @@
 // One word on or back: `next_word_start`, `prev_word_start`, `next_word_end`, `prev_word_end` and
 // `at_word_end` of motions.rs.
-use places::Halted;
+use loops::Halted;
+use loops::walks;
 use places::Setting;
 use places::Spot;
 use places::Step;
 use places::steps;
-use places::walks;
 ghost use mathlib.Core.Path.{_≡_};
 ghost use Rattle.places.specs.Places.{space, end};
-ghost use Rattle.places.specs.Walks.{skip, back, run};
+ghost use Rattle.loops.specs.Walks.{skip, back, run};
 ghost use Rattle.strides.specs.Words.{orEnd, fromEnd, frontFrom, halted, endFrom, runFrom};
 ghost use Rattle.strides.specs.Words.{nextWordStart, prevWordStart, nextWordEnd, prevWordEnd};
 ghost use Rattle.strides.specs.Words.{atWordEnd, frontHere, runHere};

@@ -1,8 +1,8 @@
 -- The reply of `matching_bracket_pos`. Cited by `text_calls::pairs`. Assumes nothing.
 use Prim.Native.Nat.{ℕ}
 use mathlib.Core.List.{List, [], _∷_}
-use Rattle.brackets.specs.declared.Partner.{Partner}
-use Rattle.brackets.specs.declared.Partner.the-variants.{There, None, Refused}
+use Rattle.partners.specs.declared.Partner.{Partner}
+use Rattle.partners.specs.declared.Partner.the-variants.{There, None, Refused}
 use Rattle.brackets.specs.Matching.{matchingBracketPos}
 use Rattle.lent.specs.Reply.{Reply, answer, refused}
 

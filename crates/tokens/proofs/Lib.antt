@@ -1,6 +1,2 @@
 pub mod Lists
-pub mod NumberLaws
-pub mod PartLaws
-pub mod RefusalLaws
 pub mod TokenLaws
-pub mod TrimLaws

@@ -2,16 +2,12 @@
 use mathlib.Core.Path.{_≡_, sym, _∙_}
 use mathlib.Core.List.{List, [], _∷_, _++_, map, append-assoc}
 use Prim.Native.Nat.{ℕ, suc, _+_, _-_, _≤_, _<_}
-use native.Mathlib.Numerals.{add-one}
 use native.Mathlib.Omega.{arith}
 use lib.ListN.{length, getD, take, drop, set, replicate, length-map, length-append}
-use lib.Seq.{drop-cons, getD-take, length-take-le, set-append-seam}
+use lib.Seq.{getD-take, length-take-le, set-append-seam}
+use Rattle.parts.proofs.Lists.{drop-at}
 
--- what stands at i, and what stands after it
-pub drop-at : {X : Type 0} (l : List X) (i : ℕ) (d : X) → i < length l → drop i l ≡ getD l i d ∷ drop (i + 1) l
-drop-at l i d h = rw (add-one, drop-cons l i d)
-
--- the same among the first n
+-- what stands at i among the first n, and what stands after it
 pub drop-at-take : {X : Type 0} (l : List X) (n i : ℕ) (d : X) → i < n → n ≤ length l → drop i (take n l) ≡ getD l i d ∷ drop (i + 1) (take n l)
 drop-at-take l n i d h m = rw (drop-at (take n l) i d (omega (arith, length-take-le n l m)), getD-take n l i d h)
 

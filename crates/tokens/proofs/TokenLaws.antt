@@ -11,13 +11,13 @@ use lib.Seq.{take-all, length-take-le}
 use borrow.Author.Tests.{eq-eqb, ne-eqb, le-ltb, lt-ltb}
 use Rattle.tokens.specs.declared.Token.{Token}
 use Rattle.tokens.specs.declared.tokens.Step.{Step}
-use Rattle.tokens.specs.declared.numbers.Number.{Number}
-use Rattle.tokens.specs.Numbers.{numberOf}
-use Rattle.tokens.specs.Parts.{trim, upTo}
+use Rattle.parts.specs.declared.numbers.Number.{Number}
+use Rattle.parts.specs.Numbers.{numberOf}
+use Rattle.parts.specs.Parts.{trim, upTo}
 use Rattle.tokens.specs.Grammar.{noToken, codes, isAt, single, between, rangeOf, tokenOf}
 use Rattle.tokens.specs.Tokens.{tokensIn, tokenHolds, any, anyToken, stepOf}
 use Rattle.tokens.proofs.Lists.{drop-at-take}
-use Rattle.tokens.proofs.PartLaws.{partsFrom, parts-from-step, parts-from-end, next-most}
+use Rattle.parts.proofs.PartLaws.{partsFrom, parts-from-step, parts-from-end, next-most}
 
 pub single-not : (p : List ℕ) → (length p ≡ 1 → ⊥) → noToken ≡ single p
 single-not [] h = refl

@@ -6,10 +6,10 @@ use mathlib.Core.Bool.{Bool, false, cond, not}
 use lib.Dec.{eqb, ltb}
 use lib.ListN.{length, take, drop}
 use Rattle.tokens.specs.declared.Token.{Token}
-use Rattle.tokens.specs.declared.numbers.Number.{Number}
-use Rattle.tokens.specs.declared.numbers.Number.the-variants.{Value, Not}
-use Rattle.tokens.specs.Numbers.{numberOf}
-use Rattle.tokens.specs.Parts.{upTo}
+use Rattle.parts.specs.declared.numbers.Number.{Number}
+use Rattle.parts.specs.declared.numbers.Number.the-variants.{Value, Not}
+use Rattle.parts.specs.Numbers.{numberOf}
+use Rattle.parts.specs.Parts.{upTo}
 
 abbrev pub noToken : Token
 noToken = record { kind = 0; lo = 0; hi = 0 }

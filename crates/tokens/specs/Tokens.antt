@@ -8,7 +8,7 @@ use lib.ListN.{take, drop}
 use Rattle.chars.specs.Letters.{isLetter}
 use Rattle.tokens.specs.declared.Token.{Token}
 use Rattle.tokens.specs.declared.tokens.Step.{Step}
-use Rattle.tokens.specs.Parts.{parts, trim, upTo}
+use Rattle.parts.specs.Parts.{parts, trim, upTo}
 use Rattle.tokens.specs.Grammar.{isToken, tokenOf}
 
 -- the tokens of parts in order, trimmed; what is none is left out

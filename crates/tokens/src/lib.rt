@@ -1,12 +1,7 @@
-// The tokens of a keyword list: its parts, what token a part is, and what a token holds. The given
+// The tokens of a keyword list: what token a part is, and what a token holds. The given
 // hjkl-buffer/motion.rs; document 01, "Keyword lists". Names are the Rust's.
-mod numbers;
-mod parts;
-mod refusals;
 mod tokens;
 
-pub use refusals::refused_char;
-pub use refusals::refused_list;
 pub use tokens::EMPTY;
 pub use tokens::read_part;
 

@@ -1,8 +1,6 @@
 // Tokens: what one part of a list is, and what a token holds. The given `Token`.
 use crate::Token;
-use crate::numbers;
-use crate::numbers::Number;
-use crate::parts;
+use parts::Number;
 ghost use mathlib.Core.Path.{_≡_};
 ghost use Prim.Native.Nat.{_≤_};
 ghost use lib.ListN.{length};
@@ -89,7 +87,7 @@ fn single_of(p: &[u32]) -> Token
 fn code_of(p: &[u32]) -> Token
     ensures { λ r. ⌜ r ≡ codeOf (now (p .entry)) ⌝ }
 {
-    match numbers::read_number(p) {
+    match parts::read_number(p) {
         Number::Value(n) => range(n, n),
         Number::Not => single_of(p),
     }
@@ -104,8 +102,8 @@ fn range_of(p: &[u32]) -> Token
         return EMPTY;
     }
     let e = d + 1;
-    match numbers::read_number(&p[..d]) {
-        Number::Value(lo) => match numbers::read_number(&p[e..]) {
+    match parts::read_number(&p[..d]) {
+        Number::Value(lo) => match parts::read_number(&p[e..]) {
             Number::Value(hi) => range(lo, hi),
             Number::Not => EMPTY,
         },

@@ -9,7 +9,7 @@ use Rattle.text.specs.Text.{onFirst, rows}
 use Rattle.folds.specs.Folds.{anyFold, visibleFrom}
 use Rattle.turns.specs.declared.Motion.the-variants.{Fwd, End}
 use Rattle.places.specs.Places.{place, kindAt, nextRow, stepForward, endOfBuffer}
-use Rattle.places.specs.Walks.{walk, goesOn}
+use Rattle.loops.specs.Walks.{walk, goesOn}
 use Rattle.strides.specs.Words.{nextWordStart, nextWordEnd, atWordEnd}
 use Rattle.turns.specs.Rounds.{roundOf, counted, wordMotion}
 

@@ -10,7 +10,7 @@ use Rattle.folds.specs.declared.Span.{Span}
 use Rattle.folds.specs.declared.Span.the-variants.{Of, NoSpan}
 use Rattle.text.proofs.Content.{content-near}
 use Rattle.places.specs.Places.{Place, Went, To, Nowhere}
-use Rattle.places.proofs.Within.{In, WentTo}
+use Rattle.loops.proofs.Within.{In, WentTo}
 use Rattle.turns.specs.declared.Motion.{Motion}
 use Rattle.turns.specs.declared.Motion.the-variants.{Fwd, Back, End, EndBack}
 use Rattle.strides.specs.Words

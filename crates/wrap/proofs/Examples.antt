@@ -7,7 +7,8 @@ use Rattle.chars.specs.Width.{zeroWidths, doubleWidths, widthOf}
 use Rattle.wrap.specs.declared.Wrap.{Wrap}
 use Rattle.wrap.specs.declared.Wrap.the-variants.{None, Char, Word}
 use Rattle.cells.specs.Cells.{fits}
-use Rattle.wrap.specs.Segments.{afterWhite, firstSegment, segmentsFrom}
+use Rattle.cuts.specs.Segments.{afterWhite, firstSegment}
+use Rattle.wrap.specs.Segments.{segmentsFrom}
 use Rattle.wrap.specs.Modes.{segmentsOf}
 
 -- by today's tables

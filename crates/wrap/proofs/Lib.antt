@@ -1,6 +1,3 @@
-pub mod White
-pub mod First
-pub mod Step
 pub mod Twice
 pub mod Walk
 pub mod Tiles

@@ -7,9 +7,10 @@ use Prim.Native.Nat.{ℕ, zero, suc, _+_, _-_, _≤_, _<_}
 use native.Mathlib.Nat.{add-zero, zero-add, le-of-suc-le-suc}
 use native.Mathlib.Omega.{arith}
 use lib.ListN.{length, drop}
-use Rattle.wrap.specs.Segments.{firstSegment, segmentsFrom}
+use Rattle.cuts.specs.Segments.{firstSegment}
+use Rattle.wrap.specs.Segments.{segmentsFrom}
 use Rattle.cells.specs.Offsets.{part, cellsIn}
-use Rattle.wrap.proofs.First.{first-pos, first-within, first-fits}
+use Rattle.cuts.proofs.First.{first-pos, first-within, first-fits}
 
 -- the pairs go from a to z: the first starts at a, each starts where the one before ends, the last ends at z, and none is empty
 abbrev pub Tiles : ℕ → ℕ → List ℕ → Type 0

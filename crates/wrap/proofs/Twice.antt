@@ -11,11 +11,11 @@ use native.Mathlib.Omega.{arith}
 use lib.ListN.{length, getD, take, drop, length-drop}
 use lib.Seq.{take-add, getD-drop}
 use Rattle.cells.specs.Cells.{fits}
-use Rattle.wrap.specs.Segments.{afterWhite, charSegment, firstSegment}
+use Rattle.cuts.specs.Segments.{afterWhite, charSegment, firstSegment}
 use Rattle.cells.specs.Offsets.{cellsIn}
 use Rattle.cells.proofs.Fits.{cells-none, cells-more, cells-rises, fits-fills}
-use Rattle.wrap.proofs.White.{white-last}
-use Rattle.wrap.proofs.First.{char-is, char-alone, first-cases}
+use Rattle.cuts.proofs.White.{white-last}
+use Rattle.cuts.proofs.First.{char-is, char-alone, first-cases}
 
 module _ (w : ℕ → ℕ) where
   cells-append : (a b : List ℕ) → cellsIn w (a ++ b) ≡ cellsIn w a + cellsIn w b

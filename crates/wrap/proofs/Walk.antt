@@ -7,8 +7,9 @@ use native.Mathlib.Nat.{add-zero, le-of-suc-le-suc}
 use native.Mathlib.Omega.{arith}
 use lib.ListN.{length, getD, take, drop, length-drop, drop-of-length-le}
 use lib.Seq.{drop-drop, getD-drop, take-all}
-use Rattle.wrap.specs.Segments.{firstSegment, segmentsFrom}
-use Rattle.wrap.proofs.First.{first-pos, first-within}
+use Rattle.cuts.specs.Segments.{firstSegment}
+use Rattle.wrap.specs.Segments.{segmentsFrom}
+use Rattle.cuts.proofs.First.{first-pos, first-within}
 
 module _ (w : ℕ → ℕ) (white : ℕ → Bool) (word : Bool) (width : ℕ) where
   pub segments-none : (left i : ℕ) → segmentsFrom w white word width left i [] ≡ []

@@ -2,4 +2,3 @@ pub mod Segments
 pub mod Modes
 pub mod Room
 pub mod Calls
-pub mod Lent

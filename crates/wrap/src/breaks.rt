@@ -5,72 +5,11 @@
 use crate::Segments;
 use crate::Wrap;
 ghost use mathlib.Core.Path.{_≡_};
-ghost use Prim.Native.Nat.{_+_, _*_, _≤_, _<_};
-ghost use lib.ListN.{length, set};
-ghost use Rattle.chars.specs.White.{whites, isWhite};
-ghost use Rattle.chars.specs.Width.{widthOf};
-ghost use Rattle.wrap.specs.Segments.{afterWhite, charSegment, firstSegment};
+ghost use Prim.Native.Nat.{_*_, _≤_};
+ghost use lib.ListN.{length};
 ghost use Rattle.wrap.specs.Modes.{isNone, isWord, isWhole};
 ghost use Rattle.wrap.specs.Calls.{rowSegments, Written, Broken, Whole, Wraps};
-ghost use Rattle.cells.specs.Lent.{Widths};
-ghost use Rattle.wrap.specs.Lent.{Tables};
-
-// The place after the last white space among the first n characters, or 0 where there is none.
-fn after_white(white: &[u32], row: &[u32], n: usize) -> usize
-    requires { ⌜ (now white ≡ whites) × (n ≤ length (now row)) ⌝ }
-    ensures { λ r. ⌜ r ≡ afterWhite isWhite (now (row .entry)) n ⌝ }
-{
-    let mut k = n;
-    while k > 0 {
-        if chars::white_in(white, row[k - 1]) {
-            return k;
-        }
-        k -= 1;
-    }
-    0
-}
-
-// How many characters of the row's start go into the width. One wider than the width is taken
-// alone: without that the segment would be empty, and no walk would get past it.
-fn char_segment(zeros: &[u32], doubles: &[u32], row: &[u32], width: u32) -> usize
-    requires { ⌜ Widths (now zeros) (now doubles) × (0 < length (now row)) ⌝ }
-    ensures { λ r. ⌜ r ≡ charSegment widthOf width (now (row .entry)) ⌝ }
-    ensures { λ r. ⌜ (0 < r) × (r ≤ length (now (row .entry))) ⌝ }
-{
-    let n = cells::fitting(zeros, doubles, row, width);
-    if n == 0 {
-        return 1;
-    }
-    n
-}
-
-// How many characters the first segment of a row has that is not empty; by words if `word` is set,
-// else by characters. The row may be the rest of one: this is the step of a walk over segments.
-pub fn first_segment(
-    zeros: &[u32],
-    doubles: &[u32],
-    white: &[u32],
-    row: &[u32],
-    width: u32,
-    word: bool,
-) -> usize
-    requires { ⌜ Tables (now zeros) (now doubles) (now white) × (0 < length (now row)) ⌝ }
-    ensures { λ r. ⌜ r ≡ firstSegment widthOf isWhite word width (now (row .entry)) ⌝ }
-    ensures { λ r. ⌜ (0 < r) × (r ≤ length (now (row .entry))) ⌝ }
-{
-    let n = char_segment(zeros, doubles, row, width);
-    if !word {
-        return n;
-    }
-    if n == row.len() {
-        return n;
-    }
-    let k = after_white(white, row, n);
-    if k == 0 {
-        return n;
-    }
-    k
-}
+ghost use Rattle.cuts.specs.Lent.{Tables};
 
 // How many segments the row has.
 fn count_segments(
@@ -89,19 +28,10 @@ fn count_segments(
     let mut start: usize = 0;
     while start < row.len() {
         let rest = &row[start..];
-        start += first_segment(zeros, doubles, white, rest, width, word);
+        start += cuts::first_segment(zeros, doubles, white, rest, width, word);
         n += 1;
     }
     n
-}
-
-// Writes a segment to the places `at` and `at + 1` of the room.
-fn put_segment(out: &mut [u32], at: usize, start: usize, end: usize)
-    requires { ⌜ (at + 2 ≤ length (now out)) × ((start ≤ 1048576) × (end ≤ 1048576)) ⌝ }
-    ensures { λ _. ⌜ now (out .exit) ≡ set (set (now (out .entry)) at start) (at + 1) end ⌝ }
-{
-    out[at] = start as u32;
-    out[at + 1] = end as u32;
 }
 
 // Writes the segments to the front of the room.
@@ -122,8 +52,8 @@ fn write_segments(
     let mut start: usize = 0;
     while start < row.len() {
         let rest = &row[start..];
-        let end = start + first_segment(zeros, doubles, white, rest, width, word);
-        put_segment(out, at, start, end);
+        let end = start + cuts::first_segment(zeros, doubles, white, rest, width, word);
+        cuts::put_segment(out, at, start, end);
         at += 2;
         start = end;
     }
@@ -175,7 +105,7 @@ fn whole(row: &[u32], out: &mut [u32]) -> Segments
     if out.len() < 2 {
         return Segments::Refused(9);
     }
-    put_segment(out, 0, 0, row.len());
+    cuts::put_segment(out, 0, 0, row.len());
     Segments::Count(1)
 }
 

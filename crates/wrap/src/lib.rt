@@ -2,7 +2,6 @@
 // `wrap.rs`. Where a column or a cell stands in them is in `cells`.
 mod breaks;
 
-pub use breaks::first_segment;
 pub use breaks::wrap_segments;
 
 // How a row is broken: not at all, at the last cell that fits, or after white space before it.

@@ -3,8 +3,8 @@
 use Prim.Native.Nat.{_+_}
 use native.Mathlib.Omega.{arith}
 use borrow.Author.Needs.{needs}
-use Rattle.brackets.specs.Walk.{Starts}
-use Rattle.brackets.proofs.Plain.{jump-starts, jump-answer, jump-none}
+use Rattle.partners.specs.Walk.{Starts}
+use Rattle.brackets.proofs.Call.{jump-starts, jump-answer, jump-none}
 use Rattle.brackets.proofs.matching.match_bracket_from.Statement.{statement}
 use Rattle.brackets.proofs.matching.match_bracket_from.Tie as tie
 

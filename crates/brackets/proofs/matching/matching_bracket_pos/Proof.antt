@@ -3,7 +3,7 @@
 use mathlib.Core.Path.{sym, _∙_, ap}
 use native.Mathlib.Omega.{arith}
 use borrow.Author.Needs.{needs}
-use Rattle.brackets.specs.declared.Partner.the-variants.{Refused}
+use Rattle.partners.specs.declared.Partner.the-variants.{Refused}
 use Rattle.brackets.proofs.Call.{call-refused, call-outside, no-row, row-line, no-col, place-starts, place-answer}
 use Rattle.brackets.proofs.matching.matching_bracket_pos.Statement.{statement}
 use Rattle.brackets.proofs.matching.matching_bracket_pos.Tie as tie

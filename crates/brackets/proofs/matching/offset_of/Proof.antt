@@ -7,7 +7,7 @@ use lib.ListN.{length}
 use borrow.Author.Needs.{needs}
 use Rattle.text.specs.Offsets.{Stands}
 use Rattle.text.proofs.Stands.{step-char}
-use Rattle.brackets.proofs.Placed.{column-at, column-nl, column-end}
+use Rattle.brackets.proofs.Columns.{column-at, column-nl, column-end}
 use Rattle.brackets.proofs.matching.offset_of.Statement.{statement}
 use Rattle.brackets.proofs.matching.offset_of.Tie as tie
 

@@ -7,7 +7,7 @@ use native.Mathlib.Omega.{arith}
 use borrow.Author.Needs.{needs}
 use lib.ListN.{length}
 use Rattle.tokens.specs.Tokens.{inList, tokensIn, anyToken}
-use Rattle.tokens.proofs.PartLaws.{partsFrom, parts-from-start}
+use Rattle.parts.proofs.PartLaws.{partsFrom, parts-from-start}
 use Rattle.tokens.proofs.TokenLaws.{step-next, step-any, parts-none}
 use Rattle.keywords.proofs.keyword_spec.list_holds.Statement.{statement}
 use Rattle.keywords.proofs.keyword_spec.list_holds.Tie as tie

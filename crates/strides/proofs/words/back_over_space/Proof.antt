@@ -1,5 +1,5 @@
 -- `strides::words::back_over_space` meets its contract: where the walk ended. Assumes nothing.
-use Rattle.places.proofs.Walking.{halt-done, halt-stood, done-in, stood-in}
+use Rattle.loops.proofs.Walking.{halt-done, halt-stood, done-in, stood-in}
 use borrow.Author.Needs.{needs}
 use Rattle.strides.proofs.words.back_over_space.Statement.{statement}
 use Rattle.strides.proofs.words.back_over_space.Tie as tie

@@ -3,7 +3,7 @@ use mathlib.Core.Path.{sym, _∙_}
 use borrow.Author.Tests.{not-true, not-false}
 use Rattle.places.specs.Spots.{placeOf}
 use Rattle.places.specs.Lent.{kindBy}
-use Rattle.places.proofs.Walking.{halt-done, halt-stood, done-in}
+use Rattle.loops.proofs.Walking.{halt-done, halt-stood, done-in}
 use Rattle.strides.proofs.Starts.{ready-at, from-end-small, from-end-onto, from-end-stuck}
 use borrow.Author.Needs.{needs}
 use Rattle.strides.proofs.words.from_end.Statement.{statement}

@@ -1,6 +1,6 @@
 -- `strides::words::front_from` meets its contract: an empty row is a word of its own. Assumes nothing.
 use mathlib.Core.Path.{sym, _∙_}
-use Rattle.places.proofs.Walking.{halt-done, halt-stood, done-in, stood-in}
+use Rattle.loops.proofs.Walking.{halt-done, halt-stood, done-in, stood-in}
 use Rattle.strides.proofs.Starts.{ready-at}
 use borrow.Author.Needs.{needs}
 use Rattle.strides.proofs.words.front_from.Statement.{statement}

@@ -1,5 +1,5 @@
 -- `strides::words::front_of` meets its contract: back over the class, and one on. Assumes nothing.
-use Rattle.places.proofs.Walking.{halt-done, halt-stood, done-in, stood-in, went-to, went-nowhere, step-in}
+use Rattle.loops.proofs.Walking.{halt-done, halt-stood, done-in, stood-in, went-to, went-nowhere, step-in}
 use borrow.Author.Needs.{needs}
 use Rattle.strides.proofs.words.front_of.Statement.{statement}
 use Rattle.strides.proofs.words.front_of.Tie as tie

@@ -3,7 +3,7 @@ use mathlib.Core.Path.{ap}
 use borrow.Author.Tests.{eq-eqb, ne-eqb}
 use Rattle.places.specs.Places.{To}
 use Rattle.strides.specs.Words.{nextWordStart}
-use Rattle.places.proofs.Walking.{halt-done, halt-stood, done-in, went-to, went-nowhere, step-in}
+use Rattle.loops.proofs.Walking.{halt-done, halt-stood, done-in, went-to, went-nowhere, step-in}
 use Rattle.strides.proofs.Starts.{ready-at}
 use borrow.Author.Needs.{needs}
 use Rattle.strides.proofs.words.next_word_start.Statement.{statement}

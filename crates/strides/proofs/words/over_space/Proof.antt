@@ -1,7 +1,7 @@
 -- `strides::words::over_space` meets its contract. Assumes nothing.
 use mathlib.Core.Path.{ap}
 use Rattle.places.specs.Places.{To}
-use Rattle.places.proofs.Walking.{halt-done, halt-stood, done-in}
+use Rattle.loops.proofs.Walking.{halt-done, halt-stood, done-in}
 use borrow.Author.Needs.{needs}
 use Rattle.strides.proofs.words.over_space.Statement.{statement}
 use Rattle.strides.proofs.words.over_space.Tie as tie

@@ -1,7 +1,7 @@
 -- `strides::words::prev_word_end` meets its contract. Assumes nothing.
 use borrow.Author.Tests.{eq-eqb, ne-eqb}
 use Rattle.strides.specs.Words.{prevWordEnd}
-use Rattle.places.proofs.Walking.{went-to, went-nowhere, step-in}
+use Rattle.loops.proofs.Walking.{went-to, went-nowhere, step-in}
 use Rattle.strides.proofs.Starts.{ready-at}
 use borrow.Author.Needs.{needs}
 use Rattle.strides.proofs.words.prev_word_end.Statement.{statement}

@@ -1,6 +1,6 @@
 -- `strides::words::prev_word_start` meets its contract. Assumes nothing.
 use Rattle.strides.specs.Words.{prevWordStart}
-use Rattle.places.proofs.Walking.{went-to, went-nowhere, step-in}
+use Rattle.loops.proofs.Walking.{went-to, went-nowhere, step-in}
 use Rattle.strides.proofs.Starts.{ready-at}
 use borrow.Author.Needs.{needs}
 use Rattle.strides.proofs.words.prev_word_start.Statement.{statement}

@@ -1,5 +1,5 @@
 -- `strides::words::run_end` meets its contract. Assumes nothing.
-use Rattle.places.proofs.Walking.{halt-done, halt-stood, done-in, stood-in}
+use Rattle.loops.proofs.Walking.{halt-done, halt-stood, done-in, stood-in}
 use borrow.Author.Needs.{needs}
 use Rattle.strides.proofs.words.run_end.Statement.{statement}
 use Rattle.strides.proofs.words.run_end.Tie as tie

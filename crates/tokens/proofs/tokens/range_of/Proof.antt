@@ -3,7 +3,7 @@ use mathlib.Core.Path.{refl, sym, _∙_}
 use native.Mathlib.Omega.{arith}
 use borrow.Author.Needs.{needs}
 use lib.Seq.{length-take-le}
-use Rattle.tokens.specs.declared.numbers.Number.the-variants.{Value, Not}
+use Rattle.parts.specs.declared.numbers.Number.the-variants.{Value, Not}
 use Rattle.tokens.proofs.TokenLaws.{range-none, range-is}
 use Rattle.tokens.proofs.tokens.range_of.Statement.{statement}
 use Rattle.tokens.proofs.tokens.range_of.Tie as tie

@@ -3,7 +3,7 @@ use mathlib.Core.Path.{ap, _∙_}
 use native.Mathlib.Omega.{arith}
 use borrow.Author.Needs.{needs}
 use Rattle.tokens.specs.Grammar.{tokenOf}
-use Rattle.tokens.proofs.PartLaws.{next-most}
+use Rattle.parts.proofs.PartLaws.{next-most}
 use Rattle.tokens.proofs.TokenLaws.{step-is}
 use Rattle.tokens.proofs.tokens.read_part.Statement.{statement}
 use Rattle.tokens.proofs.tokens.read_part.Tie as tie

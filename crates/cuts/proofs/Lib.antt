@@ -1,0 +1,3 @@
+pub mod White
+pub mod First
+pub mod Step

@@ -1,0 +1,6 @@
+-- Laws of partners, which the proofs of this crate and of `pairing` cite.
+pub mod Sides
+pub mod Depth
+pub mod Ahead
+pub mod Behind
+pub mod Placed

@@ -1,0 +1,16 @@
+// The partner of a bracket: the walk to it, forward from an open bracket and back from a close one.
+// From motions.rs, "Find / match", and demand 3 of the request.
+pub mod walks;
+
+// A place of a text.
+pub struct Pos {
+    pub row: u32,
+    pub col: u32,
+}
+
+// The answer of `matching_bracket_pos`: the Rust's `Some` or `None`, or the number of a refusal.
+pub enum Partner {
+    There(Pos),
+    None,
+    Refused(u32),
+}

@@ -1,0 +1,11 @@
+-- A law of lists that the other files of this folder share. Assumes nothing.
+use mathlib.Core.Path.{_≡_}
+use mathlib.Core.List.{List, _∷_}
+use Prim.Native.Nat.{ℕ, _+_, _<_}
+use native.Mathlib.Numerals.{add-one}
+use lib.ListN.{length, getD, drop}
+use lib.Seq.{drop-cons}
+
+-- what stands at i, and what stands after it
+pub drop-at : {X : Type 0} (l : List X) (i : ℕ) (d : X) → i < length l → drop i l ≡ getD l i d ∷ drop (i + 1) l
+drop-at l i d h = rw (add-one, drop-cons l i d)

@@ -1,0 +1,13 @@
+-- `signs::kinds::is_key_bracket` meets its contract.
+-- Assumes nothing.
+use mathlib.Core.Path.{refl}
+use Rattle.signs.specs.Kinds.{keyBracket}
+use Rattle.signs.proofs.kinds.is_key_bracket.Statement.{statement}
+use Rattle.signs.proofs.kinds.is_key_bracket.Tie as tie
+
+returns : tie.Need-returns
+unfolding keyBracket
+returns c = refl
+
+pub is-key-bracket-spec : {M : Type 1} → statement M
+is-key-bracket-spec = tie.close (tie.spec returns)
