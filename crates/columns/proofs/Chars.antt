@@ -9,7 +9,8 @@ use lib.Dec.{eqb, leb}
 use lib.ListN.{length, getD, drop, drop-of-length-le}
 use borrow.Author.Tests.{eq-eqb, ne-eqb, le-leb, lt-leb}
 use Rattle.row.proofs.Scalars.{drop-at}
-use Rattle.columns.specs.Columns.{cellsAt, visualFrom, charFrom}
+use Rattle.tabstops.specs.Cells.{cellsAt}
+use Rattle.columns.specs.Columns.{visualFrom, charFrom}
 use Rattle.columns.proofs.Visual.{visual-zero, visual-cons, visual-past, visual-rises}
 
 -- from visual column v on, a character is passed over exactly if its cells end at c or before

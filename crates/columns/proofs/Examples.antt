@@ -3,7 +3,8 @@ use mathlib.Core.Path.{_≡_, refl}
 use mathlib.Core.List.{List, [], _∷_}
 use Prim.Native.Nat.{ℕ}
 use Rattle.chars.specs.Width.{zeroWidths, doubleWidths, widthOf}
-use Rattle.columns.specs.Columns.{stopOf, visualFrom, charFrom, charCol, cursorCol}
+use Rattle.tabstops.specs.Cells.{stopOf}
+use Rattle.columns.specs.Columns.{visualFrom, charFrom, charCol, cursorCol}
 
 abbrev row : List ℕ
 row = 9 ∷ 120 ∷ []

@@ -8,8 +8,11 @@ use native.Mathlib.Decide.{decLt, ℕ-discrete}
 use native.Mathlib.Omega.{arith}
 use lib.ListN.{length, getD}
 use borrow.Author.Tests.{eq-eqb, ne-eqb}
-use Rattle.columns.specs.Columns.{stopOf, visualCol, charFrom, charCol, cursorCol, leadingWidth}
-use Rattle.columns.proofs.Visual.{stop-pos, visual-step, visual-rises, visual-most, cells-tab}
+use Rattle.tabstops.specs.Cells.{stopOf}
+use Rattle.tabstops.specs.Indents.{leadingWidth}
+use Rattle.tabstops.proofs.Accepted.{stop-pos, cells-tab}
+use Rattle.columns.specs.Columns.{visualCol, charFrom, charCol, cursorCol}
+use Rattle.columns.proofs.Visual.{visual-step, visual-rises, visual-most}
 use Rattle.columns.proofs.Cursor.{tab-ends}
 use Rattle.columns.proofs.Leading.{blanksOf, leading-visual}
 use Rattle.columns.proofs.Chars.{Holds, char-holds, holds-only}

@@ -7,27 +7,11 @@ use native.Mathlib.Nat.{mod-lt, le-of-suc-le-suc}
 use native.Mathlib.Decide.{ℕ-discrete}
 use native.Mathlib.Omega.{arith}
 use lib.ListN.{length, getD}
-use borrow.Author.Tests.{eq-eqb, ne-eqb}
-use Rattle.columns.specs.Columns.{stopOf, cellsAt, visualFrom}
-
--- a tabstop is at least 1, and no larger than it was given, but for 0
-pub stop-pos : (tabstop : ℕ) → 0 < stopOf tabstop
-unfolding stopOf
-stop-pos zero = omega arith
-stop-pos (suc n) = rw (ne-eqb (suc n) 0 (λ e. omega arith)) (omega arith)
-
-pub stop-most : (tabstop n : ℕ) → 0 < n → tabstop ≤ n → stopOf tabstop ≤ n
-unfolding stopOf
-stop-most zero n h k = h
-stop-most (suc t) n h k = rw (ne-eqb (suc t) 0 (λ e. omega arith)) k
+use Rattle.tabstops.specs.Cells.{cellsAt}
+use Rattle.tabstops.proofs.Accepted.{cells-tab, cells-other}
+use Rattle.columns.specs.Columns.{visualFrom}
 
 module _ (w : ℕ → ℕ) (tab : ℕ) where
-  pub cells-tab : (v x : ℕ) → x ≡ 9 → cellsAt w tab v x ≡ tab - v % tab
-  cells-tab v x e = rw (eq-eqb x 9 e)
-
-  pub cells-other : (v x : ℕ) → (x ≡ 9 → ⊥) → cellsAt w tab v x ≡ w x
-  cells-other v x e = rw (ne-eqb x 9 e)
-
   -- a tab has a cell, and at most as many as the tabstop says
   pub tab-cells : 0 < tab → (v : ℕ) → (0 < cellsAt w tab v 9) × (cellsAt w tab v 9 ≤ tab)
   tab-cells h v = (omega (arith, mod-lt v {m = tab} h), omega arith)
@@ -37,8 +21,8 @@ module _ (w : ℕ → ℕ) (tab : ℕ) where
   cells-most b wide near v x = go (ℕ-discrete x 9)
     where
       go : Dec (x ≡ 9) → cellsAt w tab v x ≤ b
-      go (yes e) = rw (cells-tab v x e) (omega arith)
-      go (no e) = rw (cells-other v x e) (wide x)
+      go (yes e) = rw (cells-tab w tab v x e) (omega arith)
+      go (no e) = rw (cells-other w tab v x e) (wide x)
 
   -- past the row's end: where it ends
   pub visual-past : (v : ℕ) (row : List ℕ) (i : ℕ) → length row ≤ i → visualFrom w tab v row i ≡ visualFrom w tab v row (length row)

@@ -1,23 +1,11 @@
 -- What the contracts of `src/lib.rt` cite: the cells of a row's characters, over any width function w.
 -- From `geom.rs` and document 01, "Character facts". Definitions only; the laws are in `proofs/`. Assumes nothing.
-use Prim.Native.Nat.{ℕ, zero, suc, _+_, _-_, _%_}
+use Prim.Native.Nat.{ℕ, zero, suc, _+_, _-_}
 use mathlib.Core.List.{List, [], _∷_}
 use mathlib.Core.Bool.{cond, _||_}
 use lib.ListN.{getD}
-use lib.Dec.{eqb, leb, ltb}
-use Rattle.row.specs.Row.{rowRefusal}
-
--- 1 and 2 of the row, 6: a tabstop above 1,000; 0: accepted
-unfoldable pub columnRefusal : List ℕ → ℕ → ℕ
-columnRefusal row tabstop = cond (eqb (rowRefusal row) 0) (cond (ltb 1000 tabstop) 6 0) (rowRefusal row)
-
--- tabstop 0 acts as 1
-unfoldable pub stopOf : ℕ → ℕ
-stopOf tabstop = cond (eqb tabstop 0) 1 tabstop
-
--- the cells of x from visual column v on: a tab runs to the next multiple of the tabstop, any other has its width
-abbrev pub cellsAt : (ℕ → ℕ) → ℕ → ℕ → ℕ → ℕ
-cellsAt w tab v x = cond (eqb x 9) (tab - v % tab) (w x)
+use lib.Dec.{eqb, leb}
+use Rattle.tabstops.specs.Cells.{stopOf, cellsAt}
 
 -- the visual column of character i of a row that begins at v, or where the row ends
 unfoldable pub visualFrom : (ℕ → ℕ) → ℕ → ℕ → List ℕ → ℕ → ℕ
@@ -45,11 +33,3 @@ cursorFrom w tab row i = cond (eqb (getD row i 0) 9) (visualFrom w tab 0 row (i 
 
 abbrev pub cursorCol : (ℕ → ℕ) → ℕ → List ℕ → ℕ → ℕ
 cursorCol w tabstop row i = cursorFrom w (stopOf tabstop) row i
-
--- where the spaces and tabs end with which a row begins at v: a space is one cell
-unfoldable pub leadingFrom : ℕ → ℕ → List ℕ → ℕ
-leadingFrom tab v [] = v
-leadingFrom tab v (x ∷ row) = cond (eqb x 32 || eqb x 9) (leadingFrom tab (v + cellsAt (λ _. 1) tab v x) row) v
-
-abbrev pub leadingWidth : ℕ → List ℕ → ℕ
-leadingWidth tabstop row = leadingFrom (stopOf tabstop) 0 row

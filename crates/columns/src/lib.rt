@@ -1,59 +1,15 @@
 // Tab columns of one row: where a character stands on the screen, and which character a screen
-// column holds. From `geom.rs`. A width is taken as it is, 0 included, and a tab runs to the next
-// multiple of the tabstop. Each call checks the row in one pass and walks it in one more.
+// column holds. From `geom.rs`. Each call checks the row in one pass and walks it in one more.
 use row::Column;
+use tabstops::cell_width;
+use tabstops::refused;
+use tabstops::stop_of;
 ghost use mathlib.Core.Path.{_≡_};
-ghost use Prim.Native.Nat.{_-_, _%_, _≤_, _<_};
-ghost use lib.ListN.{length};
 ghost use Rattle.chars.specs.Width.{widthOf};
-ghost use Rattle.columns.specs.Columns.{columnRefusal, stopOf, cellsAt, visualFrom};
-ghost use Rattle.columns.specs.Columns.{charFrom, cursorFrom, leadingFrom};
+ghost use Rattle.columns.specs.Columns.{visualFrom, charFrom, cursorFrom};
 ghost use Rattle.columns.specs.Calls.{visualColToCharCol, charColToVisualCol};
-ghost use Rattle.columns.specs.Calls.{cursorVisualCol, leadingVisualWidth};
-ghost use Rattle.columns.specs.Ready.{Ready, Tables};
-
-// 1 and 2 of the row, 6 for a tabstop above 1,000, else 0.
-fn refused(row: &[u32], tabstop: u32) -> u32
-    ensures { λ r. ⌜ r ≡ columnRefusal (now (row .entry)) tabstop ⌝ }
-{
-    let f = row::row_refusal(row);
-    if f != 0 {
-        return f;
-    }
-    if tabstop > 1000 {
-        return 6;
-    }
-    0
-}
-
-// The tabstop to use: 0 acts as 1.
-fn stop_of(tabstop: u32) -> u32
-    ensures { λ r. ⌜ r ≡ stopOf tabstop ⌝ }
-{
-    if tabstop == 0 {
-        return 1;
-    }
-    tabstop
-}
-
-// The cells of a tab that is painted from visual column `visual` on.
-fn tab_width(visual: u32, tab: u32) -> u32
-    requires { ⌜ (0 < tab) × (tab ≤ 1000) ⌝ }
-    ensures { λ r. ⌜ (r ≡ tab - visual % tab) × (r ≤ 1000) ⌝ }
-{
-    tab - visual % tab
-}
-
-// The cells of x where it is painted from visual column `visual` on.
-fn cell_width(zeros: &[u32], doubles: &[u32], x: u32, visual: u32, tab: u32) -> u32
-    requires { ⌜ Tables (now zeros) (now doubles) tab ⌝ }
-    ensures { λ r. ⌜ (r ≡ cellsAt widthOf tab visual x) × (r ≤ 1000) ⌝ }
-{
-    if x == 9 {
-        return tab_width(visual, tab);
-    }
-    chars::width_in(zeros, doubles, x)
-}
+ghost use Rattle.columns.specs.Calls.{cursorVisualCol};
+ghost use Rattle.columns.specs.Ready.{Ready};
 
 // The visual column of character `col`, or the row's width where it has no such character.
 fn visual_at(zeros: &[u32], doubles: &[u32], row: &[u32], col: usize, tab: u32) -> u32
@@ -103,29 +59,6 @@ fn cursor_at(zeros: &[u32], doubles: &[u32], row: &[u32], col: usize, tab: u32) 
         return visual_at(zeros, doubles, row, col + 1, tab) - 1;
     }
     visual_at(zeros, doubles, row, col, tab)
-}
-
-// The visual column at which the row's leading spaces and tabs end.
-fn leading_at(row: &[u32], tab: u32) -> u32
-    requires { ⌜ (length (now row) ≤ 1048576) × ((0 < tab) × (tab ≤ 1000)) ⌝ }
-    ensures { λ r. ⌜ r ≡ leadingFrom tab 0 (now (row .entry)) ⌝ }
-{
-    let mut visual: u32 = 0;
-    let mut i: usize = 0;
-    while i < row.len() {
-        let x = row[i];
-        if x == 32 {
-            visual += 1;
-            i += 1;
-        } else {
-            if x != 9 {
-                return visual;
-            }
-            visual += tab_width(visual, tab);
-            i += 1;
-        }
-    }
-    visual
 }
 
 // The character whose cells hold visual column `visual`, or the row's count past its end.
@@ -179,16 +112,4 @@ pub fn cursor_visual_col(row: &[u32], col: u32, tabstop: u32) -> Column
         col as usize,
         tab,
     ))
-}
-
-// The visual width of the spaces and tabs with which the row begins.
-pub fn leading_visual_width(row: &[u32], tabstop: u32) -> Column
-    ensures { λ r. ⌜ r ≡ leadingVisualWidth (now (row .entry)) tabstop ⌝ }
-{
-    let f = refused(row, tabstop);
-    if f != 0 {
-        return Column::Refused(f);
-    }
-    let tab = stop_of(tabstop);
-    Column::At(leading_at(row, tab))
 }

@@ -14,12 +14,12 @@ use Rattle.lines.specs.Paragraphs.{paragraphs, LeadsIn}
 use Rattle.lines.specs.declared.Paragraph.{Paragraph}
 use Rattle.lines.specs.declared.Paragraph.the-variants.{At, Nothing}
 use Rattle.lines.proofs.Leading.{paragraphs-in}
-use Rattle.steps.specs.declared.Position.{Position}
-use Rattle.steps.specs.Positions.{Inside}
-use Rattle.steps.proofs.Staying.{either-in, position-in}
+use Rattle.positions.specs.declared.Position.{Position}
+use Rattle.positions.specs.Positions.{Inside}
+use Rattle.steps.proofs.Staying.{either-in, position-in, stepped-in}
 use Rattle.jumps.specs.declared.Jump.{Jump}
 use Rattle.jumps.specs.declared.Jump.the-variants.{Top, Bottom, NextLine, PrevLine, ThisLine, SectionBackward, SectionForward}
-use Rattle.jumps.specs.declared.Jump.the-variants.{SectionEndBackward, SectionEndForward, ParagraphPrev, ParagraphNext}
+use Rattle.jumps.specs.declared.Jump.the-variants.{SectionEndBackward, SectionEndForward, ParagraphPrev, ParagraphNext, By}
 use Rattle.jumps.specs.Rows.{atRow}
 use Rattle.jumps.specs.Sections.{sectionBack, sectionOn}
 use Rattle.jumps.specs.Paragraphs.{upAt, downAt}
@@ -89,3 +89,4 @@ jumped-in t ParagraphPrev n p i =
     up-at-in t p i (paragraphs t false (max n 1 - 1) (p .row)) (paragraphs-in t false (max n 1 - 1) (p .row) (i .in-row))
 jumped-in t ParagraphNext n p i =
     down-at-in t p i (paragraphs t true (max n 1 - 1) (p .row)) (paragraphs-in t true (max n 1 - 1) (p .row) (i .in-row))
+jumped-in t (By s) n p i = stepped-in t s n p i

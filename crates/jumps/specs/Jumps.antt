@@ -2,10 +2,11 @@
 -- Definitions only. Assumes nothing.
 use Prim.Native.Nat.{ℕ}
 use mathlib.Core.List.{List}
-use Rattle.steps.specs.declared.Position.{Position}
+use Rattle.positions.specs.declared.Position.{Position}
+use Rattle.steps.specs.Steps.{stepped}
 use Rattle.jumps.specs.declared.Jump.{Jump}
 use Rattle.jumps.specs.declared.Jump.the-variants.{Top, Bottom, NextLine, PrevLine, ThisLine, SectionBackward, SectionForward}
-use Rattle.jumps.specs.declared.Jump.the-variants.{SectionEndBackward, SectionEndForward, ParagraphPrev, ParagraphNext}
+use Rattle.jumps.specs.declared.Jump.the-variants.{SectionEndBackward, SectionEndForward, ParagraphPrev, ParagraphNext, By}
 use Rattle.jumps.specs.Rows.{atRow, bottom, nextLine, prevLine, thisLine}
 use Rattle.jumps.specs.Sections.{sectionBack, sectionOn}
 use Rattle.jumps.specs.Paragraphs.{paragraphPrev, paragraphNext}
@@ -23,3 +24,4 @@ jumped t SectionEndBackward n p = sectionBack t 125 n p
 jumped t SectionEndForward n p = sectionOn t 125 n p
 jumped t ParagraphPrev n p = paragraphPrev t n p
 jumped t ParagraphNext n p = paragraphNext t n p
+jumped t (By s) n p = stepped t s n p

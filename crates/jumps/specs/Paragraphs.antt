@@ -8,8 +8,8 @@ use Rattle.lines.specs.Margins.{lastCol}
 use Rattle.lines.specs.Paragraphs.{lastRow, paragraphs}
 use Rattle.lines.specs.declared.Paragraph.{Paragraph}
 use Rattle.lines.specs.declared.Paragraph.the-variants.{At, Nothing}
-use Rattle.steps.specs.declared.Position.{Position}
-use Rattle.steps.specs.Positions.{position}
+use Rattle.positions.specs.declared.Position.{Position}
+use Rattle.positions.specs.Positions.{position}
 use Rattle.steps.specs.Steps.{times}
 
 -- up to column 0 of the row, where the rounds lead to one

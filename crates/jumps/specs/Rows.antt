@@ -6,8 +6,8 @@ use mathlib.Core.Bool.{cond, _&&_}
 use lib.Dec.{eqb, ltb, leb}
 use Rattle.lines.specs.Margins.{firstNonBlank}
 use Rattle.lines.specs.Paragraphs.{lastRow}
-use Rattle.steps.specs.declared.Position.{Position}
-use Rattle.steps.specs.Positions.{position}
+use Rattle.positions.specs.declared.Position.{Position}
+use Rattle.positions.specs.Positions.{position}
 use Rattle.steps.specs.Steps.{times}
 
 -- the first character of row r that is no blank

@@ -4,8 +4,8 @@ use Prim.Native.Nat.{ℕ, _-_}
 use mathlib.Core.List.{List}
 use Rattle.lines.specs.Paragraphs.{lastRow}
 use Rattle.lines.specs.Sections.{sectionUp, sectionDown}
-use Rattle.steps.specs.declared.Position.{Position}
-use Rattle.steps.specs.Positions.{position}
+use Rattle.positions.specs.declared.Position.{Position}
+use Rattle.positions.specs.Positions.{position}
 use Rattle.steps.specs.Steps.{times}
 
 -- both lead to column 0, and the way down stops at the last row with content

@@ -1,12 +1,14 @@
-// Moves to other rows, by row numbers, sections and paragraphs, of a text and position that were
-// accepted. There is no caret here; the walks are those of `lines`.
+// Moves to other rows, by row numbers, sections and paragraphs, and by a step, of a text and
+// position that were accepted. There is no caret here; the walks are those of `lines`.
 // From motions.rs.
 pub mod paragraphs;
 pub mod rows;
 pub mod sections;
 pub mod ways;
 
-// The moves to other rows.
+use steps::Step;
+
+// The moves to other rows, and the steps.
 pub enum Jump {
     Top,
     Bottom,
@@ -19,4 +21,5 @@ pub enum Jump {
     SectionEndForward,
     ParagraphPrev,
     ParagraphNext,
+    By(Step),
 }

@@ -1,7 +1,7 @@
 // By paragraphs: the moves of `{` and `}`.
 use lines::Paragraph;
 use lines::paragraphs::find_paragraph;
-use steps::Position;
+use positions::Position;
 use text::Line;
 use text::minus;
 use text::most;
@@ -10,7 +10,7 @@ ghost use Prim.Native.Nat.{_≤_, _<_};
 ghost use lib.ListN.{length};
 ghost use Rattle.text.specs.Text.{rowCount};
 ghost use Rattle.lines.specs.declared.Paragraph.the-variants.{At};
-ghost use Rattle.steps.specs.Positions.{Accepted};
+ghost use Rattle.positions.specs.Positions.{Accepted};
 ghost use Rattle.jumps.specs.Paragraphs.{downAt, paragraphPrev, paragraphNext};
 
 pub fn paragraph_prev(t: &[u32], p: Position, start: usize, count: u32) -> Position

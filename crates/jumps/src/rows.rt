@@ -1,13 +1,13 @@
 // The first character of a row that is no blank: the moves of `+`, `-`, `_`, `gg` and `G`.
 use lines::margins::first_non_blank;
-use steps::Position;
+use positions::Position;
 use text::Line;
 use text::most;
 ghost use mathlib.Core.Path.{_≡_};
 ghost use Prim.Native.Nat.{_≤_};
 ghost use lib.ListN.{length};
 ghost use Rattle.text.specs.Offsets.{IsLine};
-ghost use Rattle.steps.specs.Positions.{Accepted};
+ghost use Rattle.positions.specs.Positions.{Accepted};
 ghost use Rattle.jumps.specs.Rows.{atRow, bottom, nextLine, prevLine, thisLine};
 
 // The first character of a row that is no blank.

@@ -1,12 +1,12 @@
 // Column 0 of rows that begin with a mark: the moves of `[[`, `]]`, `[]` and `][`.
 use lines::sections::section_down;
 use lines::sections::section_up;
-use steps::Position;
+use positions::Position;
 use text::Line;
 use text::most;
 ghost use mathlib.Core.Path.{_≡_};
 ghost use Prim.Native.Nat.{_<_};
-ghost use Rattle.steps.specs.Positions.{Accepted};
+ghost use Rattle.positions.specs.Positions.{Accepted};
 ghost use Rattle.jumps.specs.Sections.{sectionBack, sectionOn};
 
 pub fn section_back(t: &[u32], p: Position, start: usize, x: u32, count: u32) -> Position

@@ -5,9 +5,10 @@ use crate::paragraphs::paragraph_prev;
 use crate::rows;
 use crate::sections::section_back;
 use crate::sections::section_on;
-use steps::Position;
+use positions::Position;
+use steps::ways::step;
 ghost use mathlib.Core.Path.{_≡_};
-ghost use Rattle.steps.specs.Positions.{Accepted};
+ghost use Rattle.positions.specs.Positions.{Accepted};
 ghost use Rattle.jumps.specs.Jumps.{jumped};
 
 // The position that a jump of a text and position that were accepted leads to. `{` is 123 and `}`
@@ -28,5 +29,6 @@ pub fn jump(t: &[u32], p: Position, start: usize, j: Jump, count: u32) -> Positi
         Jump::SectionEndForward => section_on(t, p, start, 125, count),
         Jump::ParagraphPrev => paragraph_prev(t, p, start, count),
         Jump::ParagraphNext => paragraph_next(t, p, start, count),
+        Jump::By(s) => step(t, p, start, s, count),
     }
 }

@@ -7,10 +7,10 @@ use Prim.Native.Nat.{ℕ, _≤_, _<_, _^_}
 use lib.Dec.{eqb}
 use lib.ListN.{length}
 use borrow.Author.Tests.{eq-eqb, ne-eqb, eqb-true}
-use Rattle.steps.specs.declared.Entry.{Entry}
-use Rattle.steps.specs.declared.Position.{Position}
-use Rattle.steps.specs.Positions
-use Rattle.steps.proofs.Checks.{entry-number}
+use Rattle.positions.specs.declared.Entry.{Entry}
+use Rattle.positions.specs.declared.Position.{Position}
+use Rattle.positions.specs.Positions
+use Rattle.positions.proofs.Checks.{entry-number}
 use Rattle.steps.proofs.Staying.{inside-fits}
 use Rattle.motions.specs.declared.Caret.{Caret}
 use Rattle.motions.specs.declared.Moved.the-variants.{To, Refused}

@@ -7,7 +7,7 @@ use Rattle.text.specs.Text.{any, textRefusal, onFirst, rows}
 use Rattle.text.specs.Offsets.{startIn}
 use Rattle.lines.specs.Margins.{indentOf}
 use Rattle.lines.specs.Paragraphs.{roundFrom, paragraphs}
-use Rattle.steps.specs.Positions.{positionRefusal, lowest}
+use Rattle.positions.specs.Positions.{positionRefusal, lowest}
 use Rattle.motions.specs.declared.Caret.{Caret}
 use Rattle.motions.specs.declared.Sticky.the-variants.{Absent}
 use Rattle.motions.specs.declared.Moved.the-variants.{To, Refused}

@@ -9,7 +9,7 @@ use lib.Dec.{eqb}
 use borrow.Author.Tests.{eqb-true}
 use Rattle.steps.specs.declared.Step.{Step}
 use Rattle.steps.specs.Steps.{stepped}
-use Rattle.steps.proofs.Checks.{inside}
+use Rattle.positions.proofs.Checks.{inside}
 use Rattle.steps.proofs.Staying.{stepped-in}
 use Rattle.jumps.specs.declared.Jump.{Jump}
 use Rattle.jumps.specs.Jumps.{jumped}

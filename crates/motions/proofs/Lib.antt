@@ -4,6 +4,7 @@ pub mod Landing
 pub mod WordLanding
 pub mod Examples
 pub mod Finding
+pub mod Refusing
 pub mod Wording
 pub mod Upright
 pub mod Reaching

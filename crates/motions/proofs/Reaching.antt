@@ -11,7 +11,7 @@ use Rattle.vertical.proofs.Inside.{rows-inside}
 use Rattle.vertical.proofs.Edges.{viewport-within}
 use Rattle.vertical.specs.declared.Edge.{Edge}
 use Rattle.screen.proofs.Inside.{move-inside}
-use Rattle.steps.proofs.Checks.{lowest-none, inside-at}
+use Rattle.positions.proofs.Checks.{lowest-none, inside-at}
 use Rattle.jumps.proofs.Staying.{row-in}
 use Rattle.motions.specs.declared.Caret.{Caret}
 use Rattle.motions.specs.Carets.{here, caretRefusal, refusalOf, Inside}

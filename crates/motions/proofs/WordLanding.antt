@@ -13,8 +13,8 @@ use Rattle.loops.proofs.Within.{In}
 use Rattle.turns.specs.declared.Motion.{Motion}
 use Rattle.turns.specs.Rounds.{wordMotion}
 use Rattle.turns.proofs.Inside.{word-motion-in}
-use Rattle.steps.specs.Positions.{lowest}
-use Rattle.steps.proofs.Checks.{lowest-none, inside}
+use Rattle.positions.specs.Positions.{lowest}
+use Rattle.positions.proofs.Checks.{lowest-none, inside}
 use Rattle.motions.specs.declared.Caret.{Caret}
 use Rattle.motions.specs.Carets.{here, caretRefusal, Inside}
 use Rattle.motions.specs.WordMoves.{wordRefusal, wordCaret, moveWord}

@@ -4,10 +4,10 @@ use Prim.Native.Nat.{ℕ}
 use mathlib.Core.List.{List}
 use mathlib.Core.Bool.{cond}
 use lib.Dec.{eqb}
-use Rattle.steps.specs.declared.Position.{Position}
-use Rattle.steps.specs.declared.Entry.{Entry}
-use Rattle.steps.specs.Positions
-use Rattle.steps.specs.Positions.{position, positionRefusal, refusalAt}
+use Rattle.positions.specs.declared.Position.{Position}
+use Rattle.positions.specs.declared.Entry.{Entry}
+use Rattle.positions.specs.Positions
+use Rattle.positions.specs.Positions.{position, positionRefusal, refusalAt}
 use Rattle.motions.specs.declared.Caret.{Caret}
 use Rattle.motions.specs.declared.Moved.{Moved}
 use Rattle.motions.specs.declared.Moved.the-variants.{To, Refused}

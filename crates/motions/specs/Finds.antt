@@ -1,10 +1,9 @@
 -- `%` and the finds within a row, as motions.rs has them under "Find / match".
 -- Definitions only. Assumes nothing.
-use Prim.Native.Nat.{ℕ, _<_, _^_}
+use Prim.Native.Nat.{ℕ}
 use mathlib.Core.List.{List}
 use mathlib.Core.Bool.{Bool, cond}
 use lib.Dec.{eqb}
-use Rattle.chars.specs.Scalar.{isScalar}
 use Rattle.text.specs.Text.{rowAt}
 use Rattle.scans.specs.declared.Found.{Found}
 use Rattle.scans.specs.declared.Found.the-variants.{At, Nothing}
@@ -12,10 +11,11 @@ use Rattle.partners.specs.declared.Partner.{Partner}
 use Rattle.partners.specs.declared.Partner.the-variants.{There, None, Refused as Partner·Refused}
 use Rattle.scans.specs.Find.{findOnRow}
 use Rattle.brackets.specs.Find.{keyFrom}
+use Rattle.positions.specs.Positions.{refusalWith}
 use Rattle.motions.specs.declared.Caret.{Caret}
 use Rattle.motions.specs.declared.Sought.{Sought}
 use Rattle.motions.specs.declared.Sought.the-variants.{Found as Sought·Found, Missing, Refused}
-use Rattle.motions.specs.Carets.{refusalOf, placed}
+use Rattle.motions.specs.Carets.{here, refusalOf, placed}
 
 -- found and missing by document 01's number, the Rust's truth, and the caret
 abbrev pub numberOfSought : Sought → ℕ
@@ -42,15 +42,7 @@ unfoldable pub landsOn : Caret → Found → Sought
 landsOn k (At i) = Sought·Found (placed k (k .row) i)
 landsOn k Nothing = Missing k
 
--- a column that was found fits a u32
-unfoldable pub Fits : Found → Type 0
-Fits (At i) = i < 2 ^ 32
-Fits Nothing = Unit
-
--- a call's refusal f with the character sought: that is refused with 2, after a text that is too long and before all else
-unfoldable pub orSought : ℕ → Bool → ℕ
-orSought f scalar = cond (eqb f 1) 1 (cond scalar f 2)
-
+-- `f`, `F`, `t`, `T`; a character sought that is no scalar value is 2, after 1 and before all else
 abbrev pub findCharOnLine : List ℕ → ℕ → Bool → Bool → Bool → Caret → Sought
 findCharOnLine t x forward till skip k =
-    seeking (orSought (refusalOf t k) (isScalar x)) (landsOn k (findOnRow (rowAt t (k .row)) (k .col) x forward till skip))
+    seeking (refusalWith t (here k) x) (landsOn k (findOnRow (rowAt t (k .row)) (k .col) x forward till skip))

@@ -14,7 +14,7 @@ use Rattle.visible.specs.Visible.{deltaOf}
 use Rattle.vertical.specs.Moves.{moveVertical}
 use Rattle.vertical.specs.Moves
 use Rattle.screen.specs.Screen.{moveScreen}
-use Rattle.steps.specs.Positions.{lowest}
+use Rattle.positions.specs.Positions.{lowest}
 use Rattle.motions.specs.declared.Caret.{Caret}
 use Rattle.motions.specs.declared.Moved.{Moved}
 use Rattle.motions.specs.declared.Sticky.{Sticky}

@@ -1,21 +1,19 @@
 -- The word motions on carets: the refusals of a call, and where the walks of `words` lead to. Motions.rs, "Word motions".
 -- Definitions only. Assumes nothing.
-use Prim.Native.Nat.{ℕ, _≤_}
-use mathlib.Core.Path.{_≡_}
+use Prim.Native.Nat.{ℕ}
 use mathlib.Core.List.{List, [], _∷_}
 use mathlib.Core.Bool.{Bool}
 use Rattle.text.specs.Text.{textRefusal, rowCount}
 use Rattle.folds.specs.Folds.{foldRefusal}
-use Rattle.keywords.specs.declared.KeywordSpec.{KeywordSpec}
 use Rattle.tokens.specs.Tokens.{inList}
 use Rattle.keywords.specs.Table.{parseOf}
 use Rattle.places.specs.Places.{Place, place, kindOf}
 use Rattle.turns.specs.declared.Motion.{Motion}
 use Rattle.turns.specs.Rounds.{wordMotion}
-use Rattle.steps.specs.Positions.{lowest, Accepted}
+use Rattle.positions.specs.Positions.{lowest}
 use Rattle.motions.specs.declared.Caret.{Caret}
 use Rattle.motions.specs.declared.Moved.{Moved}
-use Rattle.motions.specs.Carets.{here, caretRefusal, moving, placed}
+use Rattle.motions.specs.Carets.{caretRefusal, moving, placed}
 
 -- text, caret, folds, and then 7 or 8 of the list
 abbrev pub wordRefusal : List ℕ → List ℕ → List ℕ → Caret → ℕ
@@ -31,9 +29,3 @@ wordCaret t folds word big m stop count k = atPlace k (wordMotion t folds (kindO
 
 abbrev pub moveWord : List ℕ → List ℕ → List ℕ → Bool → Motion → Bool → ℕ → Caret → Moved
 moveWord t folds list big m stop count k = moving (wordRefusal t folds list k) (wordCaret t folds (inList list) big m stop count k)
-
--- what the walk requires of a call that no check refuses
-pub record WordReady (t folds : List ℕ) (spec : KeywordSpec) (k : Caret) (start : ℕ) : Type 0 where
-  pub accepted : Accepted t (here k) start
-  pub folds-fit : foldRefusal folds (rowCount t) ≡ 0
-  pub few : spec .len ≤ 128

@@ -2,23 +2,13 @@
 use crate::Caret;
 use crate::Sought;
 use partners::Partner;
+use positions::Position;
 use scans::Found;
 use text::Line;
 ghost use mathlib.Core.Path.{_≡_};
-ghost use Rattle.motions.specs.Finds.{Fits, partnerTo, landsOn, matchBracket, findCharOnLine};
+ghost use Rattle.motions.specs.Finds.{matchBracket, findCharOnLine};
 
 impl Caret {
-    // The caret at the partner, where there is one.
-    fn at_partner(self, p: Partner) -> Sought
-        ensures { λ r. ⌜ r ≡ partnerTo self p ⌝ }
-    {
-        match p {
-            Partner::There(q) => Sought::Found(self.placed(q.row as usize, q.col as usize)),
-            Partner::None => Sought::Missing(self),
-            Partner::Refused(f) => Sought::Refused(f),
-        }
-    }
-
     // `%`: to the partner of the first round, square or curly bracket at or after the caret in its
     // row. Missing where there is no such bracket, or the first has no partner.
     pub fn match_bracket(self, t: &[u32]) -> Sought
@@ -32,25 +22,16 @@ impl Caret {
             row: self.row as usize,
             start: e.start,
         };
-        let p = brackets::matching::match_bracket_from(t, l, self.col as usize);
-        self.at_partner(p)
-    }
-
-    // The caret at a column that was found in its row.
-    fn at_found(self, f: Found) -> Sought
-        requires { ⌜ Fits f ⌝ }
-        ensures { λ r. ⌜ r ≡ landsOn self f ⌝ }
-    {
-        match f {
-            Found::At(i) => Sought::Found(self.placed(self.row as usize, i)),
-            Found::Nothing => Sought::Missing(self),
+        match brackets::matching::match_bracket_from(t, l, self.col as usize) {
+            Partner::There(q) => Sought::Found(self.placed(q.row as usize, q.col as usize)),
+            Partner::None => Sought::Missing(self),
+            Partner::Refused(f) => Sought::Refused(f),
         }
     }
 
     // `f`, `F`, `t`, `T`: to the next x in the caret's row, or the one before it; with `till` one
-    // place short of it, and with `skip` (the Rust's
-    // `skip_adjacent`) past one that is adjacent. A till that stays
-    // has found it all the same.
+    // place short of it, and with `skip` (the Rust's `skip_adjacent`) past one that is adjacent. A
+    // till that stays has found it all the same.
     pub fn find_char_on_line(
         self,
         t: &[u32],
@@ -61,13 +42,11 @@ impl Caret {
     ) -> Sought
         ensures { λ r. ⌜ r ≡ findCharOnLine (now (t .entry)) x forward till skip self ⌝ }
     {
-        let e = self.enter(t);
-        if e.refusal == 1 {
-            return Sought::Refused(1);
-        }
-        if !chars::is_scalar(x) {
-            return Sought::Refused(2);
-        }
+        let p = Position {
+            row: self.row as usize,
+            col: self.col as usize,
+        };
+        let e = positions::enter_with(t, p, x);
         if e.refusal != 0 {
             return Sought::Refused(e.refusal);
         }
@@ -77,7 +56,9 @@ impl Caret {
         };
         let row = text::offsets::row(t, l);
         let col = self.col as usize;
-        let f = scans::find_on_row(row, col, x, forward, till, skip);
-        self.at_found(f)
+        match scans::find_on_row(row, col, x, forward, till, skip) {
+            Found::At(i) => Sought::Found(self.placed(self.row as usize, i)),
+            Found::Nothing => Sought::Missing(self),
+        }
     }
 }

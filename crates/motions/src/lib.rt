@@ -2,11 +2,12 @@
 // A motion tests its inputs in the order of document 01's refusal table, walks the text, and
 // answers with the new caret. A caret goes in by value, so that the caller's own stands as it did
 // where a call is refused.
-use steps::Entry;
-use steps::Position;
+use positions::Entry;
+use positions::Position;
 ghost use mathlib.Core.Path.{_≡_};
 ghost use Prim.Native.Nat.{_<_, _^_};
-ghost use Rattle.motions.specs.Carets.{placed, entryOf};
+ghost use Rattle.positions.specs.Positions.{entryFolds};
+ghost use Rattle.motions.specs.Carets.{here, placed, entryOf};
 
 mod finds;
 mod rows;
@@ -51,7 +52,18 @@ impl Caret {
             row: self.row as usize,
             col: self.col as usize,
         };
-        steps::enter(t, p)
+        positions::enter(t, p)
+    }
+
+    // The checks of a motion that takes folds: text, caret, and then those (5).
+    pub(crate) fn enter_folds(self, t: &[u32], folds: &[u32]) -> Entry
+        ensures { λ r. ⌜ r ≡ entryFolds (now (t .entry)) (now (folds .entry)) (here self) ⌝ }
+    {
+        let p = Position {
+            row: self.row as usize,
+            col: self.col as usize,
+        };
+        positions::enter_folds(t, folds, p)
     }
 
     // The caret at another row and column.

@@ -3,7 +3,7 @@
 use crate::Caret;
 use crate::Moved;
 use jumps::Jump;
-use steps::Position;
+use positions::Position;
 ghost use mathlib.Core.Path.{_≡_};
 ghost use Rattle.jumps.specs.Jumps.{jumped};
 ghost use Rattle.motions.specs.Carets.{here, leads};
@@ -14,8 +14,8 @@ ghost use Rattle.motions.specs.Sections.{moveSectionEndBackward, moveSec
 ghost use Rattle.motions.specs.Paragraphs.{moveParagraphPrev, moveParagraphNext};
 
 impl Caret {
-    // The checks of a call, and a jump.
-    fn by_jump(self, t: &[u32], j: Jump, count: u32) -> Moved
+    // The checks of a call, and a jump or a step.
+    pub(crate) fn by_jump(self, t: &[u32], j: Jump, count: u32) -> Moved
         ensures { λ r. ⌜ r ≡ leads (now (t .entry)) self (jumped (now (t .entry)) j count
             (here self)) ⌝ }
     {

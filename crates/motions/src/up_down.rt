@@ -7,7 +7,7 @@ use text::Line;
 use wrap::Wrap;
 ghost use mathlib.Core.Path.{_≡_};
 ghost use mathlib.Core.Bool.{true, false};
-ghost use Rattle.motions.specs.UpDown.{aimOf, screenCaret, moveRows, moveScreenRows, Ready};
+ghost use Rattle.motions.specs.UpDown.{aimOf, moveRows, moveScreenRows};
 
 // A sticky column, as the walks take it.
 fn aim_of(s: Sticky) -> vertical::Sticky
@@ -20,8 +20,8 @@ fn aim_of(s: Sticky) -> vertical::Sticky
 }
 
 impl Caret {
-    // Where a vertical motion of an accepted call leads to.
-    fn by_rows(
+    // The checks of a vertical motion, 1 to 6, and the motion.
+    fn upright(
         self,
         t: &[u32],
         folds: &[u32],
@@ -30,15 +30,20 @@ impl Caret {
         down: bool,
         count: u32,
         tabstop: u32,
-        start: usize,
-    ) -> Caret
-        requires { ⌜ Ready (now t) (now folds) tabstop self start ⌝ }
-        ensures { λ r. ⌜ r ≡ screenCaret (now (t .entry)) (now (folds .entry)) tabstop mode width
+    ) -> Moved
+        ensures { λ r. ⌜ r ≡ moveScreenRows (now (t .entry)) (now (folds .entry)) tabstop mode width
             down count self ⌝ }
     {
+        let e = self.enter_folds(t, folds);
+        if e.refusal != 0 {
+            return Moved::Refused(e.refusal);
+        }
+        if tabstop > 1000 {
+            return Moved::Refused(6);
+        }
         let l = Line {
             row: self.row as usize,
-            start: start,
+            start: e.start,
         };
         let s = self.sticky;
         let a = aim_of(s);
@@ -55,39 +60,11 @@ impl Caret {
             width,
         );
         let c = self.placed(p.row, p.col);
-        Caret {
+        Moved::To(Caret {
             row: c.row,
             col: c.col,
             sticky: Sticky::At(p.want),
-        }
-    }
-
-    // The checks of a vertical motion, 1 to 6, and the motion.
-    fn upright(
-        self,
-        t: &[u32],
-        folds: &[u32],
-        mode: Wrap,
-        width: u16,
-        down: bool,
-        count: u32,
-        tabstop: u32,
-    ) -> Moved
-        ensures { λ r. ⌜ r ≡ moveScreenRows (now (t .entry)) (now (folds .entry)) tabstop mode width
-            down count self ⌝ }
-    {
-        let e = self.enter(t);
-        if e.refusal != 0 {
-            return Moved::Refused(e.refusal);
-        }
-        let f = folds::fold_refusal(folds, text::row_count(t));
-        if f != 0 {
-            return Moved::Refused(f);
-        }
-        if tabstop > 1000 {
-            return Moved::Refused(6);
-        }
-        Moved::To(self.by_rows(t, folds, mode, width, down, count, tabstop, e.start))
+        })
     }
 
     // `k`: so many visible rows up, or the first that is left.

@@ -8,36 +8,9 @@ use turns::Motion;
 ghost use mathlib.Core.Path.{_≡_};
 ghost use mathlib.Core.Bool.{false};
 ghost use mathlib.Core.List.{[]};
-ghost use Rattle.tokens.specs.Tokens.{anyToken};
-ghost use Rattle.keywords.specs.Table.{kept};
-ghost use Rattle.motions.specs.WordMoves.{WordReady, wordCaret, moveWord};
+ghost use Rattle.motions.specs.WordMoves.{moveWord};
 
 impl Caret {
-    // Where a word motion of an accepted call leads to.
-    fn by_word(
-        self,
-        t: &[u32],
-        folds: &[u32],
-        spec: KeywordSpec,
-        big: bool,
-        m: Motion,
-        stop: bool,
-        count: u32,
-        start: usize,
-    ) -> Caret
-        requires { ⌜ WordReady (now t) (now folds) spec self start ⌝ }
-        ensures { λ r. ⌜ r ≡ wordCaret (now (t .entry)) (now (folds .entry))
-            (anyToken (kept spec)) big m stop count self ⌝ }
-    {
-        let p = Spot {
-            row: self.row as usize,
-            at: start + self.col as usize,
-        };
-        let r = words::word_motion(t, folds, spec, big, m, stop, count, p);
-        let l = text::offsets::up(t, r.row, r.at, 0);
-        self.placed(r.row, r.at - l.start)
-    }
-
     // The checks of a word motion, 1 to 5, 7 and 8, and the motion.
     fn word(
         self,
@@ -52,20 +25,22 @@ impl Caret {
         ensures { λ r. ⌜ r ≡ moveWord (now (t .entry)) (now (folds .entry))
             (now (list .entry)) big m stop count self ⌝ }
     {
-        let e = self.enter(t);
+        let e = self.enter_folds(t, folds);
         if e.refusal != 0 {
             return Moved::Refused(e.refusal);
-        }
-        let f = folds::fold_refusal(folds, text::row_count(t));
-        if f != 0 {
-            return Moved::Refused(f);
         }
         let p = KeywordSpec::parse(list);
         if p.refusal != 0 {
             return Moved::Refused(p.refusal);
         }
-        let spec = p.spec;
-        Moved::To(self.by_word(t, folds, spec, big, m, stop, count, e.start))
+        let at = e.start + self.col as usize;
+        let from = Spot {
+            row: self.row as usize,
+            at: at,
+        };
+        let r = words::word_motion(t, folds, p.spec, big, m, stop, count, from);
+        let l = text::offsets::up(t, r.row, r.at, 0);
+        Moved::To(self.placed(r.row, r.at - l.start))
     }
 
     // `w`, `W`: the start of the next word.

@@ -5,7 +5,9 @@ use Rattle.chars.specs.White.{whites, isWhite}
 use Rattle.chars.specs.Width.{zeroWidths, doubleWidths, widthOf}
 use Rattle.row.specs.Row.{all, rowRefusal}
 use Rattle.row.specs.Row.{columnOf as columnAt}
-use Rattle.columns.specs.Columns.{columnRefusal, stopOf, visualFrom, charFrom, leadingFrom}
+use Rattle.tabstops.specs.Cells.{columnRefusal, stopOf}
+use Rattle.tabstops.specs.Indents.{leadingFrom}
+use Rattle.columns.specs.Columns.{visualFrom, charFrom}
 use Rattle.cells.specs.Cells.{fits}
 use Rattle.cuts.specs.Segments.{afterWhite, firstSegment}
 use Rattle.wrap.specs.Segments.{segmentsFrom}
@@ -38,11 +40,11 @@ use Rattle.vertical.specs.Moves.{landed}
 use Rattle.screen.specs.Screen.{stepScreen}
 use Rattle.strides.specs.Words.{nextWordStart, prevWordStart, nextWordEnd, prevWordEnd, atWordEnd}
 use Rattle.turns.specs.Rounds.{roundOf, counted, wordMotion}
-use Rattle.steps.specs.Positions.{positionRefusal, lowest}
+use Rattle.positions.specs.Positions.{positionRefusal, lowest, orSought}
 use Rattle.steps.specs.Steps.{rounds, spaceFwd, backspaceBack}
 use Rattle.motions.specs.Carets.{moving}
 use Rattle.lines.specs.Margins.{indentOf, solidOf}
-use Rattle.motions.specs.Finds.{partnerTo, seeking, landsOn, orSought}
+use Rattle.motions.specs.Finds.{partnerTo, seeking, landsOn}
 use Rattle.text_calls.specs.Carets.{moved}
 use Rattle.row_calls.specs.Characters.{fact}
 use Rattle.row_calls.specs.Lists.{tokenCount, byTable, inTable, keyword}

@@ -19,13 +19,14 @@ use Rattle.brackets.specs.Find.{keyFrom}
 use Rattle.pairing.proofs.Demand.{refuses, unique}
 use Rattle.pairing.proofs.Jump.{key}
 use Rattle.scans.proofs.Finds.{find-within}
-use Rattle.steps.proofs.Checks.{inside, lowest-none}
+use Rattle.positions.specs.Positions.{refusalWith}
+use Rattle.positions.proofs.Checks.{inside, lowest-none, sought-none}
 use Rattle.motions.specs.declared.Caret.{Caret}
 use Rattle.motions.specs.declared.Moved.the-variants.{To}
 use Rattle.motions.specs.declared.Sought.{Sought}
 use Rattle.motions.specs.declared.Sought.the-variants.{Refused as Sought·Refused}
 use Rattle.motions.specs.Carets.{here, Inside, caretRefusal, refusalOf}
-use Rattle.motions.specs.Finds.{matchBracket, findCharOnLine, seeking, partnerTo, landsOn, orSought}
+use Rattle.motions.specs.Finds.{matchBracket, findCharOnLine, seeking, partnerTo, landsOn}
 use Rattle.text_calls.specs.Seeks.{seek}
 use Rattle.promises.specs.Positions.{inMoved, inSought, inPartner, In, AllIn}
 use Rattle.promises.proofs.Landings.{either}
@@ -69,19 +70,10 @@ module _ (t : List ℕ) where
     found-sits (At i) h w = (record { in-row = w .in-row; in-col = h i refl }, tt)
     found-sits Nothing h w = stands k w
 
-    or-none : (f : ℕ) (b : Bool) → orSought f b ≡ 0 → f ≡ 0
-    unfolding orSought
-    or-none f b e = go (eqb f 1) b e
-      where
-        go : (c b : Bool) → cond c 1 (cond b f 2) ≡ 0 → f ≡ 0
-        go true b e = absurd (omega arith)
-        go false true e = e
-        go false false e = absurd (omega arith)
-
     find-sits : (x : ℕ) (forward till skip : Bool) → Sits (findCharOnLine t x forward till skip k)
     find-sits x forward till skip =
-        seeking-sits (orSought (refusalOf t k) (isScalar x)) _
-        (λ z. let w = inside t (here k) (or-none (refusalOf t k) (isScalar x) z) in
+        seeking-sits (refusalWith t (here k) x) _
+        (λ z. let w = inside t (here k) (sought-none (refusalOf t k) (isScalar x) z) in
         found-sits (findOnRow (rowAt t (k .row)) (k .col) x forward till skip) (λ i e. find-within (rowAt t (k .row)) (k .col) x forward till skip (w .in-col) e) w)
 
     pub seek-sits : (op x : ℕ) → Sits (seek op x k t)

@@ -5,7 +5,8 @@ use mathlib.Core.Bool.{cond}
 use lib.Dec.{eqb}
 use Rattle.row.specs.declared.Column.{Column}
 use Rattle.row.specs.declared.Column.the-variants.{At, Refused as Column·Refused}
-use Rattle.columns.specs.Calls.{visualColToCharCol, charColToVisualCol, cursorVisualCol, leadingVisualWidth}
+use Rattle.tabstops.specs.Indents.{leadingVisualWidth}
+use Rattle.columns.specs.Calls.{visualColToCharCol, charColToVisualCol, cursorVisualCol}
 use Rattle.lent.specs.declared.Told.{Told}
 use Rattle.lent.specs.declared.Told.the-variants.{Value, Refused}
 use Rattle.lent.specs.Reply.{Reply, told}

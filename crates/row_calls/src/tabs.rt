@@ -25,7 +25,7 @@ fn column_by(op: u32, row: &[u32], col: u32, tabstop: u32) -> Told
         0 => told_column(columns::visual_col_to_char_col(row, col, tabstop)),
         1 => told_column(columns::char_col_to_visual_col(row, col, tabstop)),
         2 => told_column(columns::cursor_visual_col(row, col, tabstop)),
-        3 => told_column(columns::leading_visual_width(row, tabstop)),
+        3 => told_column(tabstops::leading_visual_width(row, tabstop)),
         _ => Told::Refused(100),
     }
 }

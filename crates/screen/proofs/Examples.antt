@@ -5,7 +5,8 @@ use mathlib.Core.Bool.{true, false}
 use Prim.Native.Nat.{ℕ}
 use Rattle.chars.specs.White.{whites, isWhite}
 use Rattle.chars.specs.Width.{zeroWidths, doubleWidths, widthOf}
-use Rattle.columns.specs.Columns.{stopOf, visualFrom, charFrom}
+use Rattle.tabstops.specs.Cells.{stopOf}
+use Rattle.columns.specs.Columns.{visualFrom, charFrom}
 use Rattle.wrap.specs.declared.Wrap.the-variants.{Char}
 use Rattle.cells.specs.Cells.{fits}
 use Rattle.cuts.specs.Segments.{afterWhite, firstSegment}

@@ -26,7 +26,8 @@ use Rattle.vertical.specs.Moves.{moveVertical}
 use Rattle.visible.proofs.Visible.{toward-within}
 use Rattle.vertical.proofs.Inside.{Inside, rounds-keep, rows-inside}
 use Rattle.screen.specs.declared.Place.{Place}
-use Rattle.screen.specs.Screen.{segmentCount, aheadOf, seatOf, onSegment, entered, stepScreen, jumpedTo, outOf, jumped}
+use Rattle.segments.specs.Parts.{segmentCount, aheadOf}
+use Rattle.screen.specs.Screen.{seatOf, onSegment, entered, stepScreen, jumpedTo, outOf, jumped}
 use Rattle.screen.specs.Screen.{screenFrom, screenTarget, moveScreen}
 use Rattle.screen.proofs.Spans.{end-within}
 

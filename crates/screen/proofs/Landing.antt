@@ -10,13 +10,14 @@ use Rattle.text.specs.Text.{rowCount, rowAt, rowLen}
 use Rattle.folds.specs.declared.Visible.the-variants.{Row, NoRow}
 use Rattle.visible.specs.Rounds.{rounds}
 use Rattle.visible.specs.Visible.{toward}
-use Rattle.screen.specs.declared.Part.{Part}
+use Rattle.segments.specs.declared.Part.{Part}
+use Rattle.segments.specs.Parts.{segmentCount, aheadOf, clampTo, modeOf, layOf, partAt, partFor}
+use Rattle.segments.proofs.Seats.{Laid, laid, seat-last, seat-within, start-within}
+use Rattle.segments.proofs.Finding.{few-segments}
 use Rattle.screen.specs.declared.Place.{Place}
 use Rattle.screen.specs.declared.Seat.{Seat}
-use Rattle.screen.specs.Screen.{segmentCount, aheadOf, clampTo, seatOf, stepScreen, screenFrom}
-use Rattle.screen.specs.Walks.{modeOf, layOf, partAt, partFor, placeAt, aheadAt, seatAt}
-use Rattle.screen.proofs.Seats.{Laid, laid, seat-last, seat-within, start-within}
-use Rattle.screen.proofs.Finding.{few-segments}
+use Rattle.screen.specs.Screen.{seatOf, stepScreen, screenFrom}
+use Rattle.screen.specs.Walks.{placeAt, aheadAt, seatAt}
 use Rattle.screen.proofs.ScreenRounds.{ahead-within, ahead-in, same-on, same-off, stuck}
 
 module _ (t : List ℕ) (word : Bool) (width : ℕ) (down : Bool) (r : ℕ) {line : List ℕ} (is : line ≡ rowAt t r) where

@@ -1,7 +1,5 @@
 -- Laws of the screen walks, which the proofs of this crate and of the crates above it cite.
-pub mod Seats
 pub mod ScreenRounds
-pub mod Finding
 pub mod Walking
 pub mod Landing
 pub mod Spans

@@ -13,10 +13,11 @@ use Rattle.folds.specs.declared.Visible.the-variants.{Row, NoRow}
 use Rattle.screen.specs.declared.Place.{Place}
 use Rattle.visible.specs.Rounds.{rounds, shift}
 use Rattle.visible.specs.Visible.{toward}
-use Rattle.screen.specs.Screen.{segmentCount, aheadOf, onSegment, entered, seatOf, stepScreen}
+use Rattle.segments.specs.Parts.{segmentCount, aheadOf}
+use Rattle.screen.specs.Screen.{onSegment, entered, seatOf, stepScreen}
 use Rattle.screen.specs.Walks.{placeAt, aheadAt}
 use Rattle.visible.proofs.Rounds.{rounds-on, rounds-still, rounds-add}
-use Rattle.screen.proofs.Seats.{Laid, seat-is, seat-within}
+use Rattle.segments.proofs.Seats.{Laid, seat-is, seat-within}
 
 -- the segments ahead tell the segment, and the other way round
 pub ahead-within : (down : Bool) (n a : ℕ) → a < n → aheadOf down n a < n

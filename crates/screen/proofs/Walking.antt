@@ -12,9 +12,10 @@ use Rattle.text.proofs.Stands.{line-there}
 use Rattle.screen.specs.declared.Spot.{Spot}
 use Rattle.visible.specs.Rounds.{rounds}
 use Rattle.visible.specs.Visible.{toward}
-use Rattle.screen.specs.Screen.{segmentCount, stepScreen}
-use Rattle.screen.specs.Walks.{layOf, modeOf, placeAt, IsSpot, Leads}
-use Rattle.screen.proofs.Seats.{laid}
+use Rattle.segments.specs.Parts.{segmentCount, layOf, modeOf}
+use Rattle.segments.proofs.Seats.{laid}
+use Rattle.screen.specs.Screen.{stepScreen}
+use Rattle.screen.specs.Walks.{placeAt, IsSpot, Leads}
 use Rattle.screen.proofs.ScreenRounds.{rounds-in, crosses, stops}
 
 -- n rounds from the first spot are `left` rounds from this one

@@ -1,10 +1,10 @@
 -- `gj` and `gk` under wrap: `move_screen_vertical` and `step_screen` of motions.rs, round by round. `lay` is how a row is broken: start, end, start, end ..
--- Definitions only; the laws are in `proofs/Seats.antt` and `proofs/ScreenRounds.antt`. Assumes nothing.
-use Prim.Native.Nat.{ℕ, _+_, _-_, _*_, _/_, min, max}
+-- Definitions only; the laws are in `proofs/ScreenRounds.antt`. Assumes nothing.
+use Prim.Native.Nat.{ℕ, _+_, _-_, _*_, min, max}
 use mathlib.Core.List.{List}
 use mathlib.Core.Bool.{Bool, cond, _||_}
 use lib.Dec.{eqb, ltb}
-use lib.ListN.{length, getD}
+use lib.ListN.{getD}
 use Rattle.chars.specs.White.{isWhite}
 use Rattle.chars.specs.Width.{widthOf}
 use Rattle.wrap.specs.declared.Wrap.{Wrap}
@@ -16,23 +16,13 @@ use Rattle.folds.specs.declared.Span.{Span}
 use Rattle.folds.specs.declared.Span.the-variants.{Of, NoSpan}
 use Rattle.folds.specs.declared.Visible.{Visible}
 use Rattle.folds.specs.declared.Visible.the-variants.{Row, NoRow}
+use Rattle.segments.specs.Parts.{clampTo, segmentCount, aheadOf, offsetIn}
 use Rattle.screen.specs.declared.Place.{Place}
 use Rattle.vertical.specs.declared.Sticky.{Sticky}
 use Rattle.vertical.specs.declared.Target.{Target}
 use Rattle.visible.specs.Rounds.{rounds, shift}
 use Rattle.visible.specs.Visible.{toward, deltaOf}
 use Rattle.vertical.specs.Moves.{lastCol, wantedCol, moveVertical}
-
--- `clamp_to_segment`: so many characters behind the segment's start, within the segment and the row of `len` characters
-abbrev pub clampTo : ℕ → ℕ → ℕ → ℕ → ℕ
-clampTo start end offset len = max (min (min (start + offset) (cond (ltb start end) (end - 1) start)) (len - 1)) (min start (len - 1))
-
--- how many segments there are, and how many come after segment j, down or up; so also the segment that has so many ahead of it
-abbrev pub segmentCount : List ℕ → ℕ
-segmentCount segs = length segs / 2
-
-abbrev pub aheadOf : Bool → ℕ → ℕ → ℕ
-aheadOf down count j = cond down (count - 1 - j) j
 
 -- the place at that offset in segment j of a row
 abbrev pub onSegment : List ℕ → (List ℕ → List ℕ) → ℕ → ℕ → ℕ → Place
@@ -63,10 +53,6 @@ outOf t down p (Of first last) = jumpedTo t p (cond down last first)
 
 abbrev pub jumped : List ℕ → List ℕ → Bool → Place → Place
 jumped t folds down p = outOf t down p (closedFoldAt folds (rowCount t) (contentRows t) (p .row))
-
--- the character offset of a column in its segment, which all rounds keep
-abbrev pub offsetIn : List ℕ → List ℕ → ℕ → ℕ
-offsetIn segs row col = col - getD segs (2 * segmentIndex segs col) 0
 
 -- the rounds of a count
 abbrev pub screenFrom : List ℕ → List ℕ → (List ℕ → List ℕ) → Bool → ℕ → Place → Place

@@ -1,42 +1,21 @@
--- What the walks of `src/screen.rt` require and answer: segments by their number, in a row that is broken by characters or by words.
+-- What the walks of `src/walks.rt` require and answer, in rows that are broken by characters or by words.
 -- Definitions only. Assumes nothing.
-use Prim.Native.Nat.{ℕ, _+_, _-_, _*_, _≤_, _<_, min}
+use Prim.Native.Nat.{ℕ, _-_, _*_, _≤_, _<_}
 use mathlib.Core.Path.{_≡_}
 use mathlib.Core.List.{List}
-use mathlib.Core.Bool.{Bool, cond}
+use mathlib.Core.Bool.{Bool}
 use lib.ListN.{length, getD}
-use Rattle.chars.specs.White.{isWhite}
-use Rattle.chars.specs.Width.{widthOf}
-use Rattle.wrap.specs.declared.Wrap.{Wrap}
-use Rattle.wrap.specs.declared.Wrap.the-variants.{Char, Word}
-use Rattle.wrap.specs.Modes.{segmentsOf}
-use Rattle.cells.specs.Offsets.{segmentIndex}
 use Rattle.cuts.specs.Lent.{Tables}
 use Rattle.text.specs.Text.{rowCount, rowAt}
 use Rattle.text.specs.Offsets.{Stands}
 use Rattle.folds.specs.Folds.{foldRefusal}
 use Rattle.screen.specs.declared.Jump.{Jump}
-use Rattle.screen.specs.declared.Part.{Part}
 use Rattle.screen.specs.declared.Seat.{Seat}
 use Rattle.screen.specs.declared.Spot.{Spot}
 use Rattle.screen.specs.declared.Place.{Place}
 use Rattle.visible.specs.Rounds.{rounds}
-use Rattle.screen.specs.Screen.{segmentCount, aheadOf, onSegment, seatOf, stepScreen}
-
-abbrev pub modeOf : Bool → Wrap
-modeOf word = cond word Word Char
-
--- how a row is broken
-abbrev pub layOf : Bool → ℕ → List ℕ → List ℕ
-layOf word width row = segmentsOf widthOf isWhite (modeOf word) width row
-
--- segment j with its start and end
-abbrev pub partAt : List ℕ → ℕ → Part
-partAt segs j = record { index = j; start = getD segs (2 * j) 0; end = getD segs (2 * j + 1) 0 }
-
--- the segment of a column, or an earlier one that has the number
-abbrev pub partFor : List ℕ → ℕ → ℕ → Part
-partFor segs col index = partAt segs (min index (segmentIndex segs col))
+use Rattle.segments.specs.Parts.{segmentCount, aheadOf}
+use Rattle.screen.specs.Screen.{onSegment, seatOf, stepScreen}
 
 -- the place in a row with so many segments ahead, and how many a place has
 abbrev pub placeAt : List ℕ → (List ℕ → List ℕ) → Bool → ℕ → ℕ → ℕ → Place

@@ -2,7 +2,6 @@
 // place of an accepted text to the row and column that the motion leads to. From motions.rs,
 // "Internals". Segments are walked and never stored.
 mod jumps;
-mod segments;
 mod walks;
 pub mod wrapped;
 
@@ -10,13 +9,6 @@ pub mod wrapped;
 pub struct Place {
     pub row: usize,
     pub col: usize,
-}
-
-// A segment of a row: its number, and where it starts and ends in the row.
-pub struct Part {
-    pub index: usize,
-    pub start: usize,
-    pub end: usize,
 }
 
 // A place under wrap: its row with the row's start, and how many segments lie ahead of it in the

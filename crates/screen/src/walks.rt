@@ -4,7 +4,6 @@
 use crate::Place;
 use crate::Seat;
 use crate::Spot;
-use crate::segments;
 use folds::Visible;
 use text::Line;
 use text::minus;
@@ -13,11 +12,12 @@ ghost use mathlib.Core.Path.{_≡_};
 ghost use Prim.Native.Nat.{_≤_, _<_};
 ghost use lib.ListN.{length};
 ghost use Rattle.cuts.specs.Lent.{Tables};
+ghost use Rattle.segments.specs.Parts.{layOf};
 ghost use Rattle.text.specs.Text.{rowCount};
 ghost use Rattle.text.specs.Offsets.{IsLine, lineAt};
 ghost use Rattle.visible.specs.Rounds.{rounds};
 ghost use Rattle.screen.specs.Screen.{stepScreen, screenFrom};
-ghost use Rattle.screen.specs.Walks.{layOf, placeAt, seatAt, Ready, IsSpot, Leads};
+ghost use Rattle.screen.specs.Walks.{placeAt, seatAt, Ready, IsSpot, Leads};
 
 // Another row of the text, from a row with its start: only what lies between them is walked.
 pub fn line_toward(t: &[u32], from: Line, row: usize) -> Line

@@ -12,7 +12,7 @@ ghost use mathlib.Core.Path.{_≡_};
 ghost use Prim.Native.Nat.{_<_};
 ghost use Rattle.vertical.specs.Moves.{Accepted};
 ghost use Rattle.screen.specs.Screen.{screenTarget, moveScreen};
-ghost use Rattle.screen.specs.Walks.{layOf};
+ghost use Rattle.segments.specs.Parts.{layOf};
 
 // The target where rows are broken: by words, or by characters.
 fn move_broken(

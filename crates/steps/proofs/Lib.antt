@@ -1,5 +1,4 @@
--- Laws of positions and steps, which the proofs of this crate and of the crates above it cite.
-pub mod Checks
+-- Laws of steps, which the proofs of this crate and of the crates above it cite.
 pub mod Rounds
 pub mod Stepping
 pub mod Staying

@@ -4,7 +4,7 @@ use mathlib.Core.Path.{_≡_, refl, ap, _∙_}
 use Prim.Native.Nat.{ℕ, zero, suc, _+_, _-_, _≤_, _<_}
 use native.Mathlib.Nat.{zero-add}
 use native.Mathlib.Omega.{arith}
-use Rattle.steps.specs.declared.Position.{Position}
+use Rattle.positions.specs.declared.Position.{Position}
 use Rattle.steps.specs.Steps.{rounds}
 
 module _ (f : Position → Position) where

@@ -12,11 +12,11 @@ use Rattle.text.specs.Text.{rowCount, rowAt, rowLen}
 use Rattle.text.proofs.Parts.{count-le, row-fits}
 use Rattle.lines.specs.Margins.{indentOf, solidOf}
 use Rattle.lines.proofs.Edging.{solid-le}
-use Rattle.steps.specs.declared.Position.{Position}
+use Rattle.positions.specs.declared.Position.{Position}
 use Rattle.steps.specs.declared.Step.{Step}
 use Rattle.steps.specs.declared.Step.the-variants.{Left, RightInLine, RightToEnd, LineStart, LineEnd, GotoColumn, FirstNonBlank, LastNonBlank}
 use Rattle.steps.specs.declared.Step.the-variants.{SpaceFwd, BackspaceBack}
-use Rattle.steps.specs.Positions.{position, inRow, Accepted, Inside}
+use Rattle.positions.specs.Positions.{position, inRow, Accepted, Inside}
 use Rattle.steps.specs.Steps.{rounds, spaceFwd, backspaceBack, stepped}
 
 -- an accepted position, and the numbers of any in its text

@@ -13,8 +13,8 @@ use Rattle.text.specs.Offsets.{rowStart, Stands, lineAt}
 use Rattle.text.proofs.At.{on-char, on-nl, on-end, on-last, after-nl}
 use Rattle.text.proofs.Before.{on-first, behind-char}
 use Rattle.text.proofs.Stands.{stands-at, step-char, back-nl}
-use Rattle.steps.specs.declared.Position.{Position}
-use Rattle.steps.specs.Positions.{position}
+use Rattle.positions.specs.declared.Position.{Position}
+use Rattle.positions.specs.Positions.{position}
 use Rattle.steps.specs.Steps.{rounds, spaceFwd, backspaceBack}
 use Rattle.steps.proofs.Rounds.{rounds-on, rounds-none, rounds-still}
 

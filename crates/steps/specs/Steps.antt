@@ -6,11 +6,11 @@ use mathlib.Core.Bool.{cond}
 use lib.Dec.{ltb}
 use Rattle.text.specs.Text.{rowCount, rowLen}
 use Rattle.lines.specs.Margins.{lastCol, firstNonBlank, lastNonBlank}
-use Rattle.steps.specs.declared.Position.{Position}
+use Rattle.positions.specs.declared.Position.{Position}
 use Rattle.steps.specs.declared.Step.{Step}
 use Rattle.steps.specs.declared.Step.the-variants.{Left, RightInLine, RightToEnd, LineStart, LineEnd, GotoColumn, FirstNonBlank, LastNonBlank}
 use Rattle.steps.specs.declared.Step.the-variants.{SpaceFwd, BackspaceBack}
-use Rattle.steps.specs.Positions.{position, inRow}
+use Rattle.positions.specs.Positions.{position, inRow}
 
 -- count 0 acts as 1
 abbrev pub times : ℕ → ℕ

@@ -1,9 +1,9 @@
 // One character on or back, from row to row. The walks go on offsets, a step for each round, and
 // stop where the text does, whatever the count.
-use crate::Position;
+use positions::Position;
 use text::most;
 ghost use mathlib.Core.Path.{_≡_};
-ghost use Rattle.steps.specs.Positions.{Accepted};
+ghost use Rattle.positions.specs.Positions.{Accepted};
 ghost use Rattle.steps.specs.Steps.{times, rounds, spaceFwd, backspaceBack};
 
 pub fn space_fwd(t: &[u32], p: Position, begin: usize, count: u32) -> Position

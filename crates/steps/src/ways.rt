@@ -1,10 +1,10 @@
 // Where each step leads to.
-use crate::Position;
 use crate::Step;
 use crate::walks::backspace_back;
 use crate::walks::space_fwd;
 use lines::margins::first_non_blank;
 use lines::margins::last_non_blank;
+use positions::Position;
 use text::Line;
 use text::least;
 use text::minus;
@@ -14,7 +14,7 @@ ghost use mathlib.Core.Path.{_≡_};
 ghost use Prim.Native.Nat.{min};
 ghost use Rattle.text.specs.Offsets.{IsLine};
 ghost use Rattle.lines.specs.Margins.{lastCol};
-ghost use Rattle.steps.specs.Positions.{inRow, Accepted};
+ghost use Rattle.positions.specs.Positions.{inRow, Accepted};
 ghost use Rattle.steps.specs.Steps.{stepped};
 
 // The position at another column of its row.

@@ -9,7 +9,7 @@ use lib.ListN.{length, take, drop}
 use borrow.Author.Tests.{le-ltb, eq-eqb}
 use Rattle.chars.specs.Scalar.{isScalar}
 use Rattle.row.specs.Row.{all, rowRefusal}
-use Rattle.columns.specs.Columns.{columnRefusal}
+use Rattle.tabstops.specs.Cells.{columnRefusal}
 use Rattle.text.specs.Text.{any, notScalar, isBreak, textRefusal, rowCount, rowAt, rowLen}
 use Rattle.folds.proofs.Hiding.{or-right}
 use Rattle.text.proofs.Parts.{row-part, row-fits}

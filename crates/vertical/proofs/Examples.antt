@@ -3,7 +3,8 @@ use mathlib.Core.Path.{_≡_, refl}
 use mathlib.Core.List.{[], _∷_}
 use mathlib.Core.Bool.{true, false}
 use Rattle.chars.specs.Width.{zeroWidths, doubleWidths, widthOf}
-use Rattle.columns.specs.Columns.{stopOf, visualFrom, charFrom}
+use Rattle.tabstops.specs.Cells.{stopOf}
+use Rattle.columns.specs.Columns.{visualFrom, charFrom}
 use Rattle.text.specs.Text.{onFirst, rows}
 use Rattle.folds.specs.Folds.{anyFold, visibleFrom, prevVisible}
 use Rattle.vertical.specs.declared.Sticky.the-variants.{Absent}

@@ -11,7 +11,7 @@ use Rattle.text.specs.Offsets.{lineAt}
 use Rattle.text.specs.declared.Line.{Line}
 use Rattle.text.proofs.Stands.{line-there}
 use Rattle.text.proofs.Content.{content-near}
-use Rattle.steps.specs.Positions.{position}
+use Rattle.positions.specs.Positions.{position}
 use Rattle.jumps.proofs.paragraphs.down_at.Statement.{statement}
 use Rattle.jumps.proofs.paragraphs.down_at.Tie as tie
 

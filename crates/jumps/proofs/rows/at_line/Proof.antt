@@ -2,7 +2,7 @@
 -- Assumes nothing.
 use mathlib.Core.Path.{ap}
 use borrow.Author.Needs.{needs}
-use Rattle.steps.specs.Positions.{position}
+use Rattle.positions.specs.Positions.{position}
 use Rattle.jumps.proofs.rows.at_line.Statement.{statement}
 use Rattle.jumps.proofs.rows.at_line.Tie as tie
 

@@ -4,7 +4,7 @@ use Prim.Native.Nat.{ℕ}
 use mathlib.Core.Path.{_≡_, ap, _∙_}
 use native.Mathlib.Omega.{arith}
 use borrow.Author.Needs.{needs}
-use Rattle.steps.specs.Positions.{position}
+use Rattle.positions.specs.Positions.{position}
 use Rattle.lines.specs.Sections.{sectionUp}
 use Rattle.jumps.proofs.sections.section_back.Statement.{statement}
 use Rattle.jumps.proofs.sections.section_back.Tie as tie

@@ -5,7 +5,7 @@ use Rattle.text.specs.Text.{contentRows}
 use mathlib.Core.Path.{_≡_, ap, _∙_}
 use native.Mathlib.Omega.{arith}
 use borrow.Author.Needs.{needs}
-use Rattle.steps.specs.Positions.{position}
+use Rattle.positions.specs.Positions.{position}
 use Rattle.lines.specs.Sections.{sectionDown}
 use Rattle.jumps.proofs.sections.section_on.Statement.{statement}
 use Rattle.jumps.proofs.sections.section_on.Tie as tie

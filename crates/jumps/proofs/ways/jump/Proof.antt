@@ -3,7 +3,7 @@ use Prim.Native.Nat.{ℕ}
 use mathlib.Core.List.{List}
 use mathlib.Core.Path.{_≡_, ap, sym, _∙_}
 use borrow.Author.Needs.{needs}
-use Rattle.steps.specs.declared.Position.{Position}
+use Rattle.positions.specs.declared.Position.{Position}
 use Rattle.jumps.specs.declared.Jump.{Jump}
 use Rattle.jumps.specs.Jumps.{jumped}
 use Rattle.jumps.proofs.ways.jump.Statement.{statement}
@@ -68,6 +68,11 @@ returns-11 c =
     let a = c .before .before .before .before .args in
     told (a .t .now) (a .count) (a .p) _ (c .before .enum-told11 .given .1) (c .paragraph-next .ensures)
 
+returns-12 : tie.Need-returns-12
+returns-12 c =
+    let a = c .before .before .before .before .before .args in
+    told (a .t .now) (a .count) (a .p) _ (c .before .before .j .given .1) (c .step .ensures)
+
 pub jump-spec : {M : Type 1} → statement M
 jump-spec =
     tie.close
@@ -83,4 +88,5 @@ jump-spec =
     (λ c. search needs) (λ c κs. search needs)
     (λ c. search needs) (λ c κs. search needs)
     (λ c. search needs) (λ c κs. search needs)
-    returns returns-2 returns-3 returns-4 returns-5 returns-6 returns-7 returns-8 returns-9 returns-10 returns-11)
+    (λ c. search needs) (λ c κs. search needs)
+    returns returns-2 returns-3 returns-4 returns-5 returns-6 returns-7 returns-8 returns-9 returns-10 returns-11 returns-12)

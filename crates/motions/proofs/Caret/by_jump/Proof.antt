@@ -1,7 +1,7 @@
 -- `Caret::by_jump` meets its contract: the checks, then the jump. Assumes nothing.
 use mathlib.Core.Path.{ap, _∙_}
 use borrow.Author.Needs.{needs}
-use Rattle.steps.proofs.Checks.{entered}
+use Rattle.positions.proofs.Checks.{entered}
 use Rattle.steps.proofs.Staying.{accepted-in}
 use Rattle.jumps.proofs.Staying.{jumped-in}
 use Rattle.motions.specs.Carets.{here, put}

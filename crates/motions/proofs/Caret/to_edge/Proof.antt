@@ -4,7 +4,7 @@ use borrow.Author.Needs.{needs}
 use Rattle.text.specs.declared.Line.{Line}
 use Rattle.text.proofs.Stands.{line-there}
 use Rattle.vertical.proofs.Edges.{viewport-within}
-use Rattle.steps.proofs.Checks.{entered}
+use Rattle.positions.proofs.Checks.{entered}
 use Rattle.jumps.specs.Rows.{atRow}
 use Rattle.jumps.proofs.Staying.{row-in}
 use Rattle.motions.specs.Carets.{here, put}

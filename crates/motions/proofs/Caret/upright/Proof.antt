@@ -1,8 +1,11 @@
--- `Caret::upright` meets its contract: the checks in the table's order, and then the walk. Assumes nothing.
-use mathlib.Core.Path.{ap, _∙_}
+-- `Caret::upright` meets its contract: the checks in the table's order, then the walk, whose target becomes a caret. Assumes nothing.
+use mathlib.Core.Path.{ap, refl, _∙_}
+use native.Mathlib.Omega.{arith}
 use borrow.Author.Needs.{needs}
-use Rattle.folds.specs.Folds.{foldRefusal}
-use Rattle.motions.proofs.Upright.{upright-caret, upright-folds, upright-stop, upright-ready, upright-to}
+use Rattle.screen.specs.Screen.{moveScreen}
+use Rattle.motions.specs.UpDown.{stopRefusal}
+use Rattle.motions.proofs.Refusing.{refused-first, refused-last, refused-none}
+use Rattle.motions.proofs.Upright.{stop-refused, stop-fits, upright-ready, target-fits, target-caret}
 use Rattle.motions.proofs.Caret.upright.Statement.{statement}
 use Rattle.motions.proofs.Caret.upright.Tie as tie
 
@@ -10,46 +13,45 @@ returns : tie.Need-returns
 returns c =
     let n = c .before .before in
     let a = n .before .before .before .args in
-    upright-caret (a .t .now) (a .folds .now) (a .tabstop) (a .self) _ (n .enter .ensures) _ (c .if1 .taken)
+    refused-first (a .t .now) (a .folds .now) (a .self) (stopRefusal (a .tabstop)) _ (n .enter-folds .ensures) _ (c .if1 .taken)
 
 returns-2 : tie.Need-returns-2
 returns-2 c =
-    let f = c .before in
-    let i = f .before .before in
-    let n = i .before .before in
+    let n = c .before .before .before in
     let a = n .before .before .before .args in
-    let q = f .fold-refusal .ensures ∙ ap (foldRefusal (a .folds .now)) (f .before .row-count .ensures) in
-    upright-folds (a .t .now) (a .folds .now) (a .tabstop) (a .self) _ (n .enter .ensures) (i .if1 .left) _ q _ (c .if2 .taken)
+    refused-last (a .t .now) (a .folds .now) (a .self) (stopRefusal (a .tabstop)) _ (n .enter-folds .ensures) (c .before .if1 .left)
+    (stop-refused (a .tabstop) (c .if2 .taken)) _ (λ o. absurd (omega (arith, o)))
+
+-- what the walk requires
+move-screen-requires : tie.Need-move-screen-requires
+move-screen-requires c κs =
+    let s = c .before .before .before in
+    let n = s .before .before .before in
+    let a = n .before .before .before .args in
+    upright-ready (a .t .now) (a .folds .now) (a .tabstop) (a .self) _ (n .enter-folds .ensures) (s .before .if1 .left) (s .if2 .left)
+
+-- the target is in the text
+placed-requires : tie.Need-placed-requires
+placed-requires c κs =
+    let m = c .before .before in
+    let s = m .before .before in
+    let n = s .before .before .before in
+    let a = n .before .before .before .args in
+    target-fits (a .self) (upright-ready (a .t .now) (a .folds .now) (a .tabstop) (a .self) _ (n .enter-folds .ensures) (s .before .if1 .left) (s .if2 .left))
+    (a .mode) (a .width) (a .down) (a .count) (m .aim-of .result) _ (c .move-screen .ensures)
 
 returns-3 : tie.Need-returns-3
 returns-3 c =
-    let f = c .before .before in
-    let i = f .before .before in
-    let n = i .before .before in
+    let p = c .before in
+    let m = p .before .before in
+    let s = m .before .before in
+    let n = s .before .before .before in
     let a = n .before .before .before .args in
-    let q = f .fold-refusal .ensures ∙ ap (foldRefusal (a .folds .now)) (f .before .row-count .ensures) in
-    upright-stop (a .t .now) (a .folds .now) (a .tabstop) (a .self) _ (n .enter .ensures) (i .if1 .left) _ q (c .before .if2 .left) _ (c .if3 .taken)
-
--- what the walk requires
-by-rows-requires : tie.Need-by-rows-requires
-by-rows-requires c κs =
-    let f = c .before .before in
-    let i = f .before .before in
-    let n = i .before .before in
-    let a = n .before .before .before .args in
-    let q = f .fold-refusal .ensures ∙ ap (foldRefusal (a .folds .now)) (f .before .row-count .ensures) in
-    upright-ready (a .t .now) (a .folds .now) (a .tabstop) (a .self) _ (n .enter .ensures) (i .if1 .left) _ q (c .before .if2 .left) (c .if3 .left)
-
-returns-4 : tie.Need-returns-4
-returns-4 c =
-    let s = c .before in
-    let f = s .before .before in
-    let i = f .before .before in
-    let n = i .before .before in
-    let a = n .before .before .before .args in
-    let q = f .fold-refusal .ensures ∙ ap (foldRefusal (a .folds .now)) (f .before .row-count .ensures) in
-    upright-to (a .t .now) (a .folds .now) (a .tabstop) (a .self) _ (n .enter .ensures) (i .if1 .left) _ q (s .before .if2 .left) (s .if3 .left)
-    _ _ (c .by-rows .ensures)
+    refused-none (a .t .now) (a .folds .now) (a .self) (stopRefusal (a .tabstop)) _ (n .enter-folds .ensures) (s .before .if1 .left)
+    (stop-fits (a .tabstop) (s .if2 .left)) _ _ refl
+    (target-caret (a .self) _ (p .move-screen .result) _ (c .placed .ensures)
+    (p .move-screen .ensures
+    ∙ ap (moveScreen (a .t .now) (a .folds .now) (a .tabstop) (a .mode) (a .width) (a .down) (a .count) (a .self .row) (a .self .col)) (m .aim-of .ensures)))
 
 pub upright-spec : {M : Type 1} → statement M
 upright-spec =
@@ -57,9 +59,10 @@ upright-spec =
     (tie.spec
     (λ c κs. search needs)
     returns
-    (λ c κs. search needs)
-    (λ c κs. search needs)
     returns-2
-    returns-3
-    by-rows-requires
-    returns-4)
+    (λ c. search needs)
+    (λ c κs. search needs)
+    (λ c. search needs)
+    move-screen-requires
+    placed-requires
+    returns-3)

@@ -1,18 +1,23 @@
--- `Caret::word` meets its contract: the checks in the table's order, and then the walk. Assumes nothing.
-use mathlib.Core.Path.{_≡_, ap, sym, _∙_}
+-- `Caret::word` meets its contract: the checks in the table's order; then the caret's spot goes in, and the spot that the walk ended on is a row
+-- and a column again. Assumes nothing.
+use mathlib.Core.Path.{ap, refl, _∙_}
 use mathlib.Core.List.{List}
+use Prim.Native.Nat.{ℕ, _-_}
+use native.Mathlib.Omega.{arith}
 use borrow.Author.Needs.{needs}
-use Rattle.text.specs.Text.{textRefusal, rowCount}
-use Rattle.folds.specs.Folds.{foldRefusal}
 use Rattle.keywords.specs.declared.Parsed.{Parsed}
 use Rattle.tokens.specs.declared.Token.{Token}
 use Rattle.tokens.specs.Tokens.{anyToken}
-use Rattle.keywords.specs.Table.{parseOf}
+use Rattle.keywords.specs.Table.{parseOf, kept}
 use Rattle.keywords.proofs.Agree.{parse-kept, parse-length}
-use Rattle.steps.proofs.Checks.{entry-number, entered}
-use Rattle.motions.specs.Carets.{here, caretRefusal}
+use Rattle.places.specs.Places.{Place, kindOf}
+use Rattle.turns.specs.Rounds.{wordMotion}
+use Rattle.positions.proofs.Checks.{folds-good, folds-entered}
+use Rattle.steps.proofs.Stepping.{up-start}
+use Rattle.motions.specs.Carets.{here}
 use Rattle.motions.specs.WordMoves.{wordCaret}
-use Rattle.motions.proofs.Wording.{lowest-caret, lowest-folds, lowest-list, lowest-free, moving-refused, moving-to}
+use Rattle.motions.proofs.Refusing.{refused-first, refused-last, refused-none}
+use Rattle.motions.proofs.Wording.{spot-of, place-of, spot-fits, caret-of-spot}
 use Rattle.motions.proofs.Caret.word.Statement.{statement}
 use Rattle.motions.proofs.Caret.word.Tie as tie
 
@@ -20,75 +25,72 @@ returns : tie.Need-returns
 returns c =
     let n = c .before .before in
     let a = n .before .before .before .before .args in
-    let e = entry-number (a .t .now) (here (a .self)) _ (n .enter .ensures) in
-    moving-refused _ _ _
-    (lowest-caret (textRefusal (a .t .now)) (caretRefusal (a .t .now) (a .self)) (foldRefusal (a .folds .now) (rowCount (a .t .now))) (parseOf (a .list .now) .refusal) _ e (c .if1 .taken))
-    (c .if1 .taken)
+    refused-first (a .t .now) (a .folds .now) (a .self) (parseOf (a .list .now) .refusal) _ (n .enter-folds .ensures) _ (c .if1 .taken)
 
 returns-2 : tie.Need-returns-2
 returns-2 c =
-    let f = c .before in
-    let r = f .before in
-    let i = r .before in
+    let p = c .before .before in
+    let n = p .before .before .before in
+    let a = n .before .before .before .before .args in
+    refused-last (a .t .now) (a .folds .now) (a .self) (parseOf (a .list .now) .refusal) _ (n .enter-folds .ensures) (p .before .if1 .left)
+    (ap (λ (x : Parsed). x .refusal) (p .parse .ensures)) _ (c .if2 .taken)
+
+-- the caret's offset
+add-at : tie.Need-add-at
+add-at c =
+    let i = c .before .before .before .before .before in
     let n = i .before .before in
     let a = n .before .before .before .before .args in
-    let e = entry-number (a .t .now) (here (a .self)) _ (n .enter .ensures) in
-    let q = f .fold-refusal .ensures ∙ ap (foldRefusal (a .folds .now)) (r .row-count .ensures) in
-    moving-refused _ _ _
-    (q ∙ lowest-folds (textRefusal (a .t .now)) (caretRefusal (a .t .now) (a .self)) (foldRefusal (a .folds .now) (rowCount (a .t .now))) (parseOf (a .list .now) .refusal) (sym e ∙ i .if1 .left) (λ z. c .if2 .taken (q ∙ z)))
-    (c .if2 .taken)
+    let k = folds-entered (a .t .now) (a .folds .now) (here (a .self)) _ (n .enter-folds .ensures) (i .if1 .left) in
+    omega (arith, k .brief, k .here .within)
+
+-- what the walk requires
+word-motion-requires : tie.Need-word-motion-requires
+word-motion-requires c κs =
+    let s = c .before .before .before in
+    let p = s .before .before in
+    let n = p .before .before .before in
+    let a = n .before .before .before .before .args in (
+      folds-good (a .t .now) (a .folds .now) (here (a .self)) _ (n .enter-folds .ensures) (p .before .if1 .left),
+      parse-length (a .list .now) (p .parse .result) (p .parse .ensures) (s .if2 .left),
+      spot-of (a .t .now) (a .self) _ (folds-entered (a .t .now) (a .folds .now) (here (a .self)) _ (n .enter-folds .ensures) (p .before .if1 .left)),
+    )
+
+-- a row begins at or before each of its offsets
+sub-placed : tie.Need-sub-placed
+sub-placed c =
+    let u = c .before .before in
+    let r = u .before .word-motion in
+    omega (arith, up-start _ _ (r .result .row) (u .up .ensures), r .ensures .1 .from)
+
+-- its numbers fit
+placed-requires : tie.Need-placed-requires
+placed-requires c κs =
+    let u = c .before .before in
+    let r = u .before .word-motion in
+    let i = u .before .before .before .before .before .before .before .before in
+    let n = i .before .before in
+    let a = n .before .before .before .before .args in
+    spot-fits (u .up .result .start) (folds-entered (a .t .now) (a .folds .now) (here (a .self)) _ (n .enter-folds .ensures) (i .if1 .left) .brief) (r .ensures .1)
 
 returns-3 : tie.Need-returns-3
 returns-3 c =
-    let p = c .before .before in
-    let g = p .before in
-    let f = g .before in
-    let r = f .before in
-    let i = r .before in
-    let n = i .before .before in
+    let u = c .before .before .before in
+    let w = u .before in
+    let s = w .before .before .before .before in
+    let p = s .before .before in
+    let n = p .before .before .before in
     let a = n .before .before .before .before .args in
-    let e = entry-number (a .t .now) (here (a .self)) _ (n .enter .ensures) in
-    let q = f .fold-refusal .ensures ∙ ap (foldRefusal (a .folds .now)) (r .row-count .ensures) in
-    let d = ap (λ (x : Parsed). x .refusal) (p .parse .ensures) in
-    moving-refused _ _ _
-    (d ∙ lowest-list (textRefusal (a .t .now)) (caretRefusal (a .t .now) (a .self)) (foldRefusal (a .folds .now) (rowCount (a .t .now))) (parseOf (a .list .now) .refusal) (sym e ∙ i .if1 .left) (sym q ∙ g .if2 .left) (λ z. c .if3 .taken (d ∙ z)))
-    (c .if3 .taken)
-
--- what the walk requires
-ready : tie.Need-by-word-requires
-ready c κs =
-    let p = c .before .before .before in
-    let g = p .before in
-    let f = g .before in
-    let r = f .before in
-    let i = r .before in
-    let n = i .before .before in
-    let a = n .before .before .before .before .args in
-    let q = f .fold-refusal .ensures ∙ ap (foldRefusal (a .folds .now)) (r .row-count .ensures) in
-    record {
-      accepted = entered (a .t .now) (here (a .self)) _ (n .enter .ensures) (i .if1 .left);
-      folds-fit = sym q ∙ g .if2 .left;
-      few = parse-length (a .list .now) (p .parse .result) (p .parse .ensures) (c .before .if3 .left);
-    }
-
-returns-4 : tie.Need-returns-4
-returns-4 c =
-    let k = c .before .before in
-    let p = k .before .before in
-    let g = p .before in
-    let f = g .before in
-    let r = f .before in
-    let i = r .before in
-    let n = i .before .before in
-    let a = n .before .before .before .before .args in
-    let e = entry-number (a .t .now) (here (a .self)) _ (n .enter .ensures) in
-    let q = f .fold-refusal .ensures ∙ ap (foldRefusal (a .folds .now)) (r .row-count .ensures) in
-    let d = ap (λ (x : Parsed). x .refusal) (p .parse .ensures) in
-    moving-to _ _ _
-    (lowest-free (textRefusal (a .t .now)) (caretRefusal (a .t .now) (a .self)) (foldRefusal (a .folds .now) (rowCount (a .t .now))) (parseOf (a .list .now) .refusal) (sym e ∙ i .if1 .left) (sym q ∙ g .if2 .left) (sym d ∙ k .if3 .left))
-    (c .by-word .ensures
+    let r = w .word-motion in
+    refused-none (a .t .now) (a .folds .now) (a .self) (parseOf (a .list .now) .refusal) _ (n .enter-folds .ensures) (p .before .if1 .left)
+    (ap (λ (x : Parsed). x .refusal) (p .parse .ensures)) _ _ (s .if2 .left)
+    (c .placed .ensures
+    ∙ caret-of-spot (a .t .now) (a .self) (r .result) _ _ (ap (λ (x : ℕ). r .result .at - x) (up-start _ _ (r .result .row) (u .up .ensures)))
+    (r .ensures .0
+    ∙ ap (λ (q : Place). wordMotion (a .t .now) (a .folds .now) (kindOf (anyToken (kept (p .parse .result .spec))) (a .big)) (a .big) (a .m) (a .stop) (a .count) q)
+    (place-of (a .t .now) (a .self) _ (folds-entered (a .t .now) (a .folds .now) (here (a .self)) _ (n .enter-folds .ensures) (p .before .if1 .left))))
     ∙ ap (λ (ts : List Token). wordCaret (a .t .now) (a .folds .now) (anyToken ts) (a .big) (a .m) (a .stop) (a .count) (a .self))
-    (parse-kept (a .list .now) (p .parse .result) (p .parse .ensures) (k .if3 .left)))
+    (parse-kept (a .list .now) (p .parse .result) (p .parse .ensures) (s .if2 .left)))
 
 pub word-spec : {M : Type 1} → statement M
 word-spec =
@@ -97,9 +99,12 @@ word-spec =
     (λ c κs. search needs)
     returns
     (λ c κs. search needs)
-    (λ c κs. search needs)
     returns-2
+    (λ c. search needs)
+    add-at
+    (λ c. search needs)
+    word-motion-requires
     (λ c κs. search needs)
-    returns-3
-    ready
-    returns-4)
+    sub-placed
+    placed-requires
+    returns-3)

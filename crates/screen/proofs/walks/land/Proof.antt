@@ -5,8 +5,7 @@ use Prim.Native.Nat.{ℕ}
 use native.Mathlib.Omega.{arith}
 use borrow.Author.Needs.{needs}
 use Rattle.text.proofs.Parts.{row-fits}
-use Rattle.screen.specs.Screen.{segmentCount}
-use Rattle.screen.specs.Walks.{layOf}
+use Rattle.segments.specs.Parts.{segmentCount, layOf}
 use Rattle.screen.proofs.Landing.{part-starts, place-is}
 use Rattle.screen.proofs.walks.land.Statement.{statement}
 use Rattle.screen.proofs.walks.land.Tie as tie

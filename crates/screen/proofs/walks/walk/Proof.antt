@@ -9,8 +9,7 @@ use Rattle.text.proofs.Parts.{count-le}
 use Rattle.text.proofs.Stands.{line-there}
 use Rattle.text.specs.declared.Line.{Line}
 use Rattle.visible.specs.Visible.{toward, Free}
-use Rattle.screen.specs.Screen.{segmentCount}
-use Rattle.screen.specs.Walks.{layOf}
+use Rattle.segments.specs.Parts.{segmentCount, layOf}
 use Rattle.visible.proofs.Visible.{toward-within}
 use Rattle.screen.proofs.Walking.{Walking, walking-start, walking-cross, walking-edge, walking-end, walking-spot}
 use Rattle.screen.proofs.walks.walk.Statement.{statement}

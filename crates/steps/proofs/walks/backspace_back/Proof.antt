@@ -7,7 +7,7 @@ use lib.ListN.{length}
 use borrow.Author.Needs.{needs}
 use Rattle.text.specs.Offsets.{rowStart}
 use Rattle.text.proofs.Stands.{stands-own, back-char, back-nl}
-use Rattle.steps.specs.Positions.{position}
+use Rattle.positions.specs.Positions.{position}
 use Rattle.steps.specs.Steps.{backspaceBack}
 use Rattle.steps.proofs.Stepping.{Going, going-start, going-on, going-done, going-stop, going-from, back-first, back-on, back-end, back-void, back-wrap, up-start}
 use Rattle.steps.proofs.walks.backspace_back.Statement.{statement}

@@ -6,7 +6,7 @@ use native.Mathlib.Omega.{arith}
 use lib.ListN.{length}
 use borrow.Author.Needs.{needs}
 use Rattle.text.proofs.Stands.{step-char, step-nl}
-use Rattle.steps.specs.Positions.{position}
+use Rattle.positions.specs.Positions.{position}
 use Rattle.steps.specs.Steps.{spaceFwd}
 use Rattle.steps.proofs.Stepping.{Going, going-start, going-on, going-done, going-stop, going-from, space-end, space-nl, space-last, space-wrap, space-on}
 use Rattle.steps.proofs.walks.space_fwd.Statement.{statement}

@@ -4,9 +4,9 @@ use mathlib.Core.List.{List}
 use mathlib.Core.Path.{_≡_, ap, sym, _∙_}
 use native.Mathlib.Omega.{arith}
 use borrow.Author.Needs.{needs}
-use Rattle.steps.specs.declared.Position.{Position}
+use Rattle.positions.specs.declared.Position.{Position}
 use Rattle.steps.specs.declared.Step.{Step}
-use Rattle.steps.specs.Positions.{inRow}
+use Rattle.positions.specs.Positions.{inRow}
 use Rattle.steps.specs.Steps.{stepped}
 use Rattle.steps.proofs.ways.step.Statement.{statement}
 use Rattle.steps.proofs.ways.step.Tie as tie

@@ -1,0 +1,207 @@
+-- What the checks of a call say: when they refuse, and what is known where they do not.
+-- Assumes nothing.
+use mathlib.Core.Path.{_≡_, refl, ap, sym, _∙_}
+use mathlib.Core.List.{List, [], _∷_, _++_}
+use mathlib.Core.Bool.{Bool, true, false, cond, _&&_}
+use Prim.Native.Nat.{ℕ, _+_, _≤_, _<_}
+use native.Mathlib.Decide.{ℕ-discrete}
+use native.Mathlib.Omega.{arith}
+use lib.Dec.{eqb, ltb, leb}
+use borrow.Author.Tests.{eq-eqb, ne-eqb, eqb-true, eqb-false, ltb-true, leb-true, lt-ltb, le-ltb, le-leb, lt-leb}
+use Rattle.chars.specs.Scalar.{isScalar}
+use Rattle.text.specs.Text.{textRefusal, rowCount, rowLen}
+use Rattle.text.specs.Offsets.{rowStart}
+use Rattle.folds.specs.Folds.{foldRefusal}
+use Rattle.text.proofs.Check.{accepted-short}
+use Rattle.text.proofs.Parts.{row-fits}
+use Rattle.text.proofs.Stands.{line-at, stands-in}
+use Rattle.positions.specs.declared.Position.{Position}
+use Rattle.positions.specs.declared.Entry.{Entry}
+use Rattle.positions.specs.Positions.{positionRefusal, lowest, refusalAt, entryOf, orSought, refusalWith, entryWith, refusalFolds, entryFolds}
+use Rattle.positions.specs.Positions.{Accepted, Inside}
+
+-- of a list of refusals
+pub lowest-none : (f : ℕ) (rest : List ℕ) → lowest (f ∷ rest) ≡ 0 → (f ≡ 0) × (lowest rest ≡ 0)
+unfolding lowest
+lowest-none f rest e = go (eqb f 0) refl e
+  where
+    go : (b : Bool) → eqb f 0 ≡ b → cond b (lowest rest) f ≡ 0 → (f ≡ 0) × (lowest rest ≡ 0)
+    go true p q = (eqb-true _ _ p, q)
+    go false p q = absurd (eqb-false _ _ p q)
+
+-- with one more at the end
+pub lowest-kept : (l : List ℕ) (d : ℕ) → (lowest l ≡ 0 → ⊥) → lowest (l ++ (d ∷ [])) ≡ lowest l
+unfolding lowest
+lowest-kept [] d n = absurd (n refl)
+lowest-kept (f ∷ rest) d n = go (eqb f 0) (λ m. lowest-kept rest d m) n
+  where
+    go : (b : Bool) → ((lowest rest ≡ 0 → ⊥) → lowest (rest ++ (d ∷ [])) ≡ lowest rest) → (cond b (lowest rest) f ≡ 0 → ⊥) →
+        cond b (lowest (rest ++ (d ∷ []))) f ≡ cond b (lowest rest) f
+    go true h n = h n
+    go false h n = refl
+
+both : (a b : ℕ) → a ≡ 0 → b ≡ 0 → lowest (a ∷ b ∷ []) ≡ 0
+unfolding lowest
+both a b p q = rw (eq-eqb a 0 p, eq-eqb b 0 q)
+
+lowest-one : (d : ℕ) → Dec (d ≡ 0) → lowest (d ∷ []) ≡ d
+unfolding lowest
+lowest-one d (yes e) = rw (eq-eqb d 0 e) (sym e)
+lowest-one d (no n) = rw (ne-eqb d 0 n)
+
+pub lowest-last : (l : List ℕ) (d : ℕ) → lowest l ≡ 0 → lowest (l ++ (d ∷ [])) ≡ d
+unfolding lowest
+lowest-last [] d z = lowest-one d (ℕ-discrete d 0)
+lowest-last (f ∷ rest) d z =
+    let p = lowest-none f rest z in
+    rw (eq-eqb f 0 (p .0)) (lowest-last rest d (p .1))
+
+-- where no check refuses
+module _ (t : List ℕ) (k : Position) where
+  pub inside-at : positionRefusal t k ≡ 0 → Inside t k
+  unfolding positionRefusal
+  inside-at e = go (ltb (k .row) (rowCount t)) (leb (k .col) (rowLen t (k .row))) refl refl e
+    where
+      go : (a b : Bool) → ltb (k .row) (rowCount t) ≡ a → leb (k .col) (rowLen t (k .row)) ≡ b → _≡_ {A = ℕ} (cond (a && b) 0 4) 0 → Inside t k
+      go true true p q h = record { in-row = ltb-true _ _ p; in-col = leb-true _ _ q }
+      go true false p q h = absurd (omega arith)
+      go false b p q h = absurd (omega arith)
+
+  pub inside : refusalAt t k ≡ 0 → Inside t k
+  inside e = inside-at (lowest-none (positionRefusal t k) [] (lowest-none (textRefusal t) (positionRefusal t k ∷ []) e .1) .0)
+
+  accepted : refusalAt t k ≡ 0 → Accepted t k (rowStart t (k .row))
+  accepted e =
+      let p = lowest-none (textRefusal t) (positionRefusal t k ∷ []) e in
+      let i = inside e in
+      let l = line-at t (k .row) (i .in-row) in
+      record {
+        brief = accepted-short t (p .0);
+        here = stands-in l (rowStart t (k .row) + k .col) (omega arith) (omega arith);
+        line = l;
+        room = omega (arith, accepted-short t (p .0), row-fits t (k .row) (i .in-row));
+      }
+
+  -- the answers of `enter`
+  pub entry-text : (f : ℕ) → f ≡ textRefusal t → (f ≡ 0 → ⊥) → record { refusal = f; start = 0 } ≡ entryOf t k
+  unfolding entryOf lowest
+  entry-text f e n = rw (← e, ne-eqb f 0 n, ne-eqb f 0 n)
+
+  module _ (e : textRefusal t ≡ 0) where
+    pub entry-row : rowCount t ≤ k .row → record { refusal = 4; start = 0 } ≡ entryOf t k
+    unfolding entryOf lowest positionRefusal
+    entry-row h = rw (e, le-ltb _ _ h)
+
+    pub entry-col : k .row < rowCount t → rowLen t (k .row) < k .col → record { refusal = 4; start = 0 } ≡ entryOf t k
+    unfolding entryOf lowest positionRefusal
+    entry-col h l = rw (e, lt-ltb _ _ h, lt-leb _ _ l)
+
+    pub entry-in : k .row < rowCount t → k .col ≤ rowLen t (k .row) → (s : ℕ) → s ≡ rowStart t (k .row) → record { refusal = 0; start = s } ≡ entryOf t k
+    unfolding entryOf lowest positionRefusal
+    entry-in h l s d = rw (e, lt-ltb _ _ h, le-leb _ _ l) (λ i. record { refusal = 0; start = d i })
+
+-- what a motion goes by, once it has called `enter`
+module _ (t : List ℕ) (k : Position) (e : Entry) (is : e ≡ entryOf t k) where
+  pub entry-number : e .refusal ≡ refusalAt t k
+  unfolding entryOf
+  entry-number = ap (λ (x : Entry). x .refusal) is
+
+  pub entry-clear : e .refusal ≡ 0 → textRefusal t ≡ 0
+  entry-clear z = lowest-none (textRefusal t) (positionRefusal t k ∷ []) (sym entry-number ∙ z) .0
+
+  pub entered : e .refusal ≡ 0 → Accepted t k (e .start)
+  unfolding entryOf
+  entered z =
+      let none : refusalAt t k ≡ 0 = sym (ap (λ (x : Entry). x .refusal) is) ∙ z in
+      let s : e .start ≡ rowStart t (k .row) = ap (λ (x : Entry). x .start) is ∙ rw (eq-eqb (refusalAt t k) 0 none) in
+      rw s (accepted t k none)
+
+  -- the answers of `enter_with`, which calls it
+  module _ (x : ℕ) where
+    pub with-long : e .refusal ≡ 1 → e ≡ entryWith t k x
+    unfolding entryOf entryWith orSought
+    with-long z =
+        let one : refusalAt t k ≡ 1 = sym entry-number ∙ z in
+        is ∙ rw one
+
+    module _ (n : e .refusal ≡ 1 → ⊥) where
+      pub with-char : isScalar x ≡ false → record { refusal = 2; start = 0 } ≡ entryWith t k x
+      unfolding entryWith orSought
+      with-char s = rw (ne-eqb (refusalAt t k) 1 (λ o. n (entry-number ∙ o)), s)
+
+      pub with-rest : isScalar x ≡ true → e ≡ entryWith t k x
+      unfolding entryOf entryWith orSought
+      with-rest s = is ∙ rw (ne-eqb (refusalAt t k) 1 (λ o. n (entry-number ∙ o)), s)
+
+  -- the answers of `enter_folds`
+  module _ (folds : List ℕ) where
+    two : List ℕ
+    two = textRefusal t ∷ positionRefusal t k ∷ []
+
+    pub folds-first : (e .refusal ≡ 0 → ⊥) → e ≡ entryFolds t folds k
+    unfolding entryOf entryFolds two
+    folds-first n = is ∙ rw (lowest-kept two (foldRefusal folds (rowCount t)) (λ z. n (entry-number ∙ z)))
+
+    module _ (z : e .refusal ≡ 0) {rows f : ℕ} (count : rows ≡ rowCount t) (told : f ≡ foldRefusal folds rows) where
+      third : refusalFolds t folds k ≡ f
+      unfolding two
+      third = lowest-last two (foldRefusal folds (rowCount t)) (sym entry-number ∙ z) ∙ sym (told ∙ ap (foldRefusal folds) count)
+
+      pub folds-wrong : (f ≡ 0 → ⊥) → record { refusal = f; start = 0 } ≡ entryFolds t folds k
+      unfolding entryFolds
+      folds-wrong n = rw (third, ne-eqb f 0 n)
+
+      pub folds-right : f ≡ 0 → e ≡ entryFolds t folds k
+      unfolding entryOf entryFolds
+      folds-right w =
+          let none : refusalFolds t folds k ≡ 0 = third ∙ w in
+          let first : refusalAt t k ≡ 0 = sym entry-number ∙ z in
+          is ∙ rw (first, none)
+
+-- with the character sought, none refuses only where none does without it
+pub sought-none : (f : ℕ) (b : Bool) → orSought f b ≡ 0 → f ≡ 0
+unfolding orSought
+sought-none f b z = go (eqb f 1) b z
+  where
+    go : (a b : Bool) → cond a 1 (cond b f 2) ≡ 0 → f ≡ 0
+    go true b z = absurd (omega arith)
+    go false true z = z
+    go false false z = absurd (omega arith)
+
+-- what a search goes by, once it has called `enter_with`
+module _ (t : List ℕ) (k : Position) (x : ℕ) (e : Entry) (is : e ≡ entryWith t k x) where
+  pub with-number : e .refusal ≡ refusalWith t k x
+  unfolding entryWith
+  with-number = ap (λ (y : Entry). y .refusal) is
+
+  pub with-entered : e .refusal ≡ 0 → Accepted t k (e .start)
+  unfolding entryWith
+  with-entered z =
+      let none : refusalWith t k x ≡ 0 = sym with-number ∙ z in
+      let s : e .start ≡ rowStart t (k .row) = ap (λ (y : Entry). y .start) is ∙ rw (eq-eqb (refusalWith t k x) 0 none) in
+      rw s (accepted t k (sought-none (refusalAt t k) (isScalar x) none))
+
+-- what a motion goes by, once it has called `enter_folds`
+module _ (t folds : List ℕ) (k : Position) (e : Entry) (is : e ≡ entryFolds t folds k) where
+  pub folds-number : e .refusal ≡ refusalFolds t folds k
+  unfolding entryFolds
+  folds-number = ap (λ (y : Entry). y .refusal) is
+
+  module _ (z : e .refusal ≡ 0) where
+    none : refusalFolds t folds k ≡ 0
+    none = sym folds-number ∙ z
+
+    after-text : lowest (positionRefusal t k ∷ foldRefusal folds (rowCount t) ∷ []) ≡ 0
+    after-text = lowest-none (textRefusal t) _ none .1
+
+    pub folds-clear : textRefusal t ≡ 0
+    folds-clear = lowest-none (textRefusal t) _ none .0
+
+    pub folds-good : foldRefusal folds (rowCount t) ≡ 0
+    folds-good = lowest-none _ [] (lowest-none (positionRefusal t k) _ after-text .1) .0
+
+    pub folds-entered : Accepted t k (e .start)
+    unfolding entryFolds
+    folds-entered =
+        let s : e .start ≡ rowStart t (k .row) = ap (λ (y : Entry). y .start) is ∙ rw (eq-eqb (refusalFolds t folds k) 0 none) in
+        rw s (accepted t k (both (textRefusal t) (positionRefusal t k) folds-clear (lowest-none (positionRefusal t k) _ after-text .0)))

@@ -1,0 +1,68 @@
+-- Positions: when a text and a position in it are refused, and what is known where they are not.
+-- From document 01, "Text, rows, carets" and "Refusal numbers". Definitions only; the laws are in `proofs/Checks.antt`. Assumes nothing.
+use Prim.Native.Nat.{ℕ, _+_, _≤_, _<_}
+use mathlib.Core.List.{List, [], _∷_}
+use mathlib.Core.Bool.{Bool, cond, _&&_}
+use lib.ListN.{length}
+use lib.Dec.{eqb, ltb, leb}
+use Rattle.chars.specs.Scalar.{isScalar}
+use Rattle.text.specs.Text.{textRefusal, rowCount, rowLen}
+use Rattle.text.specs.Offsets.{rowStart, Stands}
+use Rattle.folds.specs.Folds.{foldRefusal}
+use Rattle.positions.specs.declared.Position.{Position}
+use Rattle.positions.specs.declared.Entry.{Entry}
+
+abbrev pub position : ℕ → ℕ → Position
+position r c = record { row = r; col = c }
+
+-- at another column of its row
+abbrev pub inRow : Position → ℕ → Position
+inRow p c = position (p .row) c
+
+-- a position stands in the text: in one of its rows, and at most at the row's end
+abbrev pub isInside : List ℕ → Position → Bool
+isInside t p = ltb (p .row) (rowCount t) && leb (p .col) (rowLen t (p .row))
+
+unfoldable pub positionRefusal : List ℕ → Position → ℕ
+positionRefusal t p = cond (isInside t p) 0 4
+
+-- a call's refusal: the lowest number that applies. The numbers of its inputs stand in the order of the table, each 0 where that input is accepted
+unfoldable pub lowest : List ℕ → ℕ
+lowest [] = 0
+lowest (f ∷ rest) = cond (eqb f 0) (lowest rest) f
+
+abbrev pub refusalAt : List ℕ → Position → ℕ
+refusalAt t p = lowest (textRefusal t ∷ positionRefusal t p ∷ [])
+
+-- what the checks of a call find out: its refusal, and where the position's row starts
+unfoldable pub entryOf : List ℕ → Position → Entry
+entryOf t p = record { refusal = refusalAt t p; start = cond (eqb (refusalAt t p) 0) (rowStart t (p .row)) 0 }
+
+-- a call's refusal f with the character sought: that is refused with 2, after a text that is too long and before all else
+unfoldable pub orSought : ℕ → Bool → ℕ
+orSought f scalar = cond (eqb f 1) 1 (cond scalar f 2)
+
+abbrev pub refusalWith : List ℕ → Position → ℕ → ℕ
+refusalWith t p x = orSought (refusalAt t p) (isScalar x)
+
+unfoldable pub entryWith : List ℕ → Position → ℕ → Entry
+entryWith t p x = record { refusal = refusalWith t p x; start = cond (eqb (refusalWith t p x) 0) (rowStart t (p .row)) 0 }
+
+-- with folds: text, position, folds
+abbrev pub refusalFolds : List ℕ → List ℕ → Position → ℕ
+refusalFolds t folds p = lowest (textRefusal t ∷ positionRefusal t p ∷ foldRefusal folds (rowCount t) ∷ [])
+
+unfoldable pub entryFolds : List ℕ → List ℕ → Position → Entry
+entryFolds t folds p = record { refusal = refusalFolds t folds p; start = cond (eqb (refusalFolds t folds p) 0) (rowStart t (p .row)) 0 }
+
+-- a text and a position that no check refuses
+pub record Accepted (t : List ℕ) (p : Position) (start : ℕ) : Type 0 where
+  pub brief : length t ≤ 1048576
+  pub here : Stands t (p .row) start (start + p .col)
+  pub line : Stands t (p .row) start start
+  pub room : rowLen t (p .row) ≤ 1048576
+
+-- a position in the text, as a statement
+pub record Inside (t : List ℕ) (p : Position) : Type 0 where
+  pub in-row : p .row < rowCount t
+  pub in-col : p .col ≤ rowLen t (p .row)

@@ -1,0 +1,3 @@
+-- Laws of tabstops, which the proofs of this crate and of the crates above it cite.
+pub mod Accepted
+pub mod Leading
