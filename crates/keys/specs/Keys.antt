@@ -1,102 +1,78 @@
--- The keys of a session, and what each does. Document 01, "The session".
--- Definitions only; `specs/Pressed.antt` looks keys up in these tables. Assumes nothing.
+-- The keys of a session by their bytes. Document 01, "The session".
+-- What the contracts of `keys` and `presses` cite. Definitions only; the laws are in `proofs/` of `presses`. Assumes nothing.
 use Prim.Native.Nat.{ℕ}
 use Prim.Native.String.{String}
 use mathlib.Core.List.{List, [], _∷_, _++_}
-use mathlib.Core.Bool.{Bool, true, false}
+use mathlib.Core.Bool.{Bool, false, cond, _||_}
 use Rattle.print.specs.Print.{bytes}
-use Rattle.turns.specs.declared.Motion.{Motion}
-use Rattle.turns.specs.declared.Motion.the-variants.{Fwd, Back, End, EndBack}
-use Rattle.motions.specs.declared.Caret.{Caret}
-use Rattle.motions.specs.declared.Moved.{Moved}
-use Rattle.motions.specs.declared.Moved.the-variants.{To, Refused}
-use Rattle.motions.specs.declared.Sought.{Sought}
-use Rattle.motions.specs.declared.Sought.the-variants.{Found, Missing, Refused as Sought·Refused}
-use Rattle.motions.specs.Columns
-use Rattle.motions.specs.Lines
-use Rattle.motions.specs.Sections
-use Rattle.motions.specs.Paragraphs
-use Rattle.motions.specs.WordMoves.{moveWord}
-use Rattle.motions.specs.Finds.{matchBracket}
-use Rattle.motions.specs.UpDown.{moveRows}
+use Rattle.commands.specs.Commands.{isSame}
+use Rattle.keys.specs.declared.Key.{Key}
+use Rattle.keys.specs.declared.Key.the-variants as Key
 
--- what a key does with a text, a count and a caret
-abbrev pub Does : Type 0
-Does = List ℕ → ℕ → Caret → Moved
-
-pub record Key : Type 0 where
+-- a key and its bytes
+pub record Named : Type 0 where
   pub name : List ℕ
-  pub does : Does
+  pub key : Key
 
-abbrev pub key : String → Does → Key
-key s m = record { name = bytes s; does = m }
+abbrev pub key : String → Key → Named
+key s k = record { name = bytes s; key = k }
 
--- a word motion by the list `@,48-57,_`, with no folds, and with stop off
-abbrev pub word : Bool → Motion → Does
-word big m t n k = moveWord t [] (bytes "@,48-57,_") big m false n k
-
--- `%` moves to what it finds, or not at all
-abbrev pub sought : Sought → Moved
-sought (Found k) = To k
-sought (Missing k) = To k
-sought (Sought·Refused f) = Refused f
-
-unfoldable pub twoBytes : List Key
+unfoldable pub twoBytes : List Named
 twoBytes =
-    key "ge" (word false EndBack)
-    ∷ key "gE" (word true EndBack)
-    ∷ key "g_" (λ t n k. Columns.moveLastNonBlank t k)
-    ∷ key "gg" (λ t n k. Lines.moveTop t k)
-    ∷ key "[[" Sections.moveSectionBackward
-    ∷ key "]]" Sections.moveSectionForward
-    ∷ key "[]" Sections.moveSectionEndBackward
-    ∷ key "][" Sections.moveSectionEndForward
+    key "ge" Key.EndBack
+    ∷ key "gE" Key.BigEndBack
+    ∷ key "g_" Key.LastNonBlank
+    ∷ key "[[" Key.SectionBackward
+    ∷ key "]]" Key.SectionForward
+    ∷ key "[]" Key.SectionEndBackward
+    ∷ key "][" Key.SectionEndForward
+    ∷ key "gg" Key.Top
     ∷ []
 
-unfoldable pub wordKeys : List Key
+unfoldable pub wordKeys : List Named
 wordKeys =
-    key "w" (word false Fwd)
-    ∷ key "b" (word false Back)
-    ∷ key "e" (word false End)
-    ∷ key "W" (word true Fwd)
-    ∷ key "B" (word true Back)
-    ∷ key "E" (word true End)
+    key "h" Key.Left
+    ∷ key "l" Key.Right
+    ∷ key "w" Key.Word
+    ∷ key "b" Key.Back
+    ∷ key "e" Key.End
+    ∷ key "W" Key.BigWord
+    ∷ key "B" Key.BigBack
+    ∷ key "E" Key.BigEnd
     ∷ []
 
-unfoldable pub columnKeys : List Key
-columnKeys =
-    key "h" Columns.moveLeft
-    ∷ key "l" Columns.moveRightInLine
-    ∷ key "0" (λ t n k. Columns.moveLineStart t k)
-    ∷ key "^" (λ t n k. Columns.moveFirstNonBlank t k)
-    ∷ key "$" (λ t n k. Columns.moveLineEnd t k)
-    ∷ key "|" Columns.moveGotoColumn
+unfoldable pub lineKeys : List Named
+lineKeys =
+    key "0" Key.LineStart
+    ∷ key "^" Key.FirstNonBlank
+    ∷ key "$" Key.LineEnd
+    ∷ key "{" Key.ParagraphPrev
+    ∷ key "}" Key.ParagraphNext
+    ∷ key "+" Key.NextLine
+    ∷ key "-" Key.PrevLine
+    ∷ key "_" Key.Line
     ∷ []
 
-unfoldable pub rowKeys : List Key
-rowKeys =
-    key "{" Paragraphs.moveParagraphPrev
-    ∷ key "}" Paragraphs.moveParagraphNext
-    ∷ key "+" Lines.moveFirstNonBlankNextLine
-    ∷ key "-" Lines.moveFirstNonBlankPrevLine
-    ∷ key "_" Lines.moveFirstNonBlankLine
-    ∷ key "G" Lines.moveBottom
-    ∷ key "%" (λ t n k. sought (matchBracket t k))
-    ∷ []
-
--- j and k: with no folds, and a tabstop of 8
-unfoldable pub uprightKeys : List Key
-uprightKeys = key "j" (λ t n k. moveRows t [] 8 true n k) ∷ key "k" (λ t n k. moveRows t [] 8 false n k) ∷ []
+unfoldable pub placeKeys : List Named
+placeKeys = key "G" Key.Bottom ∷ key "|" Key.Column ∷ key "%" Key.Bracket ∷ key "j" Key.Down ∷ key "k" Key.Up ∷ []
 
 -- all of them, those of two bytes first
-abbrev pub fromRows : List Key
-fromRows = rowKeys ++ uprightKeys
+abbrev pub table : List Named
+table = twoBytes ++ wordKeys ++ lineKeys ++ placeKeys
 
-abbrev pub fromColumns : List Key
-fromColumns = columnKeys ++ fromRows
+-- the first key of that name
+unfoldable pub found : List Named → List ℕ → Key
+found [] name = Key.Unknown
+found (k ∷ rest) name = cond (isSame name (k .name)) (k .key) (found rest name)
 
-abbrev pub fromWords : List Key
-fromWords = wordKeys ++ fromColumns
+abbrev pub keyOf : List ℕ → Key
+keyOf name = found table name
 
-abbrev pub keys : List Key
-keys = twoBytes ++ fromWords
+-- whether a table has a key of that name: only where it has none is a press refused with 0 (`pressed-unknown` of `presses`)
+unfoldable pub isKnown : List Named → List ℕ → Bool
+isKnown [] name = false
+isKnown (k ∷ rest) name = isSame name (k .name) || isKnown rest name
+
+-- the sticky column is cleared, but by j and k
+abbrev pub keeps : List ℕ → Bool
+keeps name = isSame name (bytes "j") || isSame name (bytes "k")

@@ -1,188 +1,166 @@
-// The keys of a session. Each function compares the key with fixed byte strings, those of two bytes
-// first, and hands a key that is none of its own on to the next.
+// The keys of a session, found by their bytes. Each function compares the name with fixed byte
+// strings, those of two bytes first, and hands a name that is none of its own on to the next.
 use commands::same;
-use motions::Caret;
-use motions::Moved;
-use motions::Sought;
-use motions::Sticky;
 ghost use mathlib.Core.Path.{_≡_};
-ghost use Rattle.keys.specs.Keys.{keys, fromWords, fromColumns, fromRows, uprightKeys};
-ghost use Rattle.keys.specs.Keys.{sought as Keys·sought};
-ghost use Rattle.keys.specs.Pressed.{motionOf, pressed};
-ghost use Rattle.keys.specs.Pressed.{cleared as Pressed·cleared, keeps as Pressed·keeps};
+ghost use mathlib.Core.List.{_++_};
+ghost use Rattle.keys.specs.Keys.{wordKeys, lineKeys, placeKeys, found, keyOf};
+ghost use Rattle.keys.specs.Keys.{keeps as Keys·keeps};
 
-// The keyword list `@,48-57,_`.
-const LIST: [u32; 9] = [64, 44, 52, 56, 45, 53, 55, 44, 95];
-
-// The caret that a search leaves.
-fn sought(s: Sought) -> Moved
-    ensures { λ r. ⌜ r ≡ Keys·sought s ⌝ }
-{
-    match s {
-        Sought::Found(k) => Moved::To(k),
-        Sought::Missing(k) => Moved::To(k),
-        Sought::Refused(f) => Moved::Refused(f),
-    }
+// A key, by what it does; `Big` where words are divided by blanks alone.
+pub enum Key {
+    Left,
+    Right,
+    Word,
+    Back,
+    End,
+    BigWord,
+    BigBack,
+    BigEnd,
+    EndBack,
+    BigEndBack,
+    LineStart,
+    FirstNonBlank,
+    LineEnd,
+    LastNonBlank,
+    ParagraphPrev,
+    ParagraphNext,
+    SectionBackward,
+    SectionForward,
+    SectionEndBackward,
+    SectionEndForward,
+    NextLine,
+    PrevLine,
+    Line,
+    Top,
+    Bottom,
+    Column,
+    Bracket,
+    Down,
+    Up,
+    Unknown,
 }
 
-// Up and down.
-fn by_upright(key: &[u8], k: Caret, t: &[u32], n: u32) -> Moved
-    ensures { λ r. ⌜ r ≡ motionOf uprightKeys (now (key .entry)) (now (t .entry)) n k ⌝ }
+// Places, and rows up and down.
+fn by_place(name: &[u8]) -> Key
+    ensures { λ r. ⌜ r ≡ found placeKeys (now (name .entry)) ⌝ }
 {
-    let none = &t[..0];
-    if same(key, b"j") {
-        return k.move_down(t, none, n, 8);
+    if same(name, b"G") {
+        return Key::Bottom;
     }
-    if same(key, b"k") {
-        return k.move_up(t, none, n, 8);
+    if same(name, b"|") {
+        return Key::Column;
     }
-    Moved::Refused(0)
+    if same(name, b"%") {
+        return Key::Bracket;
+    }
+    if same(name, b"j") {
+        return Key::Down;
+    }
+    if same(name, b"k") {
+        return Key::Up;
+    }
+    Key::Unknown
 }
 
-// Rows: paragraphs, lines and brackets.
-fn by_row(key: &[u8], k: Caret, t: &[u32], n: u32) -> Moved
-    ensures { λ r. ⌜ r ≡ motionOf fromRows (now (key .entry)) (now (t .entry)) n k ⌝ }
+// Columns of a row, paragraphs and lines.
+fn by_line(name: &[u8]) -> Key
+    ensures { λ r. ⌜ r ≡ found (lineKeys ++ placeKeys) (now (name .entry)) ⌝ }
 {
-    if same(key, b"{") {
-        return k.move_paragraph_prev(t, n);
+    if same(name, b"0") {
+        return Key::LineStart;
     }
-    if same(key, b"}") {
-        return k.move_paragraph_next(t, n);
+    if same(name, b"^") {
+        return Key::FirstNonBlank;
     }
-    if same(key, b"+") {
-        return k.move_first_non_blank_next_line(t, n);
+    if same(name, b"$") {
+        return Key::LineEnd;
     }
-    if same(key, b"-") {
-        return k.move_first_non_blank_prev_line(t, n);
+    if same(name, b"{") {
+        return Key::ParagraphPrev;
     }
-    if same(key, b"_") {
-        return k.move_first_non_blank_line(t, n);
+    if same(name, b"}") {
+        return Key::ParagraphNext;
     }
-    if same(key, b"G") {
-        return k.move_bottom(t, n);
+    if same(name, b"+") {
+        return Key::NextLine;
     }
-    if same(key, b"%") {
-        return sought(k.match_bracket(t));
+    if same(name, b"-") {
+        return Key::PrevLine;
     }
-    by_upright(key, k, t, n)
+    if same(name, b"_") {
+        return Key::Line;
+    }
+    by_place(name)
 }
 
-// Columns of the caret's row.
-fn by_column(key: &[u8], k: Caret, t: &[u32], n: u32) -> Moved
-    ensures { λ r. ⌜ r ≡ motionOf fromColumns (now (key .entry)) (now (t .entry)) n k ⌝ }
+// Keys of one byte: characters and words.
+fn by_word(name: &[u8]) -> Key
+    ensures { λ r. ⌜ r ≡ found (wordKeys ++ lineKeys ++ placeKeys) (now (name .entry)) ⌝ }
 {
-    if same(key, b"h") {
-        return k.move_left(t, n);
+    if same(name, b"h") {
+        return Key::Left;
     }
-    if same(key, b"l") {
-        return k.move_right_in_line(t, n);
+    if same(name, b"l") {
+        return Key::Right;
     }
-    if same(key, b"0") {
-        return k.move_line_start(t);
+    if same(name, b"w") {
+        return Key::Word;
     }
-    if same(key, b"^") {
-        return k.move_first_non_blank(t);
+    if same(name, b"b") {
+        return Key::Back;
     }
-    if same(key, b"$") {
-        return k.move_line_end(t);
+    if same(name, b"e") {
+        return Key::End;
     }
-    if same(key, b"|") {
-        return k.move_goto_column(t, n);
+    if same(name, b"W") {
+        return Key::BigWord;
     }
-    by_row(key, k, t, n)
+    if same(name, b"B") {
+        return Key::BigBack;
+    }
+    if same(name, b"E") {
+        return Key::BigEnd;
+    }
+    by_line(name)
 }
 
-// Words.
-fn by_word(key: &[u8], k: Caret, t: &[u32], n: u32) -> Moved
-    ensures { λ r. ⌜ r ≡ motionOf fromWords (now (key .entry)) (now (t .entry)) n k ⌝ }
+// The key of that name, or that it is unknown.
+pub fn key_of(name: &[u8]) -> Key
+    ensures { λ r. ⌜ r ≡ keyOf (now (name .entry)) ⌝ }
 {
-    let list = LIST;
-    let none = &t[..0];
-    if same(key, b"w") {
-        return k.move_word_fwd(t, none, false, n, &list);
+    if same(name, b"ge") {
+        return Key::EndBack;
     }
-    if same(key, b"b") {
-        return k.move_word_back(t, none, false, n, &list);
+    if same(name, b"gE") {
+        return Key::BigEndBack;
     }
-    if same(key, b"e") {
-        return k.move_word_end(t, none, false, n, false, &list);
+    if same(name, b"g_") {
+        return Key::LastNonBlank;
     }
-    if same(key, b"W") {
-        return k.move_word_fwd(t, none, true, n, &list);
+    if same(name, b"[[") {
+        return Key::SectionBackward;
     }
-    if same(key, b"B") {
-        return k.move_word_back(t, none, true, n, &list);
+    if same(name, b"]]") {
+        return Key::SectionForward;
     }
-    if same(key, b"E") {
-        return k.move_word_end(t, none, true, n, false, &list);
+    if same(name, b"[]") {
+        return Key::SectionEndBackward;
     }
-    by_column(key, k, t, n)
-}
-
-// Keys of two bytes.
-fn by_two(key: &[u8], k: Caret, t: &[u32], n: u32) -> Moved
-    ensures { λ r. ⌜ r ≡ motionOf keys (now (key .entry)) (now (t .entry)) n k ⌝ }
-{
-    let list = LIST;
-    if same(key, b"ge") {
-        return k.move_word_end_back(t, false, n, &list);
+    if same(name, b"][") {
+        return Key::SectionEndForward;
     }
-    if same(key, b"gE") {
-        return k.move_word_end_back(t, true, n, &list);
+    if same(name, b"gg") {
+        return Key::Top;
     }
-    if same(key, b"g_") {
-        return k.move_last_non_blank(t);
-    }
-    if same(key, b"gg") {
-        return k.move_top(t);
-    }
-    if same(key, b"[[") {
-        return k.move_section_backward(t, n);
-    }
-    if same(key, b"]]") {
-        return k.move_section_forward(t, n);
-    }
-    if same(key, b"[]") {
-        return k.move_section_end_backward(t, n);
-    }
-    if same(key, b"][") {
-        return k.move_section_end_forward(t, n);
-    }
-    by_word(key, k, t, n)
-}
-
-// The answer with the sticky column cleared.
-fn cleared(m: Moved) -> Moved
-    ensures { λ r. ⌜ r ≡ Pressed·cleared m ⌝ }
-{
-    match m {
-        Moved::To(k) => Moved::To(Caret {
-            row: k.row,
-            col: k.col,
-            sticky: Sticky::Absent,
-        }),
-        Moved::Refused(f) => Moved::Refused(f),
-    }
+    by_word(name)
 }
 
 // Whether a key keeps the sticky column.
-fn keeps(name: &[u8]) -> bool
-    ensures { λ r. ⌜ r ≡ Pressed·keeps (now (name .entry)) ⌝ }
+pub fn keeps(key: &[u8]) -> bool
+    ensures { λ r. ⌜ r ≡ Keys·keeps (now (key .entry)) ⌝ }
 {
-    if same(name, b"j") {
+    if same(key, b"j") {
         return true;
     }
-    same(name, b"k")
-}
-
-// What a key does with a count: where it leads to, or the number that the call is refused with, 0
-// for an unknown key.
-pub fn press(key: &[u8], k: Caret, t: &[u32], n: u32) -> Moved
-    ensures { λ r. ⌜ r ≡ pressed (now (key .entry)) (now (t .entry)) n k ⌝ }
-{
-    let m = by_two(key, k, t, n);
-    if keeps(key) {
-        return m;
-    }
-    cleared(m)
+    same(key, b"k")
 }

@@ -16,8 +16,8 @@ use Rattle.motions.specs.declared.Caret.{Caret}
 use Rattle.motions.specs.declared.Moved.{Moved}
 use Rattle.motions.specs.declared.Moved.the-variants.{To, Refused}
 use Rattle.motions.specs.Carets.{caretAfter}
-use Rattle.keys.proofs.Laws.{pressed-none}
-use Rattle.session.specs.Parts.{isStop, commandRows}
+use Rattle.script.specs.Parts.{isStop, commandRows}
+use Rattle.presses.proofs.Laws.{pressed-none}
 use Rattle.session.specs.Session.{counted, turned, shownOf, lineOf, linesOf, start, outputOf}
 
 -- what stands in the key's place

@@ -1,4 +1,3 @@
-pub mod Rows
 pub mod Lengths
 pub mod Progress
 pub mod Printing

@@ -1,33 +1,20 @@
--- Laws of the loops: the text widened byte by byte, and the lines of command rows one after another. Assumes nothing.
+-- Laws of the loop: the lines of command rows one after another. Assumes nothing.
 use mathlib.Core.Path.{_≡_, ap, sym, subst, _∙_}
 use mathlib.Core.List.{List, [], _∷_, _++_, append-assoc, append-nil}
 use mathlib.Core.Bool.{true, false}
 use Prim.Native.Nat.{ℕ, _+_, _-_, _≤_, _<_}
-use native.Mathlib.Numerals.{add-one}
 use native.Mathlib.Omega.{arith}
-use lib.ListN.{length, getD, take, drop, set, length-append, length-drop}
-use lib.Seq.{take-suc, take-suc-set, getD-drop, take-all}
+use lib.ListN.{length, take, drop, length-append}
 use Rattle.text.specs.Text.{rows}
 use Rattle.print.specs.Print.{Wrote}
 use Rattle.print.proofs.Laws.{wrote-none, wrote-then}
 use Rattle.commands.specs.Commands.{keyPart, Ends}
 use Rattle.motions.specs.declared.Caret.{Caret}
 use Rattle.motions.specs.Carets.{caretAfter}
-use Rattle.session.specs.Parts.{isStop, commandRows}
+use Rattle.script.specs.Parts.{isStop, commandRows}
+use Rattle.script.proofs.Rows.{rowsFrom, rows-start, rows-end, rows-step}
 use Rattle.session.specs.Session.{turned, shownOf, lineOf, linesOf, start, outputOf}
-use Rattle.session.proofs.Rows.{rowsFrom, rows-start, rows-end, rows-step}
 use Rattle.session.proofs.Lengths.{lines-fit}
-
--- bytes widened one after another
-pub widen-on :
-    (input room : List ℕ) (from n i : ℕ) → i ≡ from + n → i < length input → n < length room → take n room ≡ take n (drop from input) →
-    take (n + 1) (set room n (getD input i 0)) ≡ take (n + 1) (drop from input)
-widen-on input room from n i e h k p =
-    let f : n < length (drop from input) = omega (arith, length-drop from input) in
-    rw (add-one n, take-suc-set room n (getD input i 0) k, take-suc (drop from input) n 0 f, p, getD-drop from input n 0, e)
-
-pub widen-all : (input room : List ℕ) (from n : ℕ) → length input ≤ from + n → take n room ≡ take n (drop from input) → take n room ≡ drop from input
-widen-all input room from n h p = p ∙ take-all n (drop from input) (omega (arith, length-drop from input))
 
 -- where the loop stands: what was printed so far, and that the rest is still to come
 pub record Progress (input t out₀ : List ℕ) (k : Caret) (at i : ℕ) (out : List ℕ) : Type 0 where

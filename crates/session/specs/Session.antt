@@ -2,10 +2,9 @@
 -- Definitions only; the laws are in `proofs/Lengths.antt` and `proofs/Printing.antt`. Assumes nothing.
 use Prim.Native.Nat.{ℕ}
 use mathlib.Core.List.{List, [], _∷_, _++_}
-use mathlib.Core.Bool.{Bool, cond, not, _||_}
-use lib.Dec.{eqb, ltb}
-use lib.ListN.{length}
-use Rattle.text.specs.Text.{any, rows}
+use mathlib.Core.Bool.{cond}
+use lib.Dec.{eqb}
+use Rattle.text.specs.Text.{rows}
 use Rattle.print.specs.Print.{bytes, decimal}
 use Rattle.commands.specs.Commands.{keyPart, countIn}
 use Rattle.commands.specs.declared.Count.{Count}
@@ -15,8 +14,8 @@ use Rattle.motions.specs.declared.Sticky.the-variants.{Absent}
 use Rattle.motions.specs.declared.Moved.{Moved}
 use Rattle.motions.specs.declared.Moved.the-variants.{To, Refused}
 use Rattle.motions.specs.Carets.{caretAfter}
-use Rattle.keys.specs.Pressed.{pressed}
-use Rattle.session.specs.Parts.{commandRows, hasStop, textOf}
+use Rattle.script.specs.Parts.{commandRows, textOf, isRefused}
+use Rattle.presses.specs.Pressed.{pressed}
 
 -- a key with its count, or a malformed row: 0, which no call refuses with
 unfoldable pub counted : List ℕ → Count → List ℕ → Caret → Moved
@@ -48,13 +47,6 @@ start = record { row = 0; col = 0; sticky = Absent }
 -- what the commands of an input print with a text, from row 0 and column 0 on
 abbrev pub outputOf : List ℕ → List ℕ → List ℕ
 outputOf t input = linesOf t start (commandRows (rows input))
-
--- over 16,384 bytes, a byte above 127, or no full-stop row
-abbrev pub isAbove : ℕ → Bool
-isAbove b = ltb 127 b
-
-unfoldable pub isRefused : List ℕ → Bool
-isRefused input = ltb 16384 (length input) || (any isAbove input || not (hasStop (rows input)))
 
 unfoldable pub sessionOf : List ℕ → List ℕ
 sessionOf input = cond (isRefused input) (bytes "refused\n") (outputOf (textOf input) input)

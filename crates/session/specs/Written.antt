@@ -10,9 +10,3 @@ pub record Printed (out s : List ℕ) (r : ℕ) (out′ : List ℕ) : Type 0 whe
   pub front : out′ ≡ s ++ drop r out
   pub within : r ≤ length out′
   pub counts : r ≡ length (take r out′)
-
--- the first n places of the room hold the bytes from an index on
-pub record Widened (input : List ℕ) (from n : ℕ) (room : List ℕ) : Type 0 where
-  pub front : take n room ≡ drop from input
-  pub within : n ≤ length room
-  pub counts : n ≡ length (take n room)

@@ -2,83 +2,20 @@
 // prints a line: its key, and the row and column of the caret then.
 use commands::Count;
 use commands::find;
-use commands::same;
 use motions::Caret;
 use motions::Moved;
 use motions::Sticky;
 use print::put;
 use print::put_bytes;
 use print::put_decimal;
+use script::Begin;
 ghost use mathlib.Core.Path.{_≡_};
-ghost use mathlib.Core.Bool.{not};
 ghost use Prim.Native.Nat.{_+_, _≤_};
 ghost use lib.ListN.{length, drop};
-ghost use Rattle.text.specs.Text.{any};
 ghost use Rattle.print.specs.Print.{Wrote, bytes};
 ghost use Rattle.motions.specs.Carets.{caretAfter};
-ghost use Rattle.session.specs.Parts.{isStop, stopOf};
-ghost use Rattle.session.specs.Session.{isAbove, turned, shownOf};
-ghost use Rattle.session.specs.Session.{lineOf, outputOf, sessionOf};
-ghost use Rattle.session.specs.Written.{Printed, Widened};
-
-// Where a text begins in an input, or that the input has none.
-enum Stop {
-    At(usize),
-    Missing,
-}
-
-// Whether no byte is above 127.
-fn plain(input: &[u8]) -> bool
-    ensures { λ r. ⌜ r ≡ not (any isAbove (now (input .entry))) ⌝ }
-{
-    let mut i: usize = 0;
-    while i < input.len() {
-        if input[i] > 127 {
-            return false;
-        }
-        i += 1;
-    }
-    true
-}
-
-// Whether a row has only a full stop.
-fn is_stop(row: &[u8]) -> bool
-    ensures { λ r. ⌜ r ≡ isStop (now (row .entry)) ⌝ }
-{
-    same(row, b".")
-}
-
-// Where the text begins, past the first such row; or that there is none.
-fn find_stop(input: &[u8]) -> Stop
-    requires { ⌜ length (now input) ≤ 16384 ⌝ }
-    ensures { λ r. ⌜ r ≡ stopOf (now (input .entry)) ⌝ }
-{
-    let mut i: usize = 0;
-    while i <= input.len() {
-        let e = find(input, i, b'\n');
-        let next = e + 1;
-        if is_stop(&input[i..e]) {
-            return Stop::At(next);
-        }
-        i = next;
-    }
-    Stop::Missing
-}
-
-// Puts the bytes from an index on into the room as code points, and answers how many there are.
-fn widen(input: &[u8], from: usize, room: &mut [u32]) -> usize
-    requires { ⌜ length (now input) ≤ length (now room) ⌝ }
-    ensures { λ r. ⌜ Widened (now (input .entry)) from r (now (room .exit)) ⌝ }
-{
-    let mut i: usize = from;
-    let mut n: usize = 0;
-    while i < input.len() {
-        room[n] = input[i] as u32;
-        n += 1;
-        i += 1;
-    }
-    n
-}
+ghost use Rattle.session.specs.Session.{turned, shownOf, lineOf, outputOf, sessionOf};
+ghost use Rattle.session.specs.Written.{Printed};
 
 // What a command row does: where it leads to, or the number that it is refused with, 0 for an
 // unknown key or a malformed row.
@@ -86,7 +23,7 @@ fn turn(t: &[u32], k: Caret, row: &[u8]) -> Moved
     ensures { λ r. ⌜ r ≡ turned (now (t .entry)) k (now (row .entry)) ⌝ }
 {
     match commands::count_in(row) {
-        Count::Of(n) => keys::press(commands::key(row), k, t, n),
+        Count::Of(n) => presses::press(commands::key(row), k, t, n),
         Count::Malformed => Moved::Refused(0),
     }
 }
@@ -149,7 +86,7 @@ fn lines(input: &[u8], t: &[u32], out: &mut [u8]) -> usize
     while i <= input.len() {
         let e = find(input, i, b'\n');
         let row = &input[i..e];
-        if is_stop(row) {
+        if script::is_stop(row) {
             return at;
         }
         let m = turn(t, k, row);
@@ -167,7 +104,7 @@ fn run(input: &[u8], from: usize, out: &mut [u8]) -> usize
         (now (input .entry))) r (now (out .exit)) ⌝ }
 {
     let mut room = [0u32; 16384];
-    let n = widen(input, from, &mut room);
+    let n = script::widen(input, from, &mut room);
     lines(input, &room[..n], out)
 }
 
@@ -186,14 +123,8 @@ pub fn session(input: &[u8], out: &mut [u8; 393240]) -> usize
     ensures { λ r. ⌜ Printed (now (out .entry)) (sessionOf (now (input .entry))) r
         (now (out .exit)) ⌝ }
 {
-    if input.len() > 16384 {
-        return refuse(out);
-    }
-    if !plain(input) {
-        return refuse(out);
-    }
-    match find_stop(input) {
-        Stop::At(from) => run(input, from, out),
-        Stop::Missing => refuse(out),
+    match script::begins(input) {
+        Begin::At(from) => run(input, from, out),
+        Begin::Refused => refuse(out),
     }
 }

@@ -1,0 +1,12 @@
+-- `script::is_stop` meets its contract. Assumes nothing.
+use borrow.Author.Needs.{needs}
+use Rattle.print.specs.Print.{bytes}
+use Rattle.script.proofs.is_stop.Statement.{statement}
+use Rattle.script.proofs.is_stop.Tie as tie
+
+returns : tie.Need-returns
+unfolding bytes
+returns c = c .same .ensures .is
+
+pub is-stop-spec : {M : Type 1} → statement M
+is-stop-spec = tie.close (tie.spec (λ c. search needs) (λ c κs. search needs) returns)
