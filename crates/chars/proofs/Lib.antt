@@ -1,2 +1,4 @@
 pub mod Facts
+pub mod Lists
+pub mod Scalars
 pub mod Tables

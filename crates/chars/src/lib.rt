@@ -12,6 +12,7 @@ mod widths;
 pub use letter_table::LETTERS;
 pub use letters::is_letter;
 pub use letters::letter_in;
+pub use scalar::all_scalar;
 pub use scalar::is_scalar;
 pub use white::WHITE;
 pub use white::is_white;

@@ -4,7 +4,7 @@ use crate::Halted;
 use places::Setting;
 use places::Spot;
 use places::Step;
-use places::steps;
+use places::near;
 ghost use mathlib.Core.Path.{_≡_};
 ghost use Rattle.loops.specs.Walks.{skip, leave, run, back};
 ghost use Rattle.loops.specs.Halts.{haltOf, HaltIn};
@@ -21,11 +21,11 @@ pub fn skip(t: &[u32], bounds: &[u32], table: &[u32], s: Setting, a: u32, b: u32
 {
     let mut cur = p;
     loop {
-        let k = steps::kind_at(t, bounds, table, s, cur);
+        let k = near::kind_at(t, bounds, table, s, cur);
         if !((k == a) | (k == b)) {
             return Halted::Done(cur);
         }
-        match steps::step_forward(t, cur) {
+        match near::step_forward(t, cur) {
             Step::At(q) => {
                 cur = q;
             }
@@ -47,11 +47,11 @@ pub fn leave(t: &[u32], bounds: &[u32], table: &[u32], s: Setting, kind: u32, p:
     let row = p.row;
     let mut cur = p;
     loop {
-        let k = steps::kind_at(t, bounds, table, s, cur);
+        let k = near::kind_at(t, bounds, table, s, cur);
         if !((k == kind) & (cur.row == row)) {
             return Halted::Done(cur);
         }
-        match steps::step_forward(t, cur) {
+        match near::step_forward(t, cur) {
             Step::At(q) => {
                 cur = q;
             }
@@ -72,9 +72,9 @@ pub fn run(t: &[u32], bounds: &[u32], table: &[u32], s: Setting, kind: u32, p: S
 {
     let mut cur = p;
     loop {
-        match steps::step_forward(t, cur) {
+        match near::step_forward(t, cur) {
             Step::At(q) => {
-                let k = steps::kind_at(t, bounds, table, s, q);
+                let k = near::kind_at(t, bounds, table, s, q);
                 if !((q.row == cur.row) & (k == kind)) {
                     return Halted::Done(cur);
                 }
@@ -97,11 +97,11 @@ pub fn back(t: &[u32], bounds: &[u32], table: &[u32], s: Setting, class: u32, p:
 {
     let mut cur = p;
     loop {
-        let k = steps::cls(t, bounds, table, s, cur);
-        if !((k == class) & !steps::on_empty_row(t, cur)) {
+        let k = near::cls(t, bounds, table, s, cur);
+        if !((k == class) & !near::on_empty_row(t, cur)) {
             return Halted::Done(cur);
         }
-        match steps::dec(t, cur) {
+        match near::dec(t, cur) {
             Step::At(q) => {
                 cur = q;
             }

@@ -3,7 +3,8 @@
 use mathlib.Core.Path.{_≡_, refl}
 use mathlib.Core.List.{List, [], _∷_}
 use Prim.Native.Nat.{ℕ}
-use Rattle.text.specs.Text.{any, textRefusal, onFirst, rows}
+use Rattle.chars.specs.Scalar.{any}
+use Rattle.text.specs.Text.{textRefusal, onFirst, rows}
 use Rattle.text.specs.Offsets.{startIn}
 use Rattle.lines.specs.Margins.{indentOf}
 use Rattle.lines.specs.Paragraphs.{roundFrom, paragraphs}

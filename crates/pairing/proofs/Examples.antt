@@ -4,7 +4,8 @@ use mathlib.Core.Path.{_≡_, refl}
 use mathlib.Core.Bool.{true, false}
 use mathlib.Core.List.{List, [], _∷_}
 use Prim.Native.Nat.{ℕ}
-use Rattle.text.specs.Text.{any, textRefusal, onFirst, rows}
+use Rattle.chars.specs.Scalar.{any}
+use Rattle.text.specs.Text.{textRefusal, onFirst, rows}
 use Rattle.text.specs.Offsets.{startIn, rowOf}
 use Rattle.scans.specs.declared.Found.the-variants.{At}
 use Rattle.partners.specs.declared.Partner.the-variants.{There, None}

@@ -1,5 +1,3 @@
-pub mod Lists
 pub mod NumberLaws
 pub mod PartLaws
-pub mod RefusalLaws
 pub mod TrimLaws

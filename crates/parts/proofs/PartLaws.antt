@@ -11,7 +11,7 @@ use lib.ListN.{length, getD, take, drop, drop-of-length-le, length-drop}
 use lib.Seq.{drop-drop}
 use borrow.Author.Tests.{eq-eqb, ne-eqb, le-leb, lt-leb}
 use Rattle.parts.specs.Parts.{onFirst, parts, upTo}
-use Rattle.parts.proofs.Lists.{drop-at}
+use Rattle.chars.proofs.Lists.{drop-at-of as drop-at}
 
 module _ (l : List ℕ) (i x : ℕ) where
   pub up-to-stop : i < length l → getD l i 0 ≡ x → upTo x (drop i l) ≡ 0

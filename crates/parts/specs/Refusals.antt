@@ -1,23 +1,19 @@
 -- What the contracts of `src/refusals.rt` cite: the refusals of keyword lists, 0 where there is none. Document 01, "Refusal numbers".
 -- Definitions only. Assumes nothing.
 use Prim.Native.Nat.{ℕ}
-use mathlib.Core.List.{List, [], _∷_}
-use mathlib.Core.Bool.{Bool, true, cond, _&&_}
+use mathlib.Core.List.{List}
+use mathlib.Core.Bool.{cond, not, _&&_}
 use lib.Dec.{leb, eqb}
 use lib.ListN.{length}
-use Rattle.chars.specs.Scalar.{isScalar}
+use Rattle.chars.specs.Scalar.{isScalar, any, notScalar}
 
 -- 2: the character tested is no scalar value
 abbrev pub charRefusal : ℕ → ℕ
 charRefusal c = cond (isScalar c) 0 2
 
-unfoldable pub allScalar : List ℕ → Bool
-allScalar [] = true
-allScalar (x ∷ list) = isScalar x && allScalar list
-
 -- 7: the list is over 1,024 code points, or holds a value that is no scalar value
 abbrev pub listRefusal : List ℕ → ℕ
-listRefusal list = cond (leb (length list) 1024 && allScalar list) 0 7
+listRefusal list = cond (leb (length list) 1024 && not (any notScalar list)) 0 7
 
 -- 8: more than 128 tokens, or a table given with a length above 128
 abbrev pub tableRefusal : ℕ → ℕ

@@ -19,12 +19,8 @@ pub fn refused_list(list: &[u32]) -> u32
     if 1024 < list.len() {
         return 7;
     }
-    let mut i: usize = 0;
-    while i < list.len() {
-        if !chars::is_scalar(list[i]) {
-            return 7;
-        }
-        i += 1;
+    if !chars::all_scalar(list) {
+        return 7;
     }
     0
 }

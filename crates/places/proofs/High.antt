@@ -5,7 +5,7 @@ use mathlib.Core.Bool.{Bool, true, or-true}
 use Prim.Native.Nat.{ℕ, zero, suc, _<_}
 use native.Mathlib.Omega.{arith}
 use lib.ListN.{length, getD}
-use Rattle.text.specs.Text.{any}
+use Rattle.chars.specs.Scalar.{any}
 
 pub any-there : (p : ℕ → Bool) (t : List ℕ) (i : ℕ) → i < length t → p (getD t i 0) ≡ true → any p t ≡ true
 unfolding any

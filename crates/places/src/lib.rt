@@ -1,7 +1,7 @@
 // Places of a text, their kinds, and the steps from place to place, on offsets: motions.rs,
 // "Internals". The calls take what a caller has checked.
 mod kinds;
-pub mod steps;
+pub mod near;
 
 // A place of the text: its row, and its offset, which is a separator's where the place is the row's
 // end.

@@ -46,7 +46,7 @@ pub fn enter(t: &[u32], p: Position) -> Entry
     }
 }
 
-// The checks with a character sought: one that is no scalar value is 2, after 1 and before all else.
+// The checks, and one of a character sought: 2 where it is no scalar value, next after 1.
 pub fn enter_with(t: &[u32], p: Position, x: u32) -> Entry
     ensures { λ r. ⌜ r ≡ entryWith (now (t .entry)) p x ⌝ }
 {

@@ -3,7 +3,7 @@ use mathlib.Core.Path.{_≡_, refl}
 use Rattle.chars.specs.Letters.{letters, isLetter}
 use Rattle.chars.specs.White.{whites, isWhite}
 use Rattle.chars.specs.Width.{zeroWidths, doubleWidths, widthOf}
-use Rattle.row.specs.Row.{all, rowRefusal}
+use Rattle.row.specs.Row.{rowRefusal}
 use Rattle.row.specs.Row.{columnOf as columnAt}
 use Rattle.tabstops.specs.Cells.{columnRefusal, stopOf}
 use Rattle.tabstops.specs.Indents.{leadingFrom}
@@ -15,12 +15,12 @@ use Rattle.wrap.specs.Modes.{segmentsOf}
 use Rattle.wrap.specs.Calls.{wrapRefusal}
 use Rattle.cells.specs.Offsets.{cellsIn, pairsBefore}
 use Rattle.wrap.specs.Room.{countOf, roomRefusal}
-use Rattle.text.specs.Text.{any, textRefusal, onFirst, rows}
+use Rattle.chars.specs.Scalar.{any}
+use Rattle.text.specs.Text.{textRefusal, onFirst, rows}
 use Rattle.text.specs.Offsets.{startIn, rowOf}
 use Rattle.folds.specs.Folds.{anyFold, foldRefusal, visibleFrom, prevVisible}
 use Rattle.parts.specs.Numbers.{allDigits, value}
 use Rattle.parts.specs.Parts.{parts, trimStart, trimEnd, upTo}
-use Rattle.parts.specs.Refusals.{allScalar}
 use Rattle.tokens.specs.Tokens.{tokensIn}
 use Rattle.tokens.specs.Tokens.{any as anyOf}
 use Rattle.signs.specs.Kinds.{sideOf, keyBracket}
@@ -61,9 +61,9 @@ use Rattle.promises.specs.Calls.{calls, judged, good}
 
 pub examples : given table ≡ asked table
 unfolding table
-    letters isLetter whites isWhite zeroWidths doubleWidths widthOf all rowRefusal columnAt columnRefusal stopOf visualFrom charFrom
+    letters isLetter whites isWhite zeroWidths doubleWidths widthOf rowRefusal columnAt columnRefusal stopOf visualFrom charFrom
     fits afterWhite firstSegment segmentsFrom segmentsOf any textRefusal onFirst rows startIn rowOf anyFold foldRefusal visibleFrom
-    allDigits value parts trimStart trimEnd upTo allScalar tokensIn anyOf
+    allDigits value parts trimStart trimEnd upTo tokensIn anyOf
     sideOf keyBracket firstFrom lastBelow count stretch nearestOf placed matchingBracketPos keyTo landing findAhead
     roundFrom paragraphs kindOf kindAt onEmptyRow nextRow stepForward endOfBuffer walk goesOn nextWordStart roundOf counted wordMotion
     positionRefusal lowest moving partnerTo seeking landsOn orSought
@@ -73,9 +73,9 @@ examples = refl
 -- every call gives the right reply of its case, and neither of the two wrong ones
 pub right-alone : judged calls ≡ good calls
 unfolding calls
-    letters isLetter whites isWhite zeroWidths doubleWidths widthOf all rowRefusal columnAt columnRefusal stopOf visualFrom charFrom leadingFrom
+    letters isLetter whites isWhite zeroWidths doubleWidths widthOf rowRefusal columnAt columnRefusal stopOf visualFrom charFrom leadingFrom
     fits afterWhite firstSegment segmentsFrom segmentsOf wrapRefusal cellsIn pairsBefore countOf roomRefusal any textRefusal onFirst rows startIn rowOf
-    anyFold foldRefusal visibleFrom prevVisible roundsOf verticalRow landed stepScreen allDigits value parts trimStart trimEnd upTo allScalar tokensIn anyOf
+    anyFold foldRefusal visibleFrom prevVisible roundsOf verticalRow landed stepScreen allDigits value parts trimStart trimEnd upTo tokensIn anyOf
     sideOf keyBracket firstFrom lastBelow count stretch nearestOf placed matchingBracketPos keyTo landing findAhead
     roundFrom paragraphs sectionUp sectionDown kindOf kindAt onEmptyRow nextRow stepForward inc dec endOfBuffer walk goesOn
     nextWordStart prevWordStart nextWordEnd prevWordEnd atWordEnd roundOf counted wordMotion

@@ -8,7 +8,7 @@ use lib.ListN.{length, take, drop, length-drop}
 use lib.Seq.{drop-drop}
 use borrow.Author.Tests.{eq-eqb, ne-eqb}
 use Rattle.text.specs.Text.{onFirst}
-use Rattle.text.proofs.Lists.{drop-at}
+use Rattle.chars.proofs.Lists.{drop-at}
 use Rattle.record.specs.Rows.{rowLength, lines}
 
 -- the first row of a list, and the rows after it

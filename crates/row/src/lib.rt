@@ -2,28 +2,12 @@
 // From document 01, "Refusal numbers", 1 and 2. Rule 3 is about texts: a row holds any scalar
 // values.
 ghost use mathlib.Core.Path.{_≡_};
-ghost use Rattle.chars.specs.Scalar.{isScalar};
-ghost use Rattle.row.specs.Row.{all, rowRefusal};
+ghost use Rattle.row.specs.Row.{rowRefusal};
 
 // A column, of characters or of cells, or the number that the call is refused for.
 pub enum Column {
     At(u32),
     Refused(u32),
-}
-
-// Whether every value is a scalar value. One pass with neither a branch nor an early return in it,
-// which the compiler can do several values at a time.
-pub fn all_scalar(row: &[u32]) -> bool
-    ensures { λ r. ⌜ r ≡ all isScalar (now (row .entry)) ⌝ }
-{
-    let mut wrong = false;
-    let mut i: usize = 0;
-    while i < row.len() {
-        let x = row[i];
-        wrong = wrong | (x > 0x10ffff) | ((x >= 0xd800) & (x <= 0xdfff));
-        i += 1;
-    }
-    !wrong
 }
 
 // 1 for a row of more than 1,048,576 code points, 2 for a value that is no scalar value, else 0.
@@ -33,7 +17,7 @@ pub fn row_refusal(row: &[u32]) -> u32
     if row.len() > 1048576 {
         return 1;
     }
-    if !all_scalar(row) {
+    if !chars::all_scalar(row) {
         return 2;
     }
     0

@@ -1,7 +1,7 @@
 // The walks of the screen motions `gj` and `gk`, over rows that are broken into segments: from a
 // place of an accepted text to the row and column that the motion leads to. From motions.rs,
 // "Internals". Segments are walked and never stored.
-mod jumps;
+mod out_of_folds;
 mod walks;
 pub mod wrapped;
 

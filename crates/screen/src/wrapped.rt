@@ -1,6 +1,6 @@
 // `gj` and `gk`: the target of `move_screen_vertical` of motions.rs. The text, the place, the
 // folds and the tabstop were accepted.
-use crate::jumps;
+use crate::out_of_folds;
 use crate::walks;
 use text::Line;
 use text::most;
@@ -33,7 +33,7 @@ fn move_broken(
 {
     let want = moves::wanted(t, folds, l, col, sticky, tabstop);
     let rows = text::row_count(t);
-    let j = jumps::jump(t, folds, rows, down, l, col);
+    let j = out_of_folds::jump(t, folds, rows, down, l, col);
     let m = Line {
         row: j.row,
         start: j.start,

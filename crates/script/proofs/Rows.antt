@@ -8,29 +8,14 @@ use native.Mathlib.Decide.{decLt}
 use native.Mathlib.Omega.{arith}
 use lib.Dec.{eqb, leb, ltb}
 use lib.ListN.{length, getD, take, drop, set, drop-of-length-le, length-drop}
-use lib.Seq.{drop-cons, drop-drop, length-take-le, take-suc, take-suc-set, getD-drop, take-all}
+use lib.Seq.{drop-drop, length-take-le, take-suc, take-suc-set, getD-drop, take-all}
 use borrow.Author.Tests.{le-leb, lt-leb, lt-ltb, le-ltb, ltb-false}
-use Rattle.text.specs.Text.{any, rows, onFirst}
+use Rattle.chars.specs.Scalar.{any}
+use Rattle.chars.proofs.Lists.{drop-at}
+use Rattle.text.specs.Text.{rows, onFirst}
 use Rattle.commands.specs.Commands.{upTo, Ends}
 use Rattle.script.specs.declared.Begin.the-variants.{At, Refused}
 use Rattle.script.specs.Parts.{isStop, hasStop, textAt, isAbove, isRefused, beginOf, stopOf}
-
-drop-on : (l : List ℕ) (i : ℕ) → i < length l → drop i l ≡ getD l i 0 ∷ drop (i + 1) l
-drop-on l i h = rw (add-one i) (drop-cons l i 0 h)
-
--- bytes above 127
-module _ (l : List ℕ) (i : ℕ) where
-  pub above-on : i < length l → getD l i 0 ≤ 127 → any isAbove (drop i l) ≡ any isAbove (drop (i + 1) l)
-  unfolding any
-  above-on h p = rw (drop-on l i h, le-ltb 127 (getD l i 0) p)
-
-  pub above-stop : i < length l → 127 < getD l i 0 → any isAbove (drop i l) ≡ true
-  unfolding any
-  above-stop h p = rw (drop-on l i h, lt-ltb 127 (getD l i 0) p)
-
-  pub above-end : length l ≤ i → any isAbove (drop i l) ≡ false
-  unfolding any
-  above-end h = rw (drop-of-length-le l h)
 
 -- the rows after a separator, if there is one
 after : List ℕ → List (List ℕ)
@@ -65,7 +50,7 @@ unfolding rowsFrom after
 after-at l e = go (decLt e (length l))
   where
     go : Dec (e < length l) → after (drop e l) ≡ cond (leb (e + 1) (length l)) (rows (drop (e + 1) l)) []
-    go (yes h) = rw (drop-on l e h, le-leb (e + 1) (length l) (omega arith))
+    go (yes h) = rw (drop-at l e h, le-leb (e + 1) (length l) (omega arith))
     go (no n) = rw (drop-of-length-le l {i = e} (omega arith), lt-leb (e + 1) (length l) (omega arith))
 
 -- the first of them is what `&l[i..e]` reads

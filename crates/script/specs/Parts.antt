@@ -6,7 +6,8 @@ use mathlib.Core.List.{List, [], _∷_}
 use mathlib.Core.Bool.{Bool, false, cond, not, _||_}
 use lib.Dec.{ltb}
 use lib.ListN.{length, take, drop}
-use Rattle.text.specs.Text.{any, rows}
+use Rattle.chars.specs.Scalar.{any}
+use Rattle.text.specs.Text.{rows}
 use Rattle.print.specs.Print.{bytes}
 use Rattle.commands.specs.Commands.{isSame}
 use Rattle.script.specs.declared.Begin.{Begin}

@@ -6,7 +6,7 @@ ghost use mathlib.Core.Path.{_≡_};
 ghost use mathlib.Core.Bool.{not};
 ghost use Prim.Native.Nat.{_≤_};
 ghost use lib.ListN.{length};
-ghost use Rattle.text.specs.Text.{any};
+ghost use Rattle.chars.specs.Scalar.{any};
 ghost use Rattle.script.specs.Parts.{isAbove, isStop, stopOf, beginOf, Widened};
 
 // Where a text begins in an input, or that the input is refused.
@@ -19,14 +19,13 @@ pub enum Begin {
 fn plain(input: &[u8]) -> bool
     ensures { λ r. ⌜ r ≡ not (any isAbove (now (input .entry))) ⌝ }
 {
+    let mut above = false;
     let mut i: usize = 0;
     while i < input.len() {
-        if input[i] > 127 {
-            return false;
-        }
+        above = above | (input[i] > 127);
         i += 1;
     }
-    true
+    !above
 }
 
 // Whether a row has only a full stop.

@@ -14,7 +14,7 @@ use lib.Seq.{drop-cons, getD-drop, drop-drop}
 use borrow.Author.Tests.{eq-eqb, ne-eqb}
 use Rattle.text.specs.Text.{onFirst, rows, rowCount, rowAt, rowLen}
 use Rattle.text.specs.Offsets.{startIn, rowStart}
-use Rattle.text.proofs.Lists.{drop-at}
+use Rattle.chars.proofs.Lists.{drop-at}
 
 -- what a code point in front does to the rows
 pub rows-nl : (x : ℕ) (t : List ℕ) → x ≡ 10 → rows (x ∷ t) ≡ [] ∷ rows t

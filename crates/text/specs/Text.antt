@@ -5,17 +5,9 @@ use mathlib.Core.List.{List, [], _∷_}
 use mathlib.Core.Bool.{Bool, true, false, cond, _&&_, _||_, not}
 use lib.ListN.{length, getD}
 use lib.Dec.{eqb, ltb, leb}
-use Rattle.chars.specs.Scalar.{isScalar}
+use Rattle.chars.specs.Scalar.{any, notScalar}
 use Rattle.text.specs.declared.Counted.{Counted}
 use Rattle.text.specs.declared.Counted.the-variants.{Rows, Refused}
-
--- some code point of the list is such
-unfoldable pub any : (ℕ → Bool) → List ℕ → Bool
-any p [] = false
-any p (x ∷ t) = p x || any p t
-
-abbrev pub notScalar : ℕ → Bool
-notScalar x = not (isScalar x)
 
 -- the line breaks that a text may not hold: U+000B to U+000D, U+0085, U+2028 and U+2029
 abbrev pub isBreak : ℕ → Bool

@@ -1,6 +1,6 @@
 // One round of the word motions, on offsets, with the jump out of a closed fold: "Word motions" of
 // motions.rs.
-mod jumps;
+mod out_of_folds;
 pub mod rounds;
 
 use places::Spot;

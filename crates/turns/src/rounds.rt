@@ -2,7 +2,7 @@
 // `move_word_end_back` of motions.rs.
 use crate::Motion;
 use crate::Round;
-use crate::jumps;
+use crate::out_of_folds;
 use places::Setting;
 use places::Spot;
 use places::Step;
@@ -33,7 +33,7 @@ fn fwd_round(t: &[u32], folds: &[u32], bounds: &[u32], table: &[u32], s: Setting
         variant.Fwd false (placeOf (now (t .entry)) p)) ×
         RoundIn (now (t .entry)) r ⌝ }
 {
-    let from = jumps::fold_jump_fwd(t, folds, s.rows, s.content, p);
+    let from = out_of_folds::fold_jump_fwd(t, folds, s.rows, s.content, p);
     turned(from, strides::next_word_start(t, bounds, table, s, from))
 }
 
@@ -46,7 +46,7 @@ fn back_round(t: &[u32], folds: &[u32], bounds: &[u32], table: &[u32], s: Settin
         variant.Back false (placeOf (now (t .entry)) p)) ×
         RoundIn (now (t .entry)) r ⌝ }
 {
-    let from = jumps::fold_jump_back(t, folds, s.rows, s.content, p);
+    let from = out_of_folds::fold_jump_back(t, folds, s.rows, s.content, p);
     turned(from, strides::prev_word_start(t, bounds, table, s, from))
 }
 
@@ -67,7 +67,7 @@ fn end_round(
         variant.End stop (placeOf (now (t .entry)) p)) ×
         RoundIn (now (t .entry)) r ⌝ }
 {
-    let from = jumps::fold_jump_fwd(t, folds, s.rows, s.content, p);
+    let from = out_of_folds::fold_jump_fwd(t, folds, s.rows, s.content, p);
     if stop {
         if strides::at_word_end(t, bounds, table, s, from) {
             return Round::Next(from);

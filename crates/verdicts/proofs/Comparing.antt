@@ -8,7 +8,7 @@ use lib.ListN.{length, getD, take, drop, replicate, drop-of-length-le, length-dr
 use lib.Seq.{take-all}
 use lib.Dec.{eqb}
 use borrow.Author.Tests.{eq-eqb, ne-eqb}
-use Rattle.text.proofs.Lists.{drop-at}
+use Rattle.chars.proofs.Lists.{drop-at}
 use Rattle.lent.specs.declared.Told.{Told}
 use Rattle.lent.specs.declared.Told.the-variants.{Value, Refused as Told·Refused}
 use Rattle.lent.specs.Reply.{Reply, Replied, number, left, told}

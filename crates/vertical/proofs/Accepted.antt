@@ -1,16 +1,16 @@
 -- A row of an accepted text is accepted. Assumes nothing.
 use mathlib.Core.Path.{_≡_, refl, ap, _∙_}
 use mathlib.Core.List.{List, [], _∷_}
-use mathlib.Core.Bool.{Bool, true, false, cond, not, _&&_, _||_}
+use mathlib.Core.Bool.{Bool, true, false, cond, _||_}
 use Prim.Native.Nat.{ℕ, zero, suc, _-_, _<_, min}
 use native.Mathlib.Omega.{arith}
 use lib.Dec.{ltb}
 use lib.ListN.{length, take, drop}
 use borrow.Author.Tests.{le-ltb, eq-eqb}
-use Rattle.chars.specs.Scalar.{isScalar}
-use Rattle.row.specs.Row.{all, rowRefusal}
+use Rattle.row.specs.Row.{rowRefusal}
 use Rattle.tabstops.specs.Cells.{columnRefusal}
-use Rattle.text.specs.Text.{any, notScalar, isBreak, textRefusal, rowCount, rowAt, rowLen}
+use Rattle.chars.specs.Scalar.{any, notScalar}
+use Rattle.text.specs.Text.{isBreak, textRefusal, rowCount, rowAt, rowLen}
 use Rattle.folds.proofs.Hiding.{or-right}
 use Rattle.text.proofs.Parts.{row-part, row-fits}
 use Rattle.text.specs.Offsets.{rowStart, lineAt}
@@ -23,16 +23,15 @@ any-drop p zero l e = e
 any-drop p (suc n) [] e = e
 any-drop p (suc n) (x ∷ l) e = any-drop p n l (or-right (p x) (any p l) e)
 
--- the front of a list in which none is wrong
-all-take : (n : ℕ) (l : List ℕ) → any notScalar l ≡ false → all isScalar (take n l) ≡ true
-unfolding any all
-all-take zero l e = refl
-all-take (suc n) [] e = refl
-all-take (suc n) (x ∷ l) e = go (isScalar x) refl e (all-take n l (or-right (notScalar x) (any notScalar l) e))
+any-take : (p : ℕ → Bool) (n : ℕ) (l : List ℕ) → any p l ≡ false → any p (take n l) ≡ false
+unfolding any
+any-take p zero l e = refl
+any-take p (suc n) [] e = refl
+any-take p (suc n) (x ∷ l) e = go (p x) (any p l) (any p (take n l)) e (any-take p n l (or-right (p x) (any p l) e))
   where
-    go : (b : Bool) → isScalar x ≡ b → (not b || any notScalar l) ≡ false → all isScalar (take n l) ≡ true → (isScalar x && all isScalar (take n l)) ≡ true
-    go true h f ih = rw (h, ih)
-    go false h f ih = let z : _≡_ {A = ℕ} 0 1 = cc in absurd (omega arith)
+    go : (b c d : Bool) → (b || c) ≡ false → d ≡ false → (b || d) ≡ false
+    go true c d h f = h
+    go false c d h f = f
 
 all-scalar : (t : List ℕ) → textRefusal t ≡ 0 → any notScalar t ≡ false
 unfolding textRefusal
@@ -47,7 +46,7 @@ module _ {t : List ℕ} {row tabstop : ℕ} (a : AcceptedRow t row tabstop) wher
   row-accepted : rowRefusal (rowAt t row) ≡ 0
   unfolding rowRefusal
   row-accepted =
-      let scalars = all-take (rowLen t row) (drop (rowStart t row) t) (any-drop notScalar (rowStart t row) t (all-scalar t (a .good))) in
+      let scalars = any-take notScalar (rowLen t row) (drop (rowStart t row) t) (any-drop notScalar (rowStart t row) t (all-scalar t (a .good))) in
       rw (le-ltb 1048576 (rowLen t row) (omega (arith, row-fits t row (a .in-rows), a .brief)), rw (← row-part t row (a .in-rows)) at scalars)
 
   pub columns-accepted : columnRefusal (rowAt t row) tabstop ≡ 0

@@ -2,6 +2,7 @@
 use mathlib.Core.Path.{sym, _∙_}
 use borrow.Author.Tests.{lt-ltb, le-ltb, not-true, not-false}
 use borrow.Author.Needs.{needs}
+use Rattle.chars.specs.Scalar.{any, notScalar}
 use Rattle.row.specs.Row.{rowRefusal}
 use Rattle.row.proofs.row_refusal.Statement.{statement}
 use Rattle.row.proofs.row_refusal.Tie as tie
@@ -15,11 +16,15 @@ all-scalar-requires c κs = search needs
 
 returns-2 : tie.Need-returns-2
 unfolding rowRefusal
-returns-2 c = rw (le-ltb _ _ (c .before .before .if1 .left), sym (c .before .all-scalar .ensures) ∙ not-true _ (c .if2 .taken))
+returns-2 c =
+    let wrong = any notScalar (c .before .before .before .before .args .row .now) in
+    rw (le-ltb _ _ (c .before .before .if1 .left), not-false wrong (sym (c .before .all-scalar .ensures) ∙ not-true _ (c .if2 .taken)))
 
 returns-3 : tie.Need-returns-3
 unfolding rowRefusal
-returns-3 c = rw (le-ltb _ _ (c .before .before .if1 .left), sym (c .before .all-scalar .ensures) ∙ not-false _ (c .if2 .left))
+returns-3 c =
+    let wrong = any notScalar (c .before .before .before .before .args .row .now) in
+    rw (le-ltb _ _ (c .before .before .if1 .left), not-true wrong (sym (c .before .all-scalar .ensures) ∙ not-false _ (c .if2 .left)))
 
 pub row-refusal-spec : {M : Type 1} → statement M
 row-refusal-spec = tie.close (tie.spec returns all-scalar-requires returns-2 returns-3)

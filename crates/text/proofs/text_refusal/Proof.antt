@@ -6,8 +6,10 @@ use mathlib.Core.Bool.{_||_}
 use lib.ListN.{length, drop}
 use borrow.Author.Needs.{needs}
 use borrow.Author.Tests.{lt-ltb, le-ltb}
-use Rattle.text.specs.Text.{any, notScalar, isBreak, textRefusal}
-use Rattle.text.proofs.Check.{any-on, any-end, each-its-own}
+use Rattle.chars.specs.Scalar.{any, notScalar}
+use Rattle.chars.proofs.Scalars.{any-on, any-end}
+use Rattle.text.specs.Text.{isBreak, textRefusal}
+use Rattle.text.proofs.Check.{each-its-own}
 use Rattle.text.proofs.text_refusal.Statement.{statement}
 use Rattle.text.proofs.text_refusal.Tie as tie
 

@@ -1,0 +1,16 @@
+-- `turns::out_of_folds::row_first` meets its contract. Assumes nothing.
+use native.Mathlib.Omega.{arith}
+use Rattle.turns.proofs.Folding.{row-place}
+use borrow.Author.Needs.{needs}
+use Rattle.turns.proofs.out_of_folds.row_first.Statement.{statement}
+use Rattle.turns.proofs.out_of_folds.row_first.Tie as tie
+
+returns : tie.Need-returns
+returns c =
+    let s = c .before .before in
+    row-place s.args.t.now s.args.row (s .pre .1) (c .line-from .result) (c .line-from .ensures) 0 _ (omega arith) (omega arith)
+
+pub row-first-spec : {M : Type 1} → statement M
+row-first-spec =
+    tie.close
+    (tie.spec (λ c κs. search needs) returns)
