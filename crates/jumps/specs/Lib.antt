@@ -1,4 +1,3 @@
 pub mod Rows
 pub mod Sections
 pub mod Paragraphs
-pub mod Jumps

@@ -4,7 +4,7 @@ use Prim.Native.Nat.{ℕ, _+_, _-_, min}
 use mathlib.Core.List.{List}
 use mathlib.Core.Bool.{cond, _&&_}
 use lib.Dec.{eqb, ltb, leb}
-use Rattle.lines.specs.Margins.{firstNonBlank}
+use Rattle.margins.specs.Margins.{firstNonBlank}
 use Rattle.lines.specs.Paragraphs.{lastRow}
 use Rattle.positions.specs.declared.Position.{Position}
 use Rattle.positions.specs.Positions.{position}

@@ -1,5 +1,5 @@
 // The first character of a row that is no blank: the moves of `+`, `-`, `_`, `gg` and `G`.
-use lines::margins::first_non_blank;
+use margins::first_non_blank;
 use positions::Position;
 use text::Line;
 use text::most;

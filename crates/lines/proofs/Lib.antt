@@ -4,4 +4,3 @@ pub mod Walks
 pub mod Rounding
 pub mod Leading
 pub mod Marks
-pub mod Edging

@@ -1,4 +1,3 @@
 pub mod Toward
 pub mod Paragraphs
 pub mod Sections
-pub mod Margins

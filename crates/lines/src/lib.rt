@@ -1,7 +1,5 @@
 // Walks from row to row of a text, on offsets: the steps of a signed row, paragraphs, and
-// sections; and the margins of a row. There is no caret here.
-// From motions.rs.
-pub mod margins;
+// sections. There is no caret here. From motions.rs.
 pub mod paragraphs;
 pub mod sections;
 pub mod toward;

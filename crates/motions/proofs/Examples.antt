@@ -6,7 +6,7 @@ use Prim.Native.Nat.{ℕ}
 use Rattle.chars.specs.Scalar.{any}
 use Rattle.text.specs.Text.{textRefusal, onFirst, rows}
 use Rattle.text.specs.Offsets.{startIn}
-use Rattle.lines.specs.Margins.{indentOf}
+use Rattle.margins.specs.Margins.{indentOf}
 use Rattle.lines.specs.Paragraphs.{roundFrom, paragraphs}
 use Rattle.positions.specs.Positions.{positionRefusal, lowest}
 use Rattle.motions.specs.declared.Caret.{Caret}

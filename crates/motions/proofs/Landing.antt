@@ -7,13 +7,13 @@ use Prim.Native.Nat.{ℕ}
 use native.Mathlib.Omega.{arith}
 use lib.Dec.{eqb}
 use borrow.Author.Tests.{eqb-true}
-use Rattle.steps.specs.declared.Step.{Step}
-use Rattle.steps.specs.Steps.{stepped}
+use Rattle.ways.specs.declared.Step.{Step}
+use Rattle.ways.specs.Ways.{stepped}
 use Rattle.positions.proofs.Checks.{inside}
-use Rattle.steps.proofs.Staying.{stepped-in}
-use Rattle.jumps.specs.declared.Jump.{Jump}
-use Rattle.jumps.specs.Jumps.{jumped}
-use Rattle.jumps.proofs.Staying.{jumped-in}
+use Rattle.ways.proofs.Staying.{stepped-in}
+use Rattle.ways.specs.declared.Jump.{Jump}
+use Rattle.ways.specs.Ways.{jumped}
+use Rattle.ways.proofs.Staying.{jumped-in}
 use Rattle.motions.specs.declared.Caret.{Caret}
 use Rattle.motions.specs.declared.Moved.{Moved}
 use Rattle.motions.specs.declared.Moved.the-variants.{To, Refused}

@@ -2,10 +2,10 @@
 // The moves are those of `jumps`.
 use crate::Caret;
 use crate::Moved;
-use jumps::Jump;
 use positions::Position;
+use ways::Jump;
 ghost use mathlib.Core.Path.{_≡_};
-ghost use Rattle.jumps.specs.Jumps.{jumped};
+ghost use Rattle.ways.specs.Ways.{jumped};
 ghost use Rattle.motions.specs.Carets.{here, leads};
 ghost use Rattle.motions.specs.Lines.{moveTop, moveBottom, moveFirstNonBlankNextLine};
 ghost use Rattle.motions.specs.Lines.{moveFirstNonBlankPrevLine, moveFirstNonBlankLine};
@@ -27,7 +27,7 @@ impl Caret {
             row: self.row as usize,
             col: self.col as usize,
         };
-        let q = jumps::ways::jump(t, p, e.start, j, count);
+        let q = ways::across::jump(t, p, e.start, j, count);
         Moved::To(self.placed(q.row, q.col))
     }
 

@@ -43,7 +43,7 @@ use Rattle.turns.specs.Rounds.{roundOf, counted, wordMotion}
 use Rattle.positions.specs.Positions.{positionRefusal, lowest, orSought}
 use Rattle.steps.specs.Steps.{rounds, spaceFwd, backspaceBack}
 use Rattle.motions.specs.Carets.{moving}
-use Rattle.lines.specs.Margins.{indentOf, solidOf}
+use Rattle.margins.specs.Margins.{indentOf, solidOf}
 use Rattle.motions.specs.Finds.{partnerTo, seeking, landsOn}
 use Rattle.text_calls.specs.Carets.{moved}
 use Rattle.row_calls.specs.Characters.{fact}

@@ -5,8 +5,8 @@ use mathlib.Core.Bool.{Bool, true, false, cond}
 use Prim.Native.Nat.{ℕ}
 use native.Mathlib.Omega.{arith}
 use lib.Dec.{eqb, leb}
-use Rattle.steps.specs.declared.Step.the-variants as step
-use Rattle.jumps.specs.declared.Jump.the-variants as jump
+use Rattle.ways.specs.declared.Step.the-variants as step
+use Rattle.ways.specs.declared.Jump.the-variants as jump
 use Rattle.motions.specs.declared.Caret.{Caret}
 use Rattle.motions.specs.declared.Moved.the-variants.{Refused}
 use Rattle.motions.proofs.Landing.{Lands, step-lands, jump-lands}

@@ -1,23 +1,18 @@
--- Where each step leads from a position in the text is a position of the text: a row of it, and at most the row's character count.
+-- Where characters on or back lead from a position in the text is a position of the text: a row of it, and at most the row's character count.
 -- Assumes nothing.
 use mathlib.Core.Path.{_≡_, refl}
 use mathlib.Core.List.{List}
 use mathlib.Core.Bool.{Bool, true, false, cond}
-use Prim.Native.Nat.{ℕ, zero, suc, _+_, _-_, _≤_, _<_, _^_, min, max}
+use Prim.Native.Nat.{ℕ, zero, suc, _+_, _-_, _≤_, _<_, _^_}
 use native.Mathlib.Omega.{arith}
 use lib.Dec.{ltb}
 use lib.ListN.{length}
 use borrow.Author.Tests.{ltb-true}
-use Rattle.text.specs.Text.{rowCount, rowAt, rowLen}
+use Rattle.text.specs.Text.{rowCount, rowLen}
 use Rattle.text.proofs.Parts.{count-le, row-fits}
-use Rattle.lines.specs.Margins.{indentOf, solidOf}
-use Rattle.lines.proofs.Edging.{solid-le}
 use Rattle.positions.specs.declared.Position.{Position}
-use Rattle.steps.specs.declared.Step.{Step}
-use Rattle.steps.specs.declared.Step.the-variants.{Left, RightInLine, RightToEnd, LineStart, LineEnd, GotoColumn, FirstNonBlank, LastNonBlank}
-use Rattle.steps.specs.declared.Step.the-variants.{SpaceFwd, BackspaceBack}
-use Rattle.positions.specs.Positions.{position, inRow, Accepted, Inside}
-use Rattle.steps.specs.Steps.{rounds, spaceFwd, backspaceBack, stepped}
+use Rattle.positions.specs.Positions.{position, Accepted, Inside}
+use Rattle.steps.specs.Steps.{rounds, spaceFwd, backspaceBack}
 
 -- an accepted position, and the numbers of any in its text
 pub accepted-in : {t : List ℕ} {p : Position} {start : ℕ} → Accepted t p start → Inside t p
@@ -36,14 +31,14 @@ pub position-in : (t : List ℕ) (r c : ℕ) → r < rowCount t → c ≤ rowLen
 position-in t r c h l = record { in-row = h; in-col = l }
 
 -- rounds of steps
-rounds-in : (t : List ℕ) (f : Position → Position) → ((p : Position) → Inside t p → Inside t (f p)) → (n : ℕ) (p : Position) → Inside t p →
+pub rounds-in : (t : List ℕ) (f : Position → Position) → ((p : Position) → Inside t p → Inside t (f p)) → (n : ℕ) (p : Position) → Inside t p →
     Inside t (rounds f n p)
 unfolding rounds
 rounds-in t f h zero p i = i
 rounds-in t f h (suc n) p i = rounds-in t f h n (f p) (h p i)
 
 module _ (t : List ℕ) (p : Position) (i : Inside t p) where
-  space-in : Inside t (spaceFwd t p)
+  pub space-in : Inside t (spaceFwd t p)
   unfolding spaceFwd
   space-in = go (ltb (p .col) (rowLen t (p .row) - 1)) (ltb (p .row + 1) (rowCount t)) refl refl
     where
@@ -53,24 +48,8 @@ module _ (t : List ℕ) (p : Position) (i : Inside t p) where
       go false true e f = position-in t (p .row + 1) 0 (ltb-true (p .row + 1) (rowCount t) f) (omega arith)
       go false false e f = i
 
-  backspace-in : Inside t (backspaceBack t p)
+  pub backspace-in : Inside t (backspaceBack t p)
   unfolding backspaceBack
   backspace-in =
       either-in t (ltb 0 (p .col)) _ _ (position-in t (p .row) (p .col - 1) (i .in-row) (omega (arith, i .in-col)))
       (either-in t (ltb 0 (p .row)) _ _ (position-in t (p .row - 1) (rowLen t (p .row - 1) - 1) (omega (arith, i .in-row)) (omega arith)) i)
-
-  col-in : (c : ℕ) → c ≤ rowLen t (p .row) → Inside t (inRow p c)
-  col-in c h = position-in t (p .row) c (i .in-row) h
-
--- every step
-pub stepped-in : (t : List ℕ) (s : Step) (n : ℕ) (p : Position) → Inside t p → Inside t (stepped t s n p)
-stepped-in t Left n p i = col-in t p i (p .col - max n 1) (omega (arith, i .in-col))
-stepped-in t RightInLine n p i = col-in t p i (min (p .col + max n 1) (rowLen t (p .row) - 1)) (omega arith)
-stepped-in t RightToEnd n p i = col-in t p i (min (p .col + max n 1) (rowLen t (p .row))) (omega arith)
-stepped-in t LineStart n p i = col-in t p i 0 (omega arith)
-stepped-in t LineEnd n p i = col-in t p i (rowLen t (p .row) - 1) (omega arith)
-stepped-in t GotoColumn n p i = col-in t p i (min (n - 1) (rowLen t (p .row) - 1)) (omega arith)
-stepped-in t FirstNonBlank n p i = col-in t p i (min (indentOf (rowAt t (p .row))) (rowLen t (p .row) - 1)) (omega arith)
-stepped-in t LastNonBlank n p i = col-in t p i (solidOf (rowAt t (p .row)) - 1) (omega (arith, solid-le (rowAt t (p .row))))
-stepped-in t SpaceFwd n p i = rounds-in t (spaceFwd t) (space-in t) (max n 1) p i
-stepped-in t BackspaceBack n p i = rounds-in t (backspaceBack t) (backspace-in t) (max n 1) p i

@@ -1,16 +1,13 @@
--- The steps within a row, and one character on or back from row to row, as motions.rs has them under "Horizontal motions".
+-- One character on or back from row to row, as motions.rs has it under "Horizontal motions".
 -- Definitions only; the laws are in `proofs/Rounds.antt` and `proofs/Stepping.antt`. Assumes nothing.
-use Prim.Native.Nat.{ℕ, zero, suc, _+_, _-_, min, max}
+use Prim.Native.Nat.{ℕ, zero, suc, _+_, _-_, max}
 use mathlib.Core.List.{List}
 use mathlib.Core.Bool.{cond}
 use lib.Dec.{ltb}
-use Rattle.text.specs.Text.{rowCount, rowLen}
-use Rattle.lines.specs.Margins.{lastCol, firstNonBlank, lastNonBlank}
+use Rattle.text.specs.Text.{rowCount}
+use Rattle.margins.specs.Margins.{lastCol}
 use Rattle.positions.specs.declared.Position.{Position}
-use Rattle.steps.specs.declared.Step.{Step}
-use Rattle.steps.specs.declared.Step.the-variants.{Left, RightInLine, RightToEnd, LineStart, LineEnd, GotoColumn, FirstNonBlank, LastNonBlank}
-use Rattle.steps.specs.declared.Step.the-variants.{SpaceFwd, BackspaceBack}
-use Rattle.positions.specs.Positions.{position, inRow}
+use Rattle.positions.specs.Positions.{position}
 
 -- count 0 acts as 1
 abbrev pub times : ℕ → ℕ
@@ -30,16 +27,3 @@ spaceFwd t p =
 unfoldable pub backspaceBack : List ℕ → Position → Position
 backspaceBack t p =
     cond (ltb 0 (p .col)) (position (p .row) (p .col - 1)) (cond (ltb 0 (p .row)) (position (p .row - 1) (lastCol t (p .row - 1))) p)
-
--- where a step with count n leads to. `GotoColumn` counts columns from 1; there count 0 acts as column 1 does
-abbrev pub stepped : List ℕ → Step → ℕ → Position → Position
-stepped t Left n p = inRow p (p .col - times n)
-stepped t RightInLine n p = inRow p (min (p .col + times n) (lastCol t (p .row)))
-stepped t RightToEnd n p = inRow p (min (p .col + times n) (rowLen t (p .row)))
-stepped t LineStart n p = inRow p 0
-stepped t LineEnd n p = inRow p (lastCol t (p .row))
-stepped t GotoColumn n p = inRow p (min (n - 1) (lastCol t (p .row)))
-stepped t FirstNonBlank n p = inRow p (firstNonBlank t (p .row))
-stepped t LastNonBlank n p = inRow p (lastNonBlank t (p .row))
-stepped t SpaceFwd n p = rounds (spaceFwd t) (times n) p
-stepped t BackspaceBack n p = rounds (backspaceBack t) (times n) p

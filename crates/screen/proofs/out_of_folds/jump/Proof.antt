@@ -1,4 +1,4 @@
--- `jumps::jump` meets its contract. Assumes nothing.
+-- `screen::out_of_folds::jump` meets its contract. Assumes nothing.
 use mathlib.Core.Path.{sym, ap, _∙_}
 use native.Mathlib.Omega.{arith}
 use borrow.Author.Needs.{needs}

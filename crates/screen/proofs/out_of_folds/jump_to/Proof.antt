@@ -1,4 +1,4 @@
--- `jumps::jump_to` meets its contract. Assumes nothing.
+-- `screen::out_of_folds::jump_to` meets its contract. Assumes nothing.
 use mathlib.Core.Path.{ap, _∙_}
 use Prim.Native.Nat.{min}
 use borrow.Author.Needs.{needs}

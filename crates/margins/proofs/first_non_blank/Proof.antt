@@ -1,13 +1,13 @@
--- `lines::margins::first_non_blank` meets its contract: the row's indent, within its last column.
+-- `margins::first_non_blank` meets its contract: the row's indent, within its last column.
 -- Assumes nothing.
 use mathlib.Core.Path.{_≡_, ap}
 use native.Mathlib.Omega.{arith}
 use lib.ListN.{length}
 use borrow.Author.Needs.{needs}
 use Rattle.text.proofs.Parts.{row-fits}
-use Rattle.lines.specs.Margins.{indentOf}
-use Rattle.lines.proofs.margins.first_non_blank.Statement.{statement}
-use Rattle.lines.proofs.margins.first_non_blank.Tie as tie
+use Rattle.margins.specs.Margins.{indentOf}
+use Rattle.margins.proofs.first_non_blank.Statement.{statement}
+use Rattle.margins.proofs.first_non_blank.Tie as tie
 
 returns : tie.Need-returns
 returns c =

@@ -12,7 +12,7 @@ use lib.Seq.{take-suc, length-take-le}
 use borrow.Author.Tests.{ne-eqb}
 use Rattle.chars.specs.White.{isWhite}
 use Rattle.chars.proofs.Lists.{drop-at}
-use Rattle.lines.specs.Margins.{isBlank, indentOf, solidOf}
+use Rattle.margins.specs.Margins.{isBlank, indentOf, solidOf}
 
 module _ (row : List ℕ) (i : ℕ) where
   pub indent-on : i < length row → isBlank (getD row i 0) ≡ true → indentOf (drop i row) ≡ indentOf (drop (i + 1) row) + 1

@@ -1,13 +1,13 @@
--- `ways::jump` meets its contract, jump by jump. Assumes nothing.
+-- `ways::across::jump` meets its contract, jump by jump. Assumes nothing.
 use Prim.Native.Nat.{ℕ}
 use mathlib.Core.List.{List}
 use mathlib.Core.Path.{_≡_, ap, sym, _∙_}
 use borrow.Author.Needs.{needs}
 use Rattle.positions.specs.declared.Position.{Position}
-use Rattle.jumps.specs.declared.Jump.{Jump}
-use Rattle.jumps.specs.Jumps.{jumped}
-use Rattle.jumps.proofs.ways.jump.Statement.{statement}
-use Rattle.jumps.proofs.ways.jump.Tie as tie
+use Rattle.ways.specs.declared.Jump.{Jump}
+use Rattle.ways.specs.Ways.{jumped}
+use Rattle.ways.proofs.across.jump.Statement.{statement}
+use Rattle.ways.proofs.across.jump.Tie as tie
 
 -- the jump that was taken is j
 told : (t : List ℕ) {j w : Jump} (n : ℕ) (p q : Position) → j ≡ w → q ≡ jumped t w n p → q ≡ jumped t j n p

@@ -1,4 +1,4 @@
--- `lines::margins::solid` meets its contract. The invariant of its loop: from n on all is white space. The measure is n.
+-- `margins::solid` meets its contract. The invariant of its loop: from n on all is white space. The measure is n.
 -- Assumes nothing.
 use Prim.Native.Nat.{_-_, _≤_}
 use mathlib.Core.Path.{_≡_, sym, ap, _∙_}
@@ -8,10 +8,10 @@ use lib.Seq.{take-length}
 use borrow.Author.Needs.{needs}
 use borrow.Author.Tests.{not-true, not-false}
 use Rattle.chars.specs.White.{whites}
-use Rattle.lines.specs.Margins.{solidOf}
-use Rattle.lines.proofs.Edging.{solid-white, solid-stop}
-use Rattle.lines.proofs.margins.solid.Statement.{statement}
-use Rattle.lines.proofs.margins.solid.Tie as tie
+use Rattle.margins.specs.Margins.{solidOf}
+use Rattle.margins.proofs.Edging.{solid-white, solid-stop}
+use Rattle.margins.proofs.solid.Statement.{statement}
+use Rattle.margins.proofs.solid.Tie as tie
 
 abbrev Inv-loop : tie.InvT-loop
 Inv-loop white row n₀ n = (n ≤ length row) × (white ≡ whites) × (solidOf row ≡ solidOf (take n row))

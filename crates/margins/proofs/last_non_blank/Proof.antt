@@ -1,4 +1,4 @@
--- `lines::margins::last_non_blank` meets its contract: the row up to its last character that is no white space, less one.
+-- `margins::last_non_blank` meets its contract: the row up to its last character that is no white space, less one.
 -- Assumes nothing.
 use mathlib.Core.Path.{_≡_, refl, ap}
 use native.Mathlib.Omega.{arith}
@@ -7,10 +7,10 @@ use borrow.Author.Needs.{needs}
 use Rattle.chars.specs.White.{whites}
 use Rattle.text.specs.Text.{rowAt}
 use Rattle.text.proofs.Parts.{row-fits}
-use Rattle.lines.specs.Margins.{solidOf}
-use Rattle.lines.proofs.Edging.{solid-le}
-use Rattle.lines.proofs.margins.last_non_blank.Statement.{statement}
-use Rattle.lines.proofs.margins.last_non_blank.Tie as tie
+use Rattle.margins.specs.Margins.{solidOf}
+use Rattle.margins.proofs.Edging.{solid-le}
+use Rattle.margins.proofs.last_non_blank.Statement.{statement}
+use Rattle.margins.proofs.last_non_blank.Tie as tie
 
 -- the list of white space that is lent is the whole of it
 solid-requires : tie.Need-solid-requires

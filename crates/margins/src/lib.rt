@@ -8,8 +8,8 @@ ghost use Prim.Native.Nat.{_≤_};
 ghost use lib.ListN.{length};
 ghost use Rattle.text.specs.Offsets.{IsLine};
 ghost use Rattle.chars.specs.White.{whites};
-ghost use Rattle.lines.specs.Margins.{isBlank, indentOf, firstNonBlank};
-ghost use Rattle.lines.specs.Margins.{solidOf, lastNonBlank};
+ghost use Rattle.margins.specs.Margins.{isBlank, indentOf, firstNonBlank};
+ghost use Rattle.margins.specs.Margins.{solidOf, lastNonBlank};
 
 fn is_blank(x: u32) -> bool
     ensures { λ r. ⌜ r ≡ isBlank x ⌝ }

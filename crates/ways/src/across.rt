@@ -1,15 +1,15 @@
 // Where each jump leads to.
 use crate::Jump;
-use crate::paragraphs::paragraph_next;
-use crate::paragraphs::paragraph_prev;
-use crate::rows;
-use crate::sections::section_back;
-use crate::sections::section_on;
+use crate::within::step;
+use jumps::paragraphs::paragraph_next;
+use jumps::paragraphs::paragraph_prev;
+use jumps::rows;
+use jumps::sections::section_back;
+use jumps::sections::section_on;
 use positions::Position;
-use steps::ways::step;
 ghost use mathlib.Core.Path.{_≡_};
 ghost use Rattle.positions.specs.Positions.{Accepted};
-ghost use Rattle.jumps.specs.Jumps.{jumped};
+ghost use Rattle.ways.specs.Ways.{jumped};
 
 // The position that a jump of a text and position that were accepted leads to. `{` is 123 and `}`
 // is 125.

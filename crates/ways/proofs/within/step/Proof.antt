@@ -1,15 +1,15 @@
--- `ways::step` meets its contract, step by step. Assumes nothing.
+-- `ways::within::step` meets its contract, step by step. Assumes nothing.
 use Prim.Native.Nat.{ℕ}
 use mathlib.Core.List.{List}
 use mathlib.Core.Path.{_≡_, ap, sym, _∙_}
 use native.Mathlib.Omega.{arith}
 use borrow.Author.Needs.{needs}
 use Rattle.positions.specs.declared.Position.{Position}
-use Rattle.steps.specs.declared.Step.{Step}
+use Rattle.ways.specs.declared.Step.{Step}
 use Rattle.positions.specs.Positions.{inRow}
-use Rattle.steps.specs.Steps.{stepped}
-use Rattle.steps.proofs.ways.step.Statement.{statement}
-use Rattle.steps.proofs.ways.step.Tie as tie
+use Rattle.ways.specs.Ways.{stepped}
+use Rattle.ways.proofs.within.step.Statement.{statement}
+use Rattle.ways.proofs.within.step.Tie as tie
 
 -- the step that was taken is s
 told : (t : List ℕ) {s w : Step} (n : ℕ) (p q : Position) → s ≡ w → q ≡ stepped t w n p → q ≡ stepped t s n p

@@ -1,4 +1,4 @@
--- `lines::margins::indent` meets its contract. The invariant of its loop: everything before i is blank. The measure is the row's length less i.
+-- `margins::indent` meets its contract. The invariant of its loop: everything before i is blank. The measure is the row's length less i.
 -- Assumes nothing.
 use Prim.Native.Nat.{_+_, _-_, _≤_}
 use mathlib.Core.Path.{_≡_, sym, _∙_}
@@ -6,10 +6,10 @@ use native.Mathlib.Omega.{arith}
 use lib.ListN.{length, drop}
 use borrow.Author.Needs.{needs}
 use borrow.Author.Tests.{not-true, not-false}
-use Rattle.lines.specs.Margins.{indentOf}
-use Rattle.lines.proofs.Edging.{indent-on, indent-stop, indent-end}
-use Rattle.lines.proofs.margins.indent.Statement.{statement}
-use Rattle.lines.proofs.margins.indent.Tie as tie
+use Rattle.margins.specs.Margins.{indentOf}
+use Rattle.margins.proofs.Edging.{indent-on, indent-stop, indent-end}
+use Rattle.margins.proofs.indent.Statement.{statement}
+use Rattle.margins.proofs.indent.Tie as tie
 
 abbrev Inv-loop : tie.InvT-loop
 Inv-loop row i₀ i = (i ≤ length row) × (indentOf row ≡ i + indentOf (drop i row))

@@ -1,10 +1,10 @@
 // Where each step leads to.
 use crate::Step;
-use crate::walks::backspace_back;
-use crate::walks::space_fwd;
-use lines::margins::first_non_blank;
-use lines::margins::last_non_blank;
+use margins::first_non_blank;
+use margins::last_non_blank;
 use positions::Position;
+use steps::walks::backspace_back;
+use steps::walks::space_fwd;
 use text::Line;
 use text::least;
 use text::minus;
@@ -13,9 +13,9 @@ use text::offsets::row_len;
 ghost use mathlib.Core.Path.{_≡_};
 ghost use Prim.Native.Nat.{min};
 ghost use Rattle.text.specs.Offsets.{IsLine};
-ghost use Rattle.lines.specs.Margins.{lastCol};
+ghost use Rattle.margins.specs.Margins.{lastCol};
 ghost use Rattle.positions.specs.Positions.{inRow, Accepted};
-ghost use Rattle.steps.specs.Steps.{stepped};
+ghost use Rattle.ways.specs.Ways.{stepped};
 
 // The position at another column of its row.
 fn in_row(p: Position, col: usize) -> Position
