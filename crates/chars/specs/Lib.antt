@@ -1,5 +1,3 @@
-pub mod LetterTable
-pub mod Letters
 pub mod Scalar
 pub mod White
 pub mod Width

@@ -1,17 +1,12 @@
-// Facts about one code point: scalar value, white space, letter, width. Document 01, "Character
-// facts". A table that a function names is built anew at each call of it, so a loop takes the `_in`
-// form and lends the table (`letter_in(&chars::LETTERS, x)`), and low code points have functions of
-// their own that name no table.
-mod letter_table;
-mod letters;
+// Facts about one code point: scalar value, white space, width. Document 01, "Character facts". A
+// table that a function names is built anew at each call of it, so a loop takes the `_in` form and
+// lends the table (`white_in(&chars::WHITE, x)`), and low code points have functions of their own
+// that name no table.
 mod scalar;
 mod white;
 mod width_tables;
 mod widths;
 
-pub use letter_table::LETTERS;
-pub use letters::is_letter;
-pub use letters::letter_in;
 pub use scalar::all_scalar;
 pub use scalar::is_scalar;
 pub use white::WHITE;

@@ -10,7 +10,7 @@ use lib.Dec.{eqb, leb}
 use lib.ListN.{length, length-append, getD, take, drop, set, replicate, drop-of-length-le}
 use lib.Seq.{length-take-le, take-suc, take-append-seam}
 use borrow.Author.Tests.{ne-eqb, lt-leb}
-use Rattle.chars.specs.Letters.{isLetter}
+use Rattle.letters.specs.Letters.{isLetter}
 use Rattle.tokens.specs.declared.Token.{Token}
 use Rattle.tokens.specs.Grammar.{noToken}
 use Rattle.tokens.specs.Tokens.{lowOf, highOf, any, anyToken, tokenHolds}

@@ -5,7 +5,7 @@ use mathlib.Core.List.{List, [], _∷_, _++_}
 use mathlib.Core.Bool.{Bool, false, _&&_, _||_}
 use lib.Dec.{eqb, leb}
 use lib.ListN.{length, take, replicate}
-use Rattle.chars.specs.Letters.{isLetter}
+use Rattle.letters.specs.Letters.{isLetter}
 use Rattle.tokens.specs.declared.Token.{Token}
 use Rattle.keywords.specs.declared.KeywordSpec.{KeywordSpec}
 use Rattle.tokens.specs.Tokens.{lowOf, highOf, any}

@@ -4,7 +4,7 @@ use crate::KeywordSpec;
 ghost use mathlib.Core.Path.{_≡_};
 ghost use Prim.Native.Nat.{_+_, _≤_};
 ghost use lib.ListN.{length, take};
-ghost use Rattle.chars.specs.Letters.{letters};
+ghost use Rattle.letters.specs.Letters.{letters};
 ghost use Rattle.keywords.specs.Table.{kept};
 ghost use Rattle.keywords.specs.Flat.{flat, padded, anyAlpha, within, flatHolds};
 
@@ -68,7 +68,7 @@ pub fn holds(bounds: &[u32], n: usize, alphabetic: bool, table: &[u32], c: u32) 
     if !alphabetic {
         return in_bounds(bounds, n, c);
     }
-    if chars::letter_in(table, c) {
+    if letters::letter_in(table, c) {
         return true;
     }
     in_bounds(bounds, n, c)

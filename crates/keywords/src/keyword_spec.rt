@@ -37,7 +37,7 @@ impl KeywordSpec {
         requires { ⌜ self .len ≤ 128 ⌝ }
         ensures { λ r. ⌜ r ≡ anyToken (kept self) c ⌝ }
     {
-        let letter = chars::is_letter(c);
+        let letter = letters::is_letter(c);
         let n = self.len;
         let mut i: usize = 0;
         while i < n {
@@ -107,7 +107,7 @@ fn read_all(list: &[u32]) -> Parsed
 fn list_holds(list: &[u32], c: u32) -> bool
     ensures { λ r. ⌜ r ≡ inList (now (list .entry)) c ⌝ }
 {
-    let letter = chars::is_letter(c);
+    let letter = letters::is_letter(c);
     let mut from: usize = 0;
     while from <= list.len() {
         let step = tokens::read_part(list, from);

@@ -6,7 +6,7 @@ use mathlib.Core.List.{List}
 use mathlib.Core.Bool.{Bool, true}
 use lib.Dec.{leb}
 use lib.ListN.{length, take}
-use Rattle.chars.specs.Letters.{letters}
+use Rattle.letters.specs.Letters.{letters}
 use Rattle.chars.specs.Scalar.{any}
 use Rattle.keywords.specs.Flat.{flatHolds}
 use Rattle.places.specs.Places.{kindOf}

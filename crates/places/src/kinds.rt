@@ -15,7 +15,7 @@ fn is_word(bounds: &[u32], table: &[u32], s: Setting, x: u32) -> bool
     if !s.letters {
         return keywords::in_bounds(bounds, s.pairs, x);
     }
-    if chars::is_letter(x) {
+    if letters::is_letter(x) {
         return true;
     }
     keywords::in_bounds(bounds, s.pairs, x)

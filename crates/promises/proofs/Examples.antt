@@ -1,6 +1,6 @@
 -- Document 01's P1 to P12, and a case of every call, each by one computation over what the contracts cite. Assumes nothing.
 use mathlib.Core.Path.{_≡_, refl}
-use Rattle.chars.specs.Letters.{letters, isLetter}
+use Rattle.letters.specs.Letters.{letters, isLetter}
 use Rattle.chars.specs.White.{whites, isWhite}
 use Rattle.chars.specs.Width.{zeroWidths, doubleWidths, widthOf}
 use Rattle.row.specs.Row.{rowRefusal}

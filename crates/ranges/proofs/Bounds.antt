@@ -91,3 +91,8 @@ in-table-front x (s ∷ []) b bs t h = rw (lt-ltb x b h, none-in x b bs (and-rig
 in-table-front x (s ∷ e ∷ front) b bs t h =
     ap (λ (r : Bool). (leb s x && ltb x e) || r)
     (in-table-front x front b bs (ascending-tail e (front ++ (b ∷ bs)) (ascending-tail s (e ∷ front ++ (b ∷ bs)) t)) h)
+
+-- the same of a table that goes on from b after a front
+pub table-low :
+    (x : ℕ) (front : List ℕ) (b : ℕ) (bs table : List ℕ) → table ≡ front ++ (b ∷ bs) → T (ascending table) → x < b → inTable x table ≡ inTable x front
+table-low x front b bs table e t h = ap (inTable x) e ∙ in-table-front x front b bs (rw e at t) h

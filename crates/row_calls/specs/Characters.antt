@@ -4,7 +4,7 @@ use mathlib.Core.Bool.{cond}
 use lib.Dec.{eqb}
 use Rattle.chars.specs.Scalar.{isScalar}
 use Rattle.chars.specs.White.{isWhite}
-use Rattle.chars.specs.Letters.{isLetter}
+use Rattle.letters.specs.Letters.{isLetter}
 use Rattle.chars.specs.Width.{widthOf}
 use Rattle.lent.specs.Reply.{bit}
 use Rattle.lent.specs.declared.Told.{Told}

@@ -14,7 +14,7 @@ fn fact_of(op: u32, x: u32) -> Told
     match op {
         0 => Told::Value(bit_of(chars::is_scalar(x))),
         1 => Told::Value(bit_of(chars::is_white(x))),
-        2 => Told::Value(bit_of(chars::is_letter(x))),
+        2 => Told::Value(bit_of(letters::is_letter(x))),
         3 => Told::Value(chars::width(x)),
         _ => Told::Refused(100),
     }

@@ -18,7 +18,7 @@ fn holds(fact: Fact, x: u32) -> bool {
     }
     match fact {
         Fact::Scalar => true,
-        Fact::Letter => chars::is_letter(x),
+        Fact::Letter => letters::is_letter(x),
         Fact::White => chars::is_white(x),
         Fact::Width(w) => chars::width(x) == w,
     }

@@ -5,7 +5,7 @@ use mathlib.Core.List.{List, [], _∷_}
 use mathlib.Core.Bool.{Bool, false, cond, _&&_, _||_}
 use lib.Dec.{eqb, leb}
 use lib.ListN.{take, drop}
-use Rattle.chars.specs.Letters.{isLetter}
+use Rattle.letters.specs.Letters.{isLetter}
 use Rattle.tokens.specs.declared.Token.{Token}
 use Rattle.tokens.specs.declared.tokens.Step.{Step}
 use Rattle.parts.specs.Parts.{parts, trim, upTo}

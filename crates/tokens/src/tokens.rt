@@ -4,7 +4,7 @@ use parts::Number;
 ghost use mathlib.Core.Path.{_≡_};
 ghost use Prim.Native.Nat.{_≤_};
 ghost use lib.ListN.{length};
-ghost use Rattle.chars.specs.Letters.{isLetter};
+ghost use Rattle.letters.specs.Letters.{isLetter};
 ghost use Rattle.tokens.specs.Grammar.{codes, isAt, single, codeOf, rangeOf, tokenOf};
 ghost use Rattle.tokens.specs.Tokens.{tokenHolds, lowOf, highOf, stepOf};
 

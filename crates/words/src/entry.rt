@@ -75,7 +75,7 @@ fn motion_with_letters(
         (s .big) m stop count (placeOf (now (t .entry)) p)) ×
         IsSpot (now (t .entry)) r ⌝ }
 {
-    motion_in(t, folds, bounds, &chars::LETTERS, s, m, stop, count, p)
+    motion_in(t, folds, bounds, &letters::LETTERS, s, m, stop, count, p)
 }
 
 // Whether the text has a code point for which the table of letters is read.

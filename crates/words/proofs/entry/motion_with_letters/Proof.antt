@@ -1,6 +1,6 @@
 -- `words::entry::motion_with_letters` meets its contract: the const is the table of letters. Assumes nothing.
 use mathlib.Core.Path.{refl}
-use Rattle.chars.specs.Letters.{letters}
+use Rattle.letters.specs.Letters.{letters}
 use borrow.Author.Needs.{needs}
 use Rattle.words.proofs.entry.motion_with_letters.Statement.{statement}
 use Rattle.words.proofs.entry.motion_with_letters.Tie as tie

@@ -1,10 +1,10 @@
--- `chars::letter_in` meets its contract: the lent table is the list of the definition, and ascends. Assumes nothing.
+-- `letters::letter_in` meets its contract: the lent table is the list of the definition, and ascends. Assumes nothing.
 use mathlib.Core.Path.{_∙_}
 use borrow.Author.Needs.{needs}
-use Rattle.chars.specs.Letters.{isLetter}
-use Rattle.chars.proofs.Tables.{letters-ascend}
-use Rattle.chars.proofs.letters.letter_in.Statement.{statement}
-use Rattle.chars.proofs.letters.letter_in.Tie as tie
+use Rattle.letters.specs.Letters.{isLetter}
+use Rattle.letters.proofs.Tables.{letters-ascend}
+use Rattle.letters.proofs.letter_in.Statement.{statement}
+use Rattle.letters.proofs.letter_in.Tie as tie
 
 in-table-requires : tie.Need-in-table-requires
 in-table-requires c κs = rw (c .before .before .before .pre) letters-ascend

@@ -1,8 +1,12 @@
-// Letters: the property Alphabetic, as `char::is_alphabetic`. Document 01, "Character facts".
-use crate::letter_table::LETTERS;
+// Letters: the property Alphabetic, as `char::is_alphabetic`. Document 01, "Character facts". A table
+// that a function names is built anew at each call of it, so a loop takes `letter_in` and lends it.
 ghost use mathlib.Core.Path.{_≡_};
 ghost use Prim.Native.Nat.{_≤_, _<_};
-ghost use Rattle.chars.specs.Letters.{letters, isLetter};
+ghost use Rattle.letters.specs.Letters.{letters, isLetter};
+
+mod letter_table;
+
+pub use letter_table::LETTERS;
 
 // Whether x, below U+00AA, is a letter: A to Z or a to z.
 fn low_letter(x: u32) -> bool

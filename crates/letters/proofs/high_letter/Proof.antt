@@ -1,9 +1,9 @@
--- `chars::letters::high_letter` meets its contract: the const is the list of the definition. Assumes nothing.
+-- `letters::high_letter` meets its contract: the const is the list of the definition. Assumes nothing.
 use mathlib.Core.Path.{refl}
 use borrow.Author.Needs.{needs}
-use Rattle.chars.specs.Letters.{letters}
-use Rattle.chars.proofs.letters.high_letter.Statement.{statement}
-use Rattle.chars.proofs.letters.high_letter.Tie as tie
+use Rattle.letters.specs.Letters.{letters}
+use Rattle.letters.proofs.high_letter.Statement.{statement}
+use Rattle.letters.proofs.high_letter.Tie as tie
 
 letter-in-requires : tie.Need-letter-in-requires
 unfolding letters

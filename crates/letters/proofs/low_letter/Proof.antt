@@ -1,10 +1,10 @@
--- `chars::letters::low_letter` meets its contract: below U+00AA the table holds A to Z and a to z. Assumes nothing.
+-- `letters::low_letter` meets its contract: below U+00AA the table holds A to Z and a to z. Assumes nothing.
 use native.Mathlib.Omega.{arith}
 use mathlib.Core.Bool.{or-false}
 use borrow.Author.Tests.{le-leb, lt-leb, lt-ltb, le-ltb}
-use Rattle.chars.proofs.Tables.{letter-low}
-use Rattle.chars.proofs.letters.low_letter.Statement.{statement}
-use Rattle.chars.proofs.letters.low_letter.Tie as tie
+use Rattle.letters.proofs.Tables.{letter-low}
+use Rattle.letters.proofs.low_letter.Statement.{statement}
+use Rattle.letters.proofs.low_letter.Tie as tie
 
 returns : tie.Need-returns
 returns c = let x = c .before .args .x in rw (letter-low x (omega arith), lt-leb 65 x (omega arith), lt-leb 97 x (omega arith))

@@ -1,11 +1,11 @@
--- `chars::letters::latin_letter` meets its contract: from U+00AA on the ranges of ASCII hold nothing. Assumes nothing.
+-- `letters::latin_letter` meets its contract: from U+00AA on the ranges of ASCII hold nothing. Assumes nothing.
 use native.Mathlib.Omega.{arith}
 use mathlib.Core.Bool.{and-false}
 use lib.Dec.{leb}
 use borrow.Author.Tests.{le-ltb}
-use Rattle.chars.proofs.Tables.{letter-latin}
-use Rattle.chars.proofs.letters.latin_letter.Statement.{statement}
-use Rattle.chars.proofs.letters.latin_letter.Tie as tie
+use Rattle.letters.proofs.Tables.{letter-latin}
+use Rattle.letters.proofs.latin_letter.Statement.{statement}
+use Rattle.letters.proofs.latin_letter.Tie as tie
 
 returns : tie.Need-returns
 returns c =

@@ -1,0 +1,2 @@
+pub mod LetterTable
+pub mod Letters
