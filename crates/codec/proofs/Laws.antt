@@ -24,7 +24,9 @@ skip a b c d s m n e =
     rw f
 
 -- the code point at an index
-pub point-at : (s : List ℕ) (i : ℕ) → i < length s / 4 → getD (points s) i 0 ≡ word (getD s (4 * i) 0) (getD s (4 * i + 1) 0) (getD s (4 * i + 2) 0) (getD s (4 * i + 3) 0)
+pub point-at :
+    (s : List ℕ) (i : ℕ) → i < length s / 4 →
+    getD (points s) i 0 ≡ word (getD s (4 * i) 0) (getD s (4 * i + 1) 0) (getD s (4 * i + 2) 0) (getD s (4 * i + 3) 0)
 unfolding points
 point-at [] i h = absurd (omega arith)
 point-at (a ∷ []) i h = absurd (omega arith)
@@ -32,11 +34,18 @@ point-at (a ∷ b ∷ []) i h = absurd (omega arith)
 point-at (a ∷ b ∷ c ∷ []) i h = absurd (omega arith)
 point-at (a ∷ b ∷ c ∷ d ∷ s) zero h = refl
 point-at (a ∷ b ∷ c ∷ d ∷ s) (suc i) h =
-    rw (skip a b c d s (4 * suc i) (4 * i) (omega arith), skip a b c d s (4 * suc i + 1) (4 * i + 1) (omega arith), skip a b c d s (4 * suc i + 2) (4 * i + 2) (omega arith), skip a b c d s (4 * suc i + 3) (4 * i + 3) (omega arith))
+    rw (
+      skip a b c d s (4 * suc i) (4 * i) (omega arith),
+      skip a b c d s (4 * suc i + 1) (4 * i + 1) (omega arith),
+      skip a b c d s (4 * suc i + 2) (4 * i + 2) (omega arith),
+      skip a b c d s (4 * suc i + 3) (4 * i + 3) (omega arith),
+    )
     (point-at s i (omega arith))
 
 -- storing the next code point
-pub fill-on : (p d room : List ℕ) (i : ℕ) → room ≡ take i p ++ drop i d → i < length p → i < length d → set room i (getD p i 0) ≡ take (i + 1) p ++ drop (i + 1) d
+pub fill-on :
+    (p d room : List ℕ) (i : ℕ) → room ≡ take i p ++ drop i d → i < length p → i < length d →
+    set room i (getD p i 0) ≡ take (i + 1) p ++ drop (i + 1) d
 fill-on p d room i e hp hd =
     let l : length (take i p) ≡ i = length-take-le i p (omega arith) in
     rw (e, add-one, drop-cons d i 0 hd, set-at (take i p) (getD d i 0) (drop (suc i) d) (getD p i 0) i l, take-suc p i 0 hp)

@@ -27,7 +27,8 @@ module _ (l : List ℕ) (i : ℕ) (h : i + 2 < length l) where
   any-fold-on p = rw drop-three
 
   pub cover-on : (row : ℕ) →
-      coverOf (drop i l) row ≡ cond (foldHides row (getD l i 0) (getD l (i + 1) 0) (getD l (i + 2) 0)) (Of (getD l i 0) (getD l (i + 1) 0)) (coverOf (drop (i + 3) l) row)
+      coverOf (drop i l) row ≡ cond (foldHides row (getD l i 0) (getD l (i + 1) 0) (getD l (i + 2) 0)) (Of (getD l i 0) (getD l (i + 1) 0))
+      (coverOf (drop (i + 3) l) row)
   unfolding coverOf
   cover-on row = rw drop-three
 
@@ -88,8 +89,12 @@ cover-covers (s ∷ e ∷ k ∷ folds) row = go (foldHides row s e k) refl (cove
   where
     go : (b : Bool) → foldHides row s e k ≡ b → (r : Span) → Covers folds row r → Covers (s ∷ e ∷ k ∷ folds) row (cond b (Of s e) r)
     go true h r ih =
-        let f = fold-hides row s e k h in
-        (f .0, f .1, (λ x l m. rw (f .2 x l m)), λ rows g. leb-false rows e (or-left _ (ltb 1 k) (or-right (ltb e s) _ (or-left _ (anyFold (badFold rows) folds) g))))
+        let f = fold-hides row s e k h in (
+          f .0,
+          f .1,
+          (λ x l m. rw (f .2 x l m)),
+          λ rows g. leb-false rows e (or-left _ (ltb 1 k) (or-right (ltb e s) _ (or-left _ (anyFold (badFold rows) folds) g))),
+        )
     go false h NoSpan ih = rw (h, ih)
     go false h (Of a b) ih =
         (ih .0, ih .1, (λ x l m. rw (ih .2 x l m, or-true)), λ rows g. ih .3 rows (or-right (badFold rows s e k) _ g))

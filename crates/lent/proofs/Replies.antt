@@ -47,7 +47,9 @@ module _ {s room room′ : List ℕ} {n : ℕ} (h : Filled s room n room′) whe
   front-count z = sym (length-take-le _ _ (h .fit z .within))
 
   -- the answer of a call f on bytes, from its reply on what stands in the room
-  pub answered-one : (f : List ℕ → Reply) → n ≡ 0 → {out out′ : List ℕ} {r : ℕ} → Replied (f (take (length s / 4) room′)) out r out′ → Answered s room out (f (points s)) r room′ out′
+  pub answered-one :
+      (f : List ℕ → Reply) → n ≡ 0 → {out out′ : List ℕ} {r : ℕ} → Replied (f (take (length s / 4) room′)) out r out′ →
+      Answered s room out (f (points s)) r room′ out′
   answered-one f z {out} {out′} {r} p =
       let e : unfitOne s room ≡ 0 = sym (h .numbered) ∙ z in
       let q = subst (λ (t : List ℕ). Replied (f t) out r out′) (h .fit z .front) p in
@@ -57,5 +59,7 @@ module _ {s room room′ : List ℕ} {n : ℕ} (h : Filled s room n room′) whe
   pub kept-unfit : (n ≡ 0 → ⊥) → (lent after : List ℕ) → lent ≡ fitting (unfitOne s room) after lent
   kept-unfit z lent after = sym (fits-not _ _ _ (λ q. z (h .numbered ∙ q)))
 
-  pub left-fit : (f : List ℕ → List ℕ) → n ≡ 0 → (lent : List ℕ) {lent′ : List ℕ} → lent′ ≡ f (take (length s / 4) room′) → lent′ ≡ fitting (unfitOne s room) (f (points s)) lent
+  pub left-fit :
+      (f : List ℕ → List ℕ) → n ≡ 0 → (lent : List ℕ) {lent′ : List ℕ} → lent′ ≡ f (take (length s / 4) room′) →
+      lent′ ≡ fitting (unfitOne s room) (f (points s)) lent
   left-fit f z lent e = e ∙ ap f (h .fit z .front) ∙ sym (fits _ _ _ (sym (h .numbered) ∙ z))

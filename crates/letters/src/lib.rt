@@ -1,5 +1,6 @@
-// Letters: the property Alphabetic, as `char::is_alphabetic`. Document 01, "Character facts". A table
-// that a function names is built anew at each call of it, so a loop takes `letter_in` and lends it.
+// Letters: the property Alphabetic, as `char::is_alphabetic`. Document 01, "Character facts". A
+// table that a function names is built anew at each call of it, so a loop takes `letter_in` and
+// lends the table.
 ghost use mathlib.Core.Path.{_≡_};
 ghost use Prim.Native.Nat.{_≤_, _<_};
 ghost use Rattle.letters.specs.Letters.{letters, isLetter};

@@ -30,7 +30,7 @@ pub rounding-start : (t : List ℕ) (fwd : Bool) (last row start : ℕ) → Stan
 rounding-start t fwd last row start s e b =
     record { line = s; is-last = e; brief = b; same = ap (λ (l : ℕ). roundFrom t fwd false row (restOf fwd l row)) (sym e) }
 
-module _ {t : List ℕ} {fwd : Bool} {last from row start : ℕ} {skip : Bool} (g : Rounding t fwd last from row start skip) (v : Bool) (is : v ≡ isVoid t row) where
+module _ {t : List ℕ} {fwd skip : Bool} {last from row start : ℕ} (g : Rounding t fwd last from row start skip) (v : Bool) (is : v ≡ isVoid t row) where
   pub rounding-near : (row ≤ last + 1) × (last < rowCount t) × (row ≤ 1048576) × (last ≤ 1048576)
   rounding-near = omega (arith, g .line .in-row, g .is-last, content-near t, g .line .below, g .line .within, g .brief, count-le t)
 

@@ -27,5 +27,6 @@ pub spot-fits : {t : List ℕ} {r : Spot} (start : ℕ) → length t ≤ 1048576
 spot-fits {t} {r} start b s = (omega (arith, b, s .in-row, count-le t), omega (arith, b, s .within))
 
 -- and the caret of a spot
-pub caret-of-spot : (t : List ℕ) (k : Caret) (r : Spot) (c : ℕ) (w : Place) → c ≡ r .at - rowStart t (r .row) → placeOf t r ≡ w → placed k (r .row) c ≡ atPlace k w
+pub caret-of-spot :
+    (t : List ℕ) (k : Caret) (r : Spot) (c : ℕ) (w : Place) → c ≡ r .at - rowStart t (r .row) → placeOf t r ≡ w → placed k (r .row) c ≡ atPlace k w
 caret-of-spot t k r c w q e = ap (placed k (r .row)) q ∙ ap (atPlace k) e

@@ -74,7 +74,8 @@ module _ (t : List ℕ) where
     find-sits x forward till skip =
         seeking-sits (refusalWith t (here k) x) _
         (λ z. let w = inside t (here k) (sought-none (refusalOf t k) (isScalar x) z) in
-        found-sits (findOnRow (rowAt t (k .row)) (k .col) x forward till skip) (λ i e. find-within (rowAt t (k .row)) (k .col) x forward till skip (w .in-col) e) w)
+        found-sits (findOnRow (rowAt t (k .row)) (k .col) x forward till skip)
+        (λ i e. find-within (rowAt t (k .row)) (k .col) x forward till skip (w .in-col) e) w)
 
     pub seek-sits : (op x : ℕ) → Sits (seek op x k t)
     unfolding seek

@@ -1,5 +1,5 @@
-// A record of answers, one case to a row: rows of numbers read, and the parts of a case. Which call a
-// case is about is for the reader to say.
+// A record of answers, one case to a row: rows of numbers read, and the parts of a case. Which call
+// a case is about is for the reader to say.
 mod cases;
 mod rows;
 

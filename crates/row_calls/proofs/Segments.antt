@@ -13,7 +13,9 @@ use Rattle.row_calls.specs.Wraps.{modeOf, segmented, segmentsLeft, toldS
 
 module _ {mode width : ℕ} {row segments : List ℕ} where
   -- a mode's own call
-  pub segmented-by : {m : Segments} {r : Told} {segments′ : List ℕ} {by : Wrap} → by ≡ modeOf mode → mode ≤ 2 → Wraps by width row segments m segments′ → r ≡ toldSegments m → Segmented mode width row segments r segments′
+  pub segmented-by :
+      {m : Segments} {r : Told} {segments′ : List ℕ} {by : Wrap} → by ≡ modeOf mode → mode ≤ 2 → Wraps by width row segments m segments′ →
+      r ≡ toldSegments m → Segmented mode width row segments r segments′
   unfolding segmented segmentsLeft
   segmented-by {m} {r} {segments′} e h w q =
       let v = subst (λ (x : Wrap). Wraps x width row segments m segments′) e w in

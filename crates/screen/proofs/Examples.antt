@@ -23,7 +23,9 @@ use Rattle.screen.specs.Screen.{stepScreen, moveScreen}
 
 -- rows `a`, `bcde`, fold 0 to 1 closed, width 2: `gj` goes on inside the fold's hidden last row
 pub inside-fold : moveScreen (97 ∷ 10 ∷ 98 ∷ 99 ∷ 100 ∷ 101 ∷ []) (0 ∷ 1 ∷ 1 ∷ []) 8 Char 2 true 1 0 0 Absent ≡ record { row = 1; col = 2; want = 0 }
-unfolding rounds verticalRow landed onFirst rows anyFold visibleFrom prevVisible stopOf visualFrom charFrom zeroWidths doubleWidths widthOf stepScreen segmentsOf segmentsFrom firstSegment fits afterWhite pairsBefore whites isWhite
+unfolding
+    rounds verticalRow landed onFirst rows anyFold visibleFrom prevVisible stopOf visualFrom charFrom zeroWidths doubleWidths widthOf
+    stepScreen segmentsOf segmentsFrom firstSegment fits afterWhite pairsBefore whites isWhite
 inside-fold = refl
 
 -- rows `aaa`, empty, `bbb`, from the last column: `gk` by 2 keeps the offset, and twice `gk` by 1 loses it in the empty row
@@ -34,5 +36,7 @@ pub no-sum :
     (moveScreen threeRows [] 8 Char 9 false 2 2 2 Absent ≡ record { row = 0; col = 2; want = 2 }) ×
     (moveScreen threeRows [] 8 Char 9 false 1 2 2 Absent ≡ record { row = 1; col = 0; want = 2 }) ×
     (moveScreen threeRows [] 8 Char 9 false 1 1 0 (At 2) ≡ record { row = 0; col = 0; want = 2 })
-unfolding rounds verticalRow landed onFirst rows anyFold visibleFrom prevVisible stopOf visualFrom charFrom zeroWidths doubleWidths widthOf stepScreen segmentsOf segmentsFrom firstSegment fits afterWhite pairsBefore whites isWhite
+unfolding
+    rounds verticalRow landed onFirst rows anyFold visibleFrom prevVisible stopOf visualFrom charFrom zeroWidths doubleWidths widthOf
+    stepScreen segmentsOf segmentsFrom firstSegment fits afterWhite pairsBefore whites isWhite
 no-sum = (refl, refl, refl)

@@ -23,7 +23,8 @@ module _ (t : List ℕ) where
   content-near = go (ltb 1 (rowCount t)) (eqb (rowLen t (rowCount t - 1)) 0) refl
     where
       go : (a b : Bool) → ltb 1 (rowCount t) ≡ a →
-          (rowCount t ≤ cond (a && b) (rowCount t - 1) (rowCount t) + 1) × (cond (a && b) (rowCount t - 1) (rowCount t) ≤ rowCount t) × (0 < cond (a && b) (rowCount t - 1) (rowCount t))
+          (rowCount t ≤ cond (a && b) (rowCount t - 1) (rowCount t) + 1) × (cond (a && b) (rowCount t - 1) (rowCount t) ≤ rowCount t) ×
+          (0 < cond (a && b) (rowCount t - 1) (rowCount t))
       go true true e = omega (arith, rows-pos t, ltb-true 1 (rowCount t) e)
       go true false e = omega (arith, rows-pos t)
       go false b e = omega (arith, rows-pos t)

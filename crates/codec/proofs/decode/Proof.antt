@@ -24,8 +24,11 @@ loop-again c =
     let s = l .before .before .before .args .bytes .now in
     let d = l .before .before .before .args .room .now in
     let i = l .loop .i in
-    let p : i < length (points s) = omega (arith, length-points s) in
-    (omega arith, simp length-set (l .loop .inv .1), rw (c .word .ensures, ← point-at s i (omega arith)) (fill-on (points s) d (l .loop .room) i (l .loop .inv .2) p (omega arith)))
+    let p : i < length (points s) = omega (arith, length-points s) in (
+      omega arith,
+      simp length-set (l .loop .inv .1),
+      rw (c .word .ensures, ← point-at s i (omega arith)) (fill-on (points s) d (l .loop .room) i (l .loop .inv .2) p (omega arith)),
+    )
 
 -- all are stored
 returns : tie.Need-returns Inv-loop μ-loop

@@ -16,7 +16,8 @@ returns-2 c =
     let i = f .before .before in
     let n = i .before .before in
     let a = n .before .before .before .args in
-    folds-wrong (a .t .now) (a .p) _ (n .enter .ensures) (a .folds .now) (i .if1 .left) (f .before .row-count .ensures) (f .fold-refusal .ensures) (c .if2 .taken)
+    folds-wrong (a .t .now) (a .p) _ (n .enter .ensures) (a .folds .now) (i .if1 .left) (f .before .row-count .ensures) (f .fold-refusal .ensures)
+    (c .if2 .taken)
 
 returns-3 : tie.Need-returns-3
 returns-3 c =
@@ -24,7 +25,8 @@ returns-3 c =
     let i = f .before .before in
     let n = i .before .before in
     let a = n .before .before .before .args in
-    folds-right (a .t .now) (a .p) _ (n .enter .ensures) (a .folds .now) (i .if1 .left) (f .before .row-count .ensures) (f .fold-refusal .ensures) (c .if2 .left)
+    folds-right (a .t .now) (a .p) _ (n .enter .ensures) (a .folds .now) (i .if1 .left) (f .before .row-count .ensures) (f .fold-refusal .ensures)
+    (c .if2 .left)
 
 pub enter-folds-spec : {M : Type 1} → statement M
 enter-folds-spec = tie.close (tie.spec (λ c κs. search needs) returns (λ c κs. search needs) (λ c κs. search needs) returns-2 returns-3)

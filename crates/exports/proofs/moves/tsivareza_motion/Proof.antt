@@ -21,7 +21,8 @@ returns-2 : tie.Need-returns-2
 returns-2 c =
     let b = c .before .before .before in
     let a = b .before .before .before .before .before .before .before .args in
-    answered-one (b .before .before .before .fill .ensures) (motions (a .op) (a .count) (caretOf (a .row) (a .col) (a .held) (a .sticky))) (b .if1 .left) (c .motion .ensures)
+    answered-one (b .before .before .before .fill .ensures) (motions (a .op) (a .count) (caretOf (a .row) (a .col) (a .held) (a .sticky)))
+    (b .if1 .left) (c .motion .ensures)
 
 pub tsivareza-motion-spec : {M : Type 1} → statement M
 tsivareza-motion-spec =

@@ -21,7 +21,8 @@ returns-2 : tie.Need-returns-2
 returns-2 c =
     let b = c .before .before .before in
     let a = b .before .before .before .before .before .before .before .args in
-    answered-one (b .before .before .before .fill .ensures) (seeks (a .op) (a .x) (caretOf (a .row) (a .col) (a .held) (a .sticky))) (b .if1 .left) (c .seek .ensures)
+    answered-one (b .before .before .before .fill .ensures) (seeks (a .op) (a .x) (caretOf (a .row) (a .col) (a .held) (a .sticky))) (b .if1 .left)
+    (c .seek .ensures)
 
 pub tsivareza-seek-spec : {M : Type 1} → statement M
 tsivareza-seek-spec =

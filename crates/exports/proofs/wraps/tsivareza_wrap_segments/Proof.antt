@@ -27,8 +27,10 @@ returns-2 c =
     let b = c .before .before .before .before .before .before in
     let a = b .before .before .before .before .before .before .before .before .args in
     let f = b .before .before .before .fill .ensures in
-    let s = c .before .before .wrap-segments .ensures in
-    (answered-one f (λ (t : List ℕ). told (segmented (a .mode) (a .width) (a .segments .now) t)) (b .if1 .left) (s .0), left-fit f (segmentsLeft (a .mode) (a .width) (a .segments .now)) (b .if1 .left) _ (s .1))
+    let s = c .before .before .wrap-segments .ensures in (
+      answered-one f (λ (t : List ℕ). told (segmented (a .mode) (a .width) (a .segments .now) t)) (b .if1 .left) (s .0),
+      left-fit f (segmentsLeft (a .mode) (a .width) (a .segments .now)) (b .if1 .left) _ (s .1),
+    )
 
 pub tsivareza-wrap-segments-spec : {M : Type 1} → statement M
 tsivareza-wrap-segments-spec =

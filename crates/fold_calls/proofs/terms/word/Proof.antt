@@ -11,7 +11,9 @@ use Rattle.fold_calls.proofs.terms.word.Tie as tie
 returns : tie.Need-returns
 returns c =
     let a = c .before .before .before .before .before .before .before .args in
-    replied-of moved (c .before .before .word-by .ensures ∙ ap (λ (k : Caret). word (a .op) (isBig (a .big)) (a .count) k (a .text .now) (a .folds .now) (a .list .now)) (c .before .before .before .caret-of .ensures))
+    replied-of moved
+    (c .before .before .word-by .ensures ∙
+    ap (λ (k : Caret). word (a .op) (isBig (a .big)) (a .count) k (a .text .now) (a .folds .now) (a .list .now)) (c .before .before .before .caret-of .ensures))
     (c .place .ensures)
 
 pub word-spec : {M : Type 1} → statement M

@@ -20,7 +20,11 @@ closed-from-requires-2 c κs =
 returns-2 : tie.Need-returns-2
 returns-2 c =
     let k = c .before .before .before .before in
-    rw (sym (k .before .before .is-row-hidden .ensures) ∙ not-false _ (k .before .if1 .left), ← k .prev-visible-row .ensures, c .before .before .first .given .1)
+    rw (
+      sym (k .before .before .is-row-hidden .ensures) ∙ not-false _ (k .before .if1 .left),
+      ← k .prev-visible-row .ensures,
+      c .before .before .first .given .1,
+    )
     (c .closed-from2 .ensures)
 
 returns-3 : tie.Need-returns-3

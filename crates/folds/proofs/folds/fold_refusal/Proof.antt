@@ -43,8 +43,10 @@ loop-again : tie.Need-loop-again Inv-loop μ-loop
 loop-again c =
     let k = c .before .before .before .before .before .before in
     let s = k .before .before .before .before in
-    let more = c .before .before .before .before .before .loop-test .taken in
-    (omega (arith, more), k .loop .inv .1 ∙ rw (any-fold-on (s .args .folds .now) (k .loop .i) more (badFold (s .args .rows)), ← c .before .bad-fold .ensures, c .if3 .left))
+    let more = c .before .before .before .before .before .loop-test .taken in (
+      omega (arith, more),
+      k .loop .inv .1 ∙ rw (any-fold-on (s .args .folds .now) (k .loop .i) more (badFold (s .args .rows)), ← c .before .bad-fold .ensures, c .if3 .left),
+    )
 
 returns-4 : tie.Need-returns-4 Inv-loop μ-loop
 unfolding foldRefusal

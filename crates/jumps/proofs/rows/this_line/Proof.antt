@@ -53,7 +53,8 @@ returns-3 c =
       lt-ltb 0 (max (a .count) 1 - 1) (goes (a .count) _ (l .before .before .most .ensures) (c .before .before .before .before .if1 .left)),
       lt-leb (contentRows (a .t .now) - 1) (a .p .row) (omega (arith, found, c .before .if2 .left)),
     )
-    (c .at-line2 .ensures ∙ ap (atRow (a .t .now)) (found ∙ ap (λ (m : ℕ). min (a .p .row + (m - 1)) (contentRows (a .t .now) - 1)) (l .before .before .most .ensures)))
+    (c .at-line2 .ensures ∙
+    ap (atRow (a .t .now)) (found ∙ ap (λ (m : ℕ). min (a .p .row + (m - 1)) (contentRows (a .t .now) - 1)) (l .before .before .most .ensures)))
 
 pub this-line-spec : {M : Type 1} → statement M
 this-line-spec =

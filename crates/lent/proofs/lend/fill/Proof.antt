@@ -16,7 +16,11 @@ decode-requires c κs = fit-room _ _ _ (sym (c .before .before .unfit .ensures) 
 returns-2 : tie.Need-returns-2
 returns-2 c =
     let d = c .before .before .decode .ensures in
-    record { numbered = sym (c .before .before .before .before .if1 .left) ∙ c .before .before .before .before .before .unfit .ensures; fit = λ _. record { count = refl; room-left = d .room-left; within = d .within; front = d .front }; kept = λ n. absurd (n refl) }
+    record {
+      numbered = sym (c .before .before .before .before .if1 .left) ∙ c .before .before .before .before .before .unfit .ensures;
+      fit = λ _. record { count = refl; room-left = d .room-left; within = d .within; front = d .front };
+      kept = λ n. absurd (n refl);
+    }
 
 pub fill-spec : {M : Type 1} → statement M
 fill-spec =

@@ -37,8 +37,11 @@ returns c =
     let r = c .before .before .before .before in
     let l = r .before in
     let a = l .before .before .before .args in
-    let ended = rw (c .before .before .l .given .1) at (r .paragraph-round .ensures .1) in
-    (sym (l .loop .inv .3 ∙ last-round (a .t .now) (a .forward) _ _ (c .if1 .taken) ∙ ap atLast (sym (r .paragraph-round .ensures .0) ∙ c .before .before .l .given .1)), ended .in-row)
+    let ended = rw (c .before .before .l .given .1) at (r .paragraph-round .ensures .1) in (
+      sym (l .loop .inv .3 ∙ last-round (a .t .now) (a .forward) _ _ (c .if1 .taken) ∙
+          ap atLast (sym (r .paragraph-round .ensures .0) ∙ c .before .before .l .given .1)),
+      ended .in-row,
+    )
 
 loop-again : tie.Need-loop-again Inv-loop μ-loop
 loop-again c =
@@ -50,7 +53,8 @@ loop-again c =
       l .loop .inv .2,
       l .loop .inv .3 ∙
           one-round (a .t .now) (a .forward) _ _ (c .if1 .left) ∙
-          ap (goOn (λ (x : ℕ). paragraphs (a .t .now) (a .forward) (l .loop .owed - 1) x)) (sym (r .paragraph-round .ensures .0) ∙ c .before .before .l .given .1),
+          ap (goOn (λ (x : ℕ). paragraphs (a .t .now) (a .forward) (l .loop .owed - 1) x))
+          (sym (r .paragraph-round .ensures .0) ∙ c .before .before .l .given .1),
     )
 
 -- the round has run off
@@ -59,8 +63,11 @@ returns-2 c =
     let r = c .before .before .before .before in
     let l = r .before in
     let a = l .before .before .before .args in
-    let ended = rw (c .before .before .l2 .given .1) at (r .paragraph-round .ensures .1) in
-    (sym (l .loop .inv .3 ∙ last-round (a .t .now) (a .forward) _ _ (c .if2 .taken) ∙ ap atLast (sym (r .paragraph-round .ensures .0) ∙ c .before .before .l2 .given .1)), ended .in-row)
+    let ended = rw (c .before .before .l2 .given .1) at (r .paragraph-round .ensures .1) in (
+      sym (l .loop .inv .3 ∙ last-round (a .t .now) (a .forward) _ _ (c .if2 .taken) ∙
+          ap atLast (sym (r .paragraph-round .ensures .0) ∙ c .before .before .l2 .given .1)),
+      ended .in-row,
+    )
 
 returns-3 : tie.Need-returns-3 Inv-loop μ-loop
 returns-3 c =
@@ -68,7 +75,8 @@ returns-3 c =
     let l = r .before in
     let a = l .before .before .before .args in (
       sym (l .loop .inv .3 ∙ one-round (a .t .now) (a .forward) _ _ (c .if2 .left) ∙
-          ap (goOn (λ (x : ℕ). paragraphs (a .t .now) (a .forward) (l .loop .owed - 1) x)) (sym (r .paragraph-round .ensures .0) ∙ c .before .before .l2 .given .1)),
+          ap (goOn (λ (x : ℕ). paragraphs (a .t .now) (a .forward) (l .loop .owed - 1) x))
+          (sym (r .paragraph-round .ensures .0) ∙ c .before .before .l2 .given .1)),
       rows-pos (a .t .now),
     )
 

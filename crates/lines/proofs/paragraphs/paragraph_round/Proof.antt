@@ -36,15 +36,19 @@ next-row-requires c κs =
 returns-2 : tie.Need-returns-2 Inv-loop μ-loop
 returns-2 c =
     let n = c .before .before in
-    let l = n .before .before .before in
-    (rounding-off (l .loop .inv) _ (n .before .before .is-void .ensures) (n .before .if1 .left) (sym (n .next-row .ensures) ∙ c .enum-told .given .1), l .loop .inv .line)
+    let l = n .before .before .before in (
+      rounding-off (l .loop .inv) _ (n .before .before .is-void .ensures) (n .before .if1 .left) (sym (n .next-row .ensures) ∙ c .enum-told .given .1),
+      l .loop .inv .line,
+    )
 
 -- on to the next row
 beside-requires : tie.Need-beside-requires Inv-loop μ-loop
 beside-requires c κs =
     let n = c .before .before .before in
-    let l = n .before .before .before in
-    (l .loop .inv .line, rounding-in (l .loop .inv) _ (n .before .before .is-void .ensures) (n .before .if1 .left) _ (sym (n .next-row .ensures) ∙ c .before .q .given .1))
+    let l = n .before .before .before in (
+      l .loop .inv .line,
+      rounding-in (l .loop .inv) _ (n .before .before .is-void .ensures) (n .before .if1 .left) _ (sym (n .next-row .ensures) ∙ c .before .q .given .1),
+    )
 
 loop-less : tie.Need-loop-less Inv-loop μ-loop
 loop-less c =

@@ -19,7 +19,8 @@ returns-2 : tie.Need-returns-2
 returns-2 c =
     let s = c .before .before in
     let p = s .pre .0 in
-    rw (p .begins) (sym (begins-is (s .args .x) (at-start (s .args .t .now) (s .args .l .row) (p .in-row)) (omega (arith, p .begins, c .before .if1 .left)) (s .pre .1)))
+    rw (p .begins)
+    (sym (begins-is (s .args .x) (at-start (s .args .t .now) (s .args .l .row) (p .in-row)) (omega (arith, p .begins, c .before .if1 .left)) (s .pre .1)))
 
 pub begins-spec : {M : Type 1} → statement M
 begins-spec = tie.close (tie.spec returns (λ c. search needs) (λ c. search needs) returns-2)

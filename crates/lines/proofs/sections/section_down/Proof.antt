@@ -44,7 +44,8 @@ begins-requires : tie.Need-begins-requires Inv-loop μ-loop
 begins-requires c κs =
     let d = c .before .before .before .before in
     let l = d .before .before in (
-      below-is (l .before .before .args .t .now) (l .loop .row) (d .down .result) (l .loop .inv .0 .in-row) (d .down .ensures) (c .before .before .if1 .left) .0,
+      below-is (l .before .before .args .t .now) (l .loop .row) (d .down .result) (l .loop .inv .0 .in-row) (d .down .ensures)
+          (c .before .before .if1 .left) .0,
       l .loop .inv .1,
     )
 
@@ -98,8 +99,10 @@ loop-again-2 c =
 returns-3 : tie.Need-returns-3 Inv-loop μ-loop
 returns-3 c =
     let l = c .before in
-    let a = l .before .before .args in
-    (sym (l .loop .inv .2 ∙ down-done (a .t .now) (a .x) (l .loop .left) (l .loop .row) _ (c .loop-test .left)), omega (arith, l .loop .inv .0 .below, l .loop .inv .0 .within))
+    let a = l .before .before .args in (
+      sym (l .loop .inv .2 ∙ down-done (a .t .now) (a .x) (l .loop .left) (l .loop .row) _ (c .loop-test .left)),
+      omega (arith, l .loop .inv .0 .below, l .loop .inv .0 .within),
+    )
 
 pub section-down-spec : {M : Type 1} → statement M
 section-down-spec =

@@ -21,8 +21,10 @@ abbrev μ-loop : tie.MeasureT-loop
 returns : tie.Need-returns Inv-loop μ-loop
 returns c =
     let l = c .before .before in
-    let a = l .before .before .args in
-    (sym (l .loop .inv .2 ∙ up-done (a .t .now) (a .x) (l .loop .left) (l .loop .row) (c .if1 .taken)), omega (arith, l .loop .inv .0 .below, l .loop .inv .0 .within))
+    let a = l .before .before .args in (
+      sym (l .loop .inv .2 ∙ up-done (a .t .now) (a .x) (l .loop .left) (l .loop .row) (c .if1 .taken)),
+      omega (arith, l .loop .inv .0 .below, l .loop .inv .0 .within),
+    )
 
 up-requires : tie.Need-up-requires Inv-loop μ-loop
 up-requires c κs = stands-own (c .before .before .loop .inv .0)
@@ -68,8 +70,10 @@ loop-again-2 c =
 returns-2 : tie.Need-returns-2 Inv-loop μ-loop
 returns-2 c =
     let l = c .before in
-    let a = l .before .before .args in
-    (sym (l .loop .inv .2 ∙ up-none (a .t .now) (a .x) (l .loop .left) (l .loop .row) (c .loop-test .left)), omega (arith, l .loop .inv .0 .below, l .loop .inv .0 .within))
+    let a = l .before .before .args in (
+      sym (l .loop .inv .2 ∙ up-none (a .t .now) (a .x) (l .loop .left) (l .loop .row) (c .loop-test .left)),
+      omega (arith, l .loop .inv .0 .below, l .loop .inv .0 .within),
+    )
 
 pub section-up-spec : {M : Type 1} → statement M
 section-up-spec =

@@ -21,8 +21,10 @@ line : tie.Need-match-bracket-from-requires
 line c κs =
     let b = c .before .before in
     let n = b .before .before in
-    let a = n .before .before .args in
-    (entry-clear (a .t .now) (here (a .self)) _ (n .enter .ensures) (b .if1 .left), entered (a .t .now) (here (a .self)) _ (n .enter .ensures) (b .if1 .left) .line)
+    let a = n .before .before .args in (
+      entry-clear (a .t .now) (here (a .self)) _ (n .enter .ensures) (b .if1 .left),
+      entered (a .t .now) (here (a .self)) _ (n .enter .ensures) (b .if1 .left) .line,
+    )
 
 returns-2 : tie.Need-returns-2
 unfolding partnerTo

@@ -71,7 +71,8 @@ placed-requires c κs =
     let i = u .before .before .before .before .before .before .before .before in
     let n = i .before .before in
     let a = n .before .before .before .before .args in
-    spot-fits (u .up .result .start) (folds-entered (a .t .now) (a .folds .now) (here (a .self)) _ (n .enter-folds .ensures) (i .if1 .left) .brief) (r .ensures .1)
+    spot-fits (u .up .result .start) (folds-entered (a .t .now) (a .folds .now) (here (a .self)) _ (n .enter-folds .ensures) (i .if1 .left) .brief)
+    (r .ensures .1)
 
 returns-3 : tie.Need-returns-3
 returns-3 c =
@@ -87,7 +88,8 @@ returns-3 c =
     (c .placed .ensures
     ∙ caret-of-spot (a .t .now) (a .self) (r .result) _ _ (ap (λ (x : ℕ). r .result .at - x) (up-start _ _ (r .result .row) (u .up .ensures)))
     (r .ensures .0
-    ∙ ap (λ (q : Place). wordMotion (a .t .now) (a .folds .now) (kindOf (anyToken (kept (p .parse .result .spec))) (a .big)) (a .big) (a .m) (a .stop) (a .count) q)
+    ∙ ap
+    (λ (q : Place). wordMotion (a .t .now) (a .folds .now) (kindOf (anyToken (kept (p .parse .result .spec))) (a .big)) (a .big) (a .m) (a .stop) (a .count) q)
     (place-of (a .t .now) (a .self) _ (folds-entered (a .t .now) (a .folds .now) (here (a .self)) _ (n .enter-folds .ensures) (p .before .if1 .left))))
     ∙ ap (λ (ts : List Token). wordCaret (a .t .now) (a .folds .now) (anyToken ts) (a .big) (a .m) (a .stop) (a .count) (a .self))
     (parse-kept (a .list .now) (p .parse .result) (p .parse .ensures) (s .if2 .left)))

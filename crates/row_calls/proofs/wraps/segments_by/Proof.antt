@@ -16,13 +16,15 @@ returns-2 : tie.Need-returns-2
 unfolding modeOf
 returns-2 c =
     let b = c .before .before .before in
-    segmented-by (rw (b .before .before .match .keys2)) (omega (arith, b .before .before .match .keys2)) (b .wrap-segments2 .ensures) (c .told-segments2 .ensures)
+    segmented-by (rw (b .before .before .match .keys2)) (omega (arith, b .before .before .match .keys2)) (b .wrap-segments2 .ensures)
+    (c .told-segments2 .ensures)
 
 returns-3 : tie.Need-returns-3
 unfolding modeOf
 returns-3 c =
     let b = c .before .before .before in
-    segmented-by (rw (b .before .before .match .keys3)) (omega (arith, b .before .before .match .keys3)) (b .wrap-segments3 .ensures) (c .told-segments3 .ensures)
+    segmented-by (rw (b .before .before .match .keys3)) (omega (arith, b .before .before .match .keys3)) (b .wrap-segments3 .ensures)
+    (c .told-segments3 .ensures)
 
 returns-4 : tie.Need-returns-4
 returns-4 c =

@@ -9,12 +9,14 @@ use Rattle.text.specs.Offsets.{rowStart}
 use Rattle.text.proofs.Stands.{stands-own, back-char, back-nl}
 use Rattle.positions.specs.Positions.{position}
 use Rattle.steps.specs.Steps.{backspaceBack}
-use Rattle.steps.proofs.Stepping.{Going, going-start, going-on, going-done, going-stop, going-from, back-first, back-on, back-end, back-void, back-wrap, up-start}
+use Rattle.steps.proofs.Stepping.{Going, going-start, going-on, going-done, going-stop, going-from}
+use Rattle.steps.proofs.Stepping.{back-first, back-on, back-end, back-void, back-wrap, up-start}
 use Rattle.steps.proofs.walks.backspace_back.Statement.{statement}
 use Rattle.steps.proofs.walks.backspace_back.Tie as tie
 
 abbrev Inv-loop : tie.InvT-loop
-Inv-loop t start count row₀ at₀ left₀ row at left = Going (backspaceBack t) (position row₀ (at₀ - start)) (max count 1) t row (rowStart t row) at left × (length t ≤ 1048576)
+Inv-loop t start count row₀ at₀ left₀ row at left =
+    Going (backspaceBack t) (position row₀ (at₀ - start)) (max count 1) t row (rowStart t row) at left × (length t ≤ 1048576)
 
 abbrev μ-loop : tie.MeasureT-loop
 μ-loop t start count row₀ at₀ left₀ row at left = left
@@ -23,7 +25,8 @@ loop-holds : tie.Need-loop-holds Inv-loop μ-loop
 loop-holds c =
     let s = c .before .before .before in
     let a = s .args in (
-      going-start (backspaceBack (a .t .now)) (position (a .p .row) (a .start + a .p .col - a .start)) (max (a .count) 1) _ _ _ (stands-own (s .pre .here)) (omega (arith, s .pre .here .begins))
+      going-start (backspaceBack (a .t .now)) (position (a .p .row) (a .start + a .p .col - a .start)) (max (a .count) 1) _ _ _
+          (stands-own (s .pre .here)) (omega (arith, s .pre .here .begins))
           (c .most .ensures),
       s .pre .brief,
     )
@@ -49,7 +52,8 @@ loop-again c =
     let g = l .loop .inv .0 in
     let some : 0 < l .loop .at = omega arith in
     let nl = c .before .if2 .taken in (
-      going-on g _ _ _ (c .before .before .before .before .loop-test .taken) (back-end (g .stands) some nl) (back-void (g .stands) some nl (λ p. absurd (omega arith))),
+      going-on g _ _ _ (c .before .before .before .before .loop-test .taken) (back-end (g .stands) some nl)
+          (back-void (g .stands) some nl (λ p. absurd (omega arith))),
       l .loop .inv .1,
     )
 

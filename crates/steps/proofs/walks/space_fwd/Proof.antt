@@ -8,12 +8,14 @@ use borrow.Author.Needs.{needs}
 use Rattle.text.proofs.Stands.{step-char, step-nl}
 use Rattle.positions.specs.Positions.{position}
 use Rattle.steps.specs.Steps.{spaceFwd}
-use Rattle.steps.proofs.Stepping.{Going, going-start, going-on, going-done, going-stop, going-from, space-end, space-nl, space-last, space-wrap, space-on}
+use Rattle.steps.proofs.Stepping.{Going, going-start, going-on, going-done, going-stop, going-from}
+use Rattle.steps.proofs.Stepping.{space-end, space-nl, space-last, space-wrap, space-on}
 use Rattle.steps.proofs.walks.space_fwd.Statement.{statement}
 use Rattle.steps.proofs.walks.space_fwd.Tie as tie
 
 abbrev Inv-loop : tie.InvT-loop
-Inv-loop t begin count row₀ start₀ at₀ left₀ row start at left = Going (spaceFwd t) (position row₀ (at₀ - begin)) (max count 1) t row start at left × (length t ≤ 1048576)
+Inv-loop t begin count row₀ start₀ at₀ left₀ row start at left =
+    Going (spaceFwd t) (position row₀ (at₀ - begin)) (max count 1) t row start at left × (length t ≤ 1048576)
 
 abbrev μ-loop : tie.MeasureT-loop
 μ-loop t begin count row₀ start₀ at₀ left₀ row start at left = left
@@ -21,15 +23,20 @@ abbrev μ-loop : tie.MeasureT-loop
 loop-holds : tie.Need-loop-holds Inv-loop μ-loop
 loop-holds c =
     let s = c .before .before .before in
-    let a = s .args in
-    (going-start (spaceFwd (a .t .now)) (position (a .p .row) (a .begin + a .p .col - a .begin)) (max (a .count) 1) _ _ _ (s .pre .here) (omega arith) (c .most .ensures), s .pre .brief)
+    let a = s .args in (
+      going-start (spaceFwd (a .t .now)) (position (a .p .row) (a .begin + a .p .col - a .begin)) (max (a .count) 1) _ _ _ (s .pre .here)
+          (omega arith) (c .most .ensures),
+      s .pre .brief,
+    )
 
 -- at the end of the text
 returns : tie.Need-returns Inv-loop μ-loop
 returns c =
     let l = c .before .before in
     let g = l .loop .inv .0 in
-    going-stop g (space-end (g .stands) (c .if1 .taken)) ∙ going-from (spaceFwd (l .before .before .before .before .args .t .now)) _ (l .before .before .before .before .args .p) (l .before .before .before .before .args .begin)
+    going-stop g (space-end (g .stands) (c .if1 .taken)) ∙
+    going-from (spaceFwd (l .before .before .before .before .args .t .now)) _ (l .before .before .before .before .args .p)
+    (l .before .before .before .before .args .begin)
 
 -- on a separator
 loop-again : tie.Need-loop-again Inv-loop μ-loop
@@ -47,7 +54,9 @@ returns-2 c =
     let o = c .before .before .before in
     let l = o .before .before in
     let g = l .loop .inv .0 in
-    going-stop g (space-last (g .stands) (o .if1 .left) (c .before .if2 .left) (c .if3 .taken)) ∙ going-from (spaceFwd (l .before .before .before .before .args .t .now)) _ (l .before .before .before .before .args .p) (l .before .before .before .before .args .begin)
+    going-stop g (space-last (g .stands) (o .if1 .left) (c .before .if2 .left) (c .if3 .taken)) ∙
+    going-from (spaceFwd (l .before .before .before .before .args .t .now)) _ (l .before .before .before .before .args .p)
+    (l .before .before .before .before .args .begin)
 
 -- before a separator
 loop-again-2 : tie.Need-loop-again-2 Inv-loop μ-loop
@@ -75,7 +84,10 @@ loop-again-3 c =
     )
 
 returns-3 : tie.Need-returns-3 Inv-loop μ-loop
-returns-3 c = going-done (c .before .loop .inv .0) (c .loop-test .left) ∙ going-from (spaceFwd (c .before .before .before .before .before .args .t .now)) _ (c .before .before .before .before .before .args .p) (c .before .before .before .before .before .args .begin)
+returns-3 c =
+    going-done (c .before .loop .inv .0) (c .loop-test .left) ∙
+    going-from (spaceFwd (c .before .before .before .before .before .args .t .now)) _ (c .before .before .before .before .before .args .p)
+    (c .before .before .before .before .before .args .begin)
 
 pub space-fwd-spec : {M : Type 1} → statement M
 space-fwd-spec =

@@ -11,7 +11,8 @@ use Rattle.text_calls.proofs.moves.motion.Tie as tie
 returns : tie.Need-returns
 returns c =
     let a = c .before .before .before .before .before .args in
-    replied-of moved (c .before .before .move-by .ensures ∙ ap (λ (k : Caret). motion (a .op) (a .count) k (a .text .now)) (c .before .before .before .caret-of .ensures))
+    replied-of moved
+    (c .before .before .move-by .ensures ∙ ap (λ (k : Caret). motion (a .op) (a .count) k (a .text .now)) (c .before .before .before .caret-of .ensures))
     (c .place .ensures)
 
 pub motion-spec : {M : Type 1} → statement M

@@ -10,7 +10,8 @@ use Rattle.text_calls.proofs.seeks.seek.Tie as tie
 returns : tie.Need-returns
 returns c =
     let a = c .before .before .before .before .before .args in
-    replied-of sought (c .before .before .seek-by .ensures ∙ ap (λ (k : Caret). seek (a .op) (a .x) k (a .text .now)) (c .before .before .before .caret-of .ensures))
+    replied-of sought
+    (c .before .before .seek-by .ensures ∙ ap (λ (k : Caret). seek (a .op) (a .x) k (a .text .now)) (c .before .before .before .caret-of .ensures))
     (c .tell .ensures)
 
 pub seek-spec : {M : Type 1} → statement M

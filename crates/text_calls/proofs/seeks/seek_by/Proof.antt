@@ -45,7 +45,17 @@ returns-10 : tie.Need-returns-10
 unfolding seek
 returns-10 c =
     let m = c .match .rest in
-    rw (ne-eqb _ 0 (m .0 .0 .0 .0 .0 .0 .0 .0 .1), ne-eqb _ 1 (m .0 .0 .0 .0 .0 .0 .0 .1), ne-eqb _ 2 (m .0 .0 .0 .0 .0 .0 .1), ne-eqb _ 3 (m .0 .0 .0 .0 .0 .1), ne-eqb _ 4 (m .0 .0 .0 .0 .1), ne-eqb _ 5 (m .0 .0 .0 .1), ne-eqb _ 6 (m .0 .0 .1), ne-eqb _ 7 (m .0 .1), ne-eqb _ 8 (m .1))
+    rw (
+      ne-eqb _ 0 (m .0 .0 .0 .0 .0 .0 .0 .0 .1),
+      ne-eqb _ 1 (m .0 .0 .0 .0 .0 .0 .0 .1),
+      ne-eqb _ 2 (m .0 .0 .0 .0 .0 .0 .1),
+      ne-eqb _ 3 (m .0 .0 .0 .0 .0 .1),
+      ne-eqb _ 4 (m .0 .0 .0 .0 .1),
+      ne-eqb _ 5 (m .0 .0 .0 .1),
+      ne-eqb _ 6 (m .0 .0 .1),
+      ne-eqb _ 7 (m .0 .1),
+      ne-eqb _ 8 (m .1),
+    )
 
 pub seek-by-spec : {M : Type 1} → statement M
 seek-by-spec =
