@@ -1,5 +1,4 @@
 // A session, from its bytes to what it prints.
-ghost use mathlib.Core.Path.{_≡_};
 ghost use Rattle.session.specs.Session.{sessionOf};
 ghost use Rattle.session.specs.Written.{Printed};
 

@@ -5,13 +5,12 @@ ghost use mathlib.Core.Path.{_≡_};
 ghost use mathlib.Core.Bool.{false};
 ghost use Prim.Native.Nat.{_+_, _≤_, _<_};
 ghost use lib.IntN.{ℤ, pos, _+ℤ_, natAbs};
-ghost use lib.ListN.{length};
 ghost use lib.Signed.{ltZ};
 ghost use mir.Syntax.{w64};
 ghost use mir.Val.{SFits};
 ghost use Rattle.text.specs.Text.{rowCount};
 ghost use Rattle.text.specs.Offsets.{IsLine, lineAt};
-ghost use Rattle.lines.specs.Toward.{dirOf, isOutside, nextRow, restOf, onward};
+ghost use Rattle.lines.specs.Toward.{dirOf, isOutside, nextRow, onward};
 
 fn signed(row: usize) -> i64
     requires { ⌜ row ≤ 1048577 ⌝ }

@@ -1,6 +1,5 @@
 // Writing into lent room, byte after byte: each function writes from an index on and answers the
 // next index.
-ghost use mathlib.Core.Path.{_≡_};
 ghost use mathlib.Core.List.{[], _∷_};
 ghost use Prim.Native.Nat.{_+_, _≤_, _<_};
 ghost use lib.ListN.{length};

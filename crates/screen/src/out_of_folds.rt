@@ -7,7 +7,7 @@ use text::least;
 use text::minus;
 ghost use mathlib.Core.Path.{_≡_};
 ghost use mathlib.Core.Bool.{cond};
-ghost use Prim.Native.Nat.{_-_, _≤_, _<_};
+ghost use Prim.Native.Nat.{_≤_, _<_};
 ghost use Rattle.text.specs.Text.{rowCount};
 ghost use Rattle.text.specs.Offsets.{IsLine};
 ghost use Rattle.folds.specs.Folds.{foldRefusal};

@@ -2,8 +2,7 @@
 // From document 01, "Text, rows, carets" and "Refusal numbers", and `content_row_count` of
 // motions.rs.
 ghost use mathlib.Core.Path.{_≡_};
-ghost use Prim.Native.Nat.{_+_, _-_, _≤_, _<_, min, max};
-ghost use lib.ListN.{length};
+ghost use Prim.Native.Nat.{_-_, _<_, min, max};
 ghost use Rattle.text.specs.Text.{textRefusal, rowCount, contentRows, contentRowCount};
 
 pub mod offsets;

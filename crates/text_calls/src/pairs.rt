@@ -1,6 +1,5 @@
 // Brackets and their partners.
 use partners::Partner;
-ghost use mathlib.Core.Path.{_≡_};
 ghost use Rattle.lent.specs.Reply.{Replied};
 ghost use Rattle.text_calls.specs.Partners.{partnered, partner};
 

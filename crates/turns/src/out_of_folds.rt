@@ -4,7 +4,7 @@ use places::Spot;
 use text::Line;
 use text::offsets;
 ghost use mathlib.Core.Path.{_≡_};
-ghost use Prim.Native.Nat.{_+_, _-_, _≤_, _<_};
+ghost use Prim.Native.Nat.{_+_, _-_, _<_};
 ghost use Rattle.text.specs.Text.{rowCount, rowLen};
 ghost use Rattle.text.specs.Offsets.{lineAt};
 ghost use Rattle.places.specs.Places.{place};

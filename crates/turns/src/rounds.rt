@@ -8,7 +8,7 @@ use places::Spot;
 use places::Step;
 ghost use mathlib.Core.Path.{_≡_};
 ghost use mathlib.Core.Bool.{false};
-ghost use Rattle.places.specs.Spots.{placeOf, IsSpot};
+ghost use Rattle.places.specs.Spots.{placeOf};
 ghost use Rattle.places.specs.Lent.{kindBy};
 ghost use Rattle.turns.specs.declared.Motion.the-variants as variant;
 ghost use Rattle.turns.specs.Rounds.{roundOf};
