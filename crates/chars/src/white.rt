@@ -27,21 +27,13 @@ pub const WHITE: [u32; 20] = [
     0x3001,
 ];
 
-// Whether x, below U+0085, is white space.
+// Whether x, below U+1680, is white space.
 fn low_white(x: u32) -> bool
-    requires { ⌜ x < 0x85 ⌝ }
+    requires { ⌜ x < 0x1680 ⌝ }
     ensures { λ r. ⌜ r ≡ isWhite x ⌝ }
 {
-    if x < 0x9 {
-        return false;
-    }
-    if x < 0xe {
-        return true;
-    }
-    if x < 0x20 {
-        return false;
-    }
-    x < 0x21
+    ((0x9 <= x) & (x < 0xe))
+        | (((0x20 <= x) & (x < 0x21)) | (((0x85 <= x) & (x < 0x86)) | ((0xa0 <= x) & (x < 0xa1))))
 }
 
 // Whether x is white space, by the table WHITE that is lent.
@@ -49,7 +41,7 @@ pub fn white_in(white: &[u32], x: u32) -> bool
     requires { ⌜ now white ≡ whites ⌝ }
     ensures { λ r. ⌜ r ≡ isWhite x ⌝ }
 {
-    if x < 0x85 {
+    if x < 0x1680 {
         return low_white(x);
     }
     ranges::in_table(white, x)
@@ -66,7 +58,7 @@ fn high_white(x: u32) -> bool
 pub fn is_white(x: u32) -> bool
     ensures { λ r. ⌜ r ≡ isWhite x ⌝ }
 {
-    if x < 0x85 {
+    if x < 0x1680 {
         return low_white(x);
     }
     high_white(x)
