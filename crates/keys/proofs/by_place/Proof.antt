@@ -8,30 +8,10 @@ use Rattle.keys.specs.Keys.{placeKeys, found}
 use Rattle.keys.proofs.by_place.Statement.{statement}
 use Rattle.keys.proofs.by_place.Tie as tie
 
-returns : tie.Need-returns
-unfolding placeKeys found isSame bytes
-returns c = sym (ap (found placeKeys) (c .before .same .ensures .equal (c .if1 .taken)))
-
-returns-2 : tie.Need-returns-2
-unfolding placeKeys found isSame bytes
-returns-2 c = sym (ap (found placeKeys) (c .before .same2 .ensures .equal (c .if2 .taken)))
-
-returns-3 : tie.Need-returns-3
-unfolding placeKeys found isSame bytes
-returns-3 c = sym (ap (found placeKeys) (c .before .same3 .ensures .equal (c .if3 .taken)))
-
-returns-4 : tie.Need-returns-4
-unfolding placeKeys found isSame bytes
-returns-4 c = sym (ap (found placeKeys) (c .before .same4 .ensures .equal (c .if4 .taken)))
-
-returns-5 : tie.Need-returns-5
-unfolding placeKeys found isSame bytes
-returns-5 c = sym (ap (found placeKeys) (c .before .same5 .ensures .equal (c .if5 .taken)))
-
 -- none of them
-returns-6 : tie.Need-returns-6
+none : tie.Need-returns-6
 unfolding placeKeys found bytes
-returns-6 c =
+none c =
     let at5 = c in
     let at4 = at5 .before .before .before in
     let at3 = at4 .before .before .before in
@@ -46,22 +26,13 @@ returns-6 c =
     )
 
 pub by-place-spec : {M : Type 1} → statement M
+unfolding placeKeys found isSame bytes
 by-place-spec =
     tie.close
     (tie.spec
-    (λ c. search needs)
-    (λ c κs. search needs)
-    returns
-    (λ c. search needs)
-    (λ c κs. search needs)
-    returns-2
-    (λ c. search needs)
-    (λ c κs. search needs)
-    returns-3
-    (λ c. search needs)
-    (λ c κs. search needs)
-    returns-4
-    (λ c. search needs)
-    (λ c κs. search needs)
-    returns-5
-    returns-6)
+    (λ c. search needs) (λ c κs. search needs) (λ c. sym (ap (found placeKeys) (c .before .same .ensures .equal (c .if1 .taken))))
+    (λ c. search needs) (λ c κs. search needs) (λ c. sym (ap (found placeKeys) (c .before .same2 .ensures .equal (c .if2 .taken))))
+    (λ c. search needs) (λ c κs. search needs) (λ c. sym (ap (found placeKeys) (c .before .same3 .ensures .equal (c .if3 .taken))))
+    (λ c. search needs) (λ c κs. search needs) (λ c. sym (ap (found placeKeys) (c .before .same4 .ensures .equal (c .if4 .taken))))
+    (λ c. search needs) (λ c κs. search needs) (λ c. sym (ap (found placeKeys) (c .before .same5 .ensures .equal (c .if5 .taken))))
+    none)

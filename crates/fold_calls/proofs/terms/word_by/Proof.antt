@@ -5,26 +5,6 @@ use Rattle.fold_calls.specs.Terms.{word}
 use Rattle.fold_calls.proofs.terms.word_by.Statement.{statement}
 use Rattle.fold_calls.proofs.terms.word_by.Tie as tie
 
-returns : tie.Need-returns
-unfolding word
-returns c = rw (c .before .match .keys1) (c .move-word-fwd .ensures)
-
-returns-2 : tie.Need-returns-2
-unfolding word
-returns-2 c = rw (c .before .match .keys2) (c .move-word-back .ensures)
-
-returns-3 : tie.Need-returns-3
-unfolding word
-returns-3 c = rw (c .before .match .keys3) (c .move-word-end .ensures)
-
-returns-4 : tie.Need-returns-4
-unfolding word
-returns-4 c = rw (c .before .match .keys4) (c .move-word-end2 .ensures)
-
-returns-5 : tie.Need-returns-5
-unfolding word
-returns-5 c = rw (c .before .match .keys5) (c .move-word-end-back .ensures)
-
 returns-6 : tie.Need-returns-6
 unfolding word
 returns-6 c =
@@ -32,17 +12,13 @@ returns-6 c =
     rw (ne-eqb _ 0 (m .0 .0 .0 .0 .1), ne-eqb _ 1 (m .0 .0 .0 .1), ne-eqb _ 2 (m .0 .0 .1), ne-eqb _ 3 (m .0 .1), ne-eqb _ 4 (m .1))
 
 pub word-by-spec : {M : Type 1} → statement M
+unfolding word
 word-by-spec =
     tie.close
     (tie.spec
-    (λ c κs. search needs)
-    (λ c κs. search needs)
-    (λ c κs. search needs)
-    (λ c κs. search needs)
-    (λ c κs. search needs)
-    returns
-    returns-2
-    returns-3
-    returns-4
-    returns-5
-    returns-6)
+    (λ c κs. search needs) (λ c κs. search needs) (λ c κs. search needs) (λ c κs. search needs) (λ c κs. search needs)
+    (λ c. rw (c .before .match .keys1) (c .move-word-fwd .ensures))
+    (λ c. rw (c .before .match .keys2) (c .move-word-back .ensures))
+    (λ c. rw (c .before .match .keys3) (c .move-word-end .ensures))
+    (λ c. rw (c .before .match .keys4) (c .move-word-end2 .ensures))
+    (λ c. rw (c .before .match .keys5) (c .move-word-end-back .ensures)) returns-6)

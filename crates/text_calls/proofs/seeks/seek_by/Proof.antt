@@ -5,42 +5,6 @@ use Rattle.text_calls.specs.Seeks.{seek}
 use Rattle.text_calls.proofs.seeks.seek_by.Statement.{statement}
 use Rattle.text_calls.proofs.seeks.seek_by.Tie as tie
 
-returns : tie.Need-returns
-unfolding seek
-returns c = rw (c .before .match .keys1) (c .match-bracket .ensures)
-
-returns-2 : tie.Need-returns-2
-unfolding seek
-returns-2 c = rw (c .before .match .keys2) (c .find-char-on-line .ensures)
-
-returns-3 : tie.Need-returns-3
-unfolding seek
-returns-3 c = rw (c .before .match .keys3) (c .find-char-on-line2 .ensures)
-
-returns-4 : tie.Need-returns-4
-unfolding seek
-returns-4 c = rw (c .before .match .keys4) (c .find-char-on-line3 .ensures)
-
-returns-5 : tie.Need-returns-5
-unfolding seek
-returns-5 c = rw (c .before .match .keys5) (c .find-char-on-line4 .ensures)
-
-returns-6 : tie.Need-returns-6
-unfolding seek
-returns-6 c = rw (c .before .match .keys6) (c .find-char-on-line5 .ensures)
-
-returns-7 : tie.Need-returns-7
-unfolding seek
-returns-7 c = rw (c .before .match .keys7) (c .find-char-on-line6 .ensures)
-
-returns-8 : tie.Need-returns-8
-unfolding seek
-returns-8 c = rw (c .before .match .keys8) (c .find-char-on-line7 .ensures)
-
-returns-9 : tie.Need-returns-9
-unfolding seek
-returns-9 c = rw (c .before .match .keys9) (c .find-char-on-line8 .ensures)
-
 returns-10 : tie.Need-returns-10
 unfolding seek
 returns-10 c =
@@ -58,25 +22,19 @@ returns-10 c =
     )
 
 pub seek-by-spec : {M : Type 1} → statement M
+unfolding seek
 seek-by-spec =
     tie.close
     (tie.spec
-    (λ c κs. search needs)
-    (λ c κs. search needs)
-    (λ c κs. search needs)
-    (λ c κs. search needs)
-    (λ c κs. search needs)
-    (λ c κs. search needs)
-    (λ c κs. search needs)
-    (λ c κs. search needs)
-    (λ c κs. search needs)
-    returns
-    returns-2
-    returns-3
-    returns-4
-    returns-5
-    returns-6
-    returns-7
-    returns-8
-    returns-9
+    (λ c κs. search needs) (λ c κs. search needs) (λ c κs. search needs) (λ c κs. search needs) (λ c κs. search needs) (λ c κs. search needs)
+    (λ c κs. search needs) (λ c κs. search needs) (λ c κs. search needs)
+    (λ c. rw (c .before .match .keys1) (c .match-bracket .ensures))
+    (λ c. rw (c .before .match .keys2) (c .find-char-on-line .ensures))
+    (λ c. rw (c .before .match .keys3) (c .find-char-on-line2 .ensures))
+    (λ c. rw (c .before .match .keys4) (c .find-char-on-line3 .ensures))
+    (λ c. rw (c .before .match .keys5) (c .find-char-on-line4 .ensures))
+    (λ c. rw (c .before .match .keys6) (c .find-char-on-line5 .ensures))
+    (λ c. rw (c .before .match .keys7) (c .find-char-on-line6 .ensures))
+    (λ c. rw (c .before .match .keys8) (c .find-char-on-line7 .ensures))
+    (λ c. rw (c .before .match .keys9) (c .find-char-on-line8 .ensures))
     returns-10)
