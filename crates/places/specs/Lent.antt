@@ -21,7 +21,7 @@ kindBy bounds s = kindOf (wordBy bounds s) (s .big)
 
 -- a code point for which the table of letters is read
 abbrev pub isHigh : ℕ → Bool
-isHigh x = leb 0xaa x
+isHigh x = leb 0x2c2 x
 
 -- what the class test requires of the bounds and the table that are lent to it: the table counts for high code points alone
 pub record Lends (bounds table : List ℕ) (s : Setting) (x : ℕ) : Type 0 where

@@ -4,12 +4,12 @@ use crate::Setting;
 ghost use mathlib.Core.Path.{_≡_};
 ghost use Rattle.places.specs.Lent.{wordBy, kindBy, Lends};
 
-// Whether x is a keyword character. Below U+00AA the table of letters is not read.
+// Whether x is a keyword character. Below U+02C2 the table of letters is not read.
 fn is_word(bounds: &[u32], table: &[u32], s: Setting, x: u32) -> bool
     requires { ⌜ Lends (now bounds) (now table) s x ⌝ }
     ensures { λ r. ⌜ r ≡ wordBy (now (bounds .entry)) s x ⌝ }
 {
-    if x >= 0xaa {
+    if x >= 0x2c2 {
         return keywords::holds(bounds, s.pairs, s.letters, table, x);
     }
     if !s.letters {

@@ -85,7 +85,7 @@ fn has_high(t: &[u32]) -> bool
     let mut high = false;
     let mut i: usize = 0;
     while i < t.len() {
-        high = high | (t[i] >= 0xaa);
+        high = high | (t[i] >= 0x2c2);
         i += 1;
     }
     high
