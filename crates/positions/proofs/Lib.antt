@@ -1,2 +1,3 @@
 -- Laws of positions, which the proofs of this crate and of the crates above it cite.
+pub mod Lowest
 pub mod Checks

@@ -9,7 +9,7 @@ use lib.Seq.{sets-eq, length-take-le}
 use Rattle.print.specs.Print.{Wrote, bytes}
 use Rattle.script.specs.declared.Begin.the-variants.{At, Refused}
 use Rattle.script.specs.Parts.{textOf, isRefused, beginOf}
-use Rattle.script.proofs.Rows.{taken-short, begin-refused, begin-taken}
+use Rattle.script.proofs.Inputs.{taken-short, begin-refused, begin-taken}
 use Rattle.session.specs.Session.{outputOf, sessionOf}
 use Rattle.session.specs.Written.{Printed}
 use Rattle.session.proofs.Lengths.{lines-fit}

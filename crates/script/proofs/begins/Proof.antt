@@ -2,7 +2,7 @@
 use mathlib.Core.Path.{sym, _∙_}
 use borrow.Author.Needs.{needs}
 use borrow.Author.Tests.{not-true, not-false}
-use Rattle.script.proofs.Rows.{begin-long, begin-above, begin-stop}
+use Rattle.script.proofs.Inputs.{begin-long, begin-above, begin-stop}
 use Rattle.script.proofs.begins.Statement.{statement}
 use Rattle.script.proofs.begins.Tie as tie
 

@@ -6,7 +6,7 @@ use native.Mathlib.Omega.{arith}
 use borrow.Author.Needs.{needs}
 use lib.ListN.{length, take, drop, length-set}
 use lib.Seq.{length-take-le}
-use Rattle.script.proofs.Rows.{widen-on, widen-all}
+use Rattle.script.proofs.Inputs.{widen-on, widen-all}
 use Rattle.script.proofs.widen.Statement.{statement}
 use Rattle.script.proofs.widen.Tie as tie
 

@@ -1,0 +1,44 @@
+-- Laws of the lowest of a list of refusals. Assumes nothing.
+use mathlib.Core.Path.{_≡_, refl, sym}
+use mathlib.Core.List.{List, [], _∷_, _++_}
+use mathlib.Core.Bool.{Bool, true, false, cond}
+use Prim.Native.Nat.{ℕ}
+use native.Mathlib.Decide.{ℕ-discrete}
+use lib.Dec.{eqb}
+use borrow.Author.Tests.{eq-eqb, ne-eqb, eqb-true, eqb-false}
+use Rattle.positions.specs.Positions.{lowest}
+
+pub lowest-none : (f : ℕ) (rest : List ℕ) → lowest (f ∷ rest) ≡ 0 → (f ≡ 0) × (lowest rest ≡ 0)
+unfolding lowest
+lowest-none f rest e = go (eqb f 0) refl e
+  where
+    go : (b : Bool) → eqb f 0 ≡ b → cond b (lowest rest) f ≡ 0 → (f ≡ 0) × (lowest rest ≡ 0)
+    go true p q = (eqb-true _ _ p, q)
+    go false p q = absurd (eqb-false _ _ p q)
+
+-- with one more at the end
+pub lowest-kept : (l : List ℕ) (d : ℕ) → (lowest l ≡ 0 → ⊥) → lowest (l ++ (d ∷ [])) ≡ lowest l
+unfolding lowest
+lowest-kept [] d n = absurd (n refl)
+lowest-kept (f ∷ rest) d n = go (eqb f 0) (λ m. lowest-kept rest d m) n
+  where
+    go : (b : Bool) → ((lowest rest ≡ 0 → ⊥) → lowest (rest ++ (d ∷ [])) ≡ lowest rest) → (cond b (lowest rest) f ≡ 0 → ⊥) →
+        cond b (lowest (rest ++ (d ∷ []))) f ≡ cond b (lowest rest) f
+    go true h n = h n
+    go false h n = refl
+
+pub both : (a b : ℕ) → a ≡ 0 → b ≡ 0 → lowest (a ∷ b ∷ []) ≡ 0
+unfolding lowest
+both a b p q = rw (eq-eqb a 0 p, eq-eqb b 0 q)
+
+lowest-one : (d : ℕ) → Dec (d ≡ 0) → lowest (d ∷ []) ≡ d
+unfolding lowest
+lowest-one d (yes e) = rw (eq-eqb d 0 e) (sym e)
+lowest-one d (no n) = rw (ne-eqb d 0 n)
+
+pub lowest-last : (l : List ℕ) (d : ℕ) → lowest l ≡ 0 → lowest (l ++ (d ∷ [])) ≡ d
+unfolding lowest
+lowest-last [] d z = lowest-one d (ℕ-discrete d 0)
+lowest-last (f ∷ rest) d z =
+    let p = lowest-none f rest z in
+    rw (eq-eqb f 0 (p .0)) (lowest-last rest d (p .1))
