@@ -1,4 +1,4 @@
-//! Where the proved archive stands: `rt staticlib exports` writes it, or the folder that
+//! Where the proved archive stands: `tools/archive` writes it, or the folder that
 //! `TSIVAREZA_ARCHIVE` names has one for this machine's processor.
 fn main() {
     let here = std::path::PathBuf::from(std::env::var("CARGO_MANIFEST_DIR").expect("cargo sets it"));
