@@ -114,11 +114,35 @@ fn check() {
     let read = best(|| {
         black_box(black_box(&text).iter().fold(0, |sum: u32, x| sum.wrapping_add(*x)));
     });
-    let checked = best(|| {
-        let _ = black_box(tsivareza::content_row_count(black_box(&text)));
-    });
+    let check = |text: &[u32]| {
+        best(|| {
+            let _ = black_box(tsivareza::content_row_count(black_box(text)));
+        })
+    };
+    let plain = check(&text);
+    text[0] = 0x2030;
+    let high = check(&text);
     println!("\n## The check of a text, 1,048,576 code points\n");
-    println!("Adding them up takes {}, the check {}: {:.1} times that.", shown(read), shown(checked), checked / read);
+    println!("Adding them up takes {}, the check {}: {:.1} times that.", shown(read), shown(plain), plain / read);
+    println!("With a code point from U+2028 on it takes {}: {:.1} times.", shown(high), high / read);
+}
+
+/// What could grow faster than the text: one row of many segments, and many folds over many rows.
+fn growth() -> Result<(), String> {
+    let n = SIZES[2].1;
+    let time = |case: &Case| shown(best(|| drop(black_box(port(black_box(case), None)))));
+    let mut up = case(oracle::case::call("move_screen_up")?, n, u32::MAX);
+    up.text = prose(n, true);
+    (up.caret, up.view.width, up.view.wrap) = (Caret::at(0, n as u32 - 1), 1, Wrap::Char);
+    let mut word = case(oracle::case::call("move_word_fwd")?, n, u32::MAX);
+    word.caret = Caret::at(0, 0);
+    let open = time(&word);
+    let apart = (n / 60 / 256) as u32;
+    word.folds = (0..256).flat_map(|i| [apart * i + 1, apart * i + 2, 1]).collect();
+    println!("\n## Growth\n");
+    println!("`gk` with the largest count from the end of one row of {n} code points at width 1: {}.", time(&up));
+    println!("`w` with the largest count through {n} code points: {open}; with 256 closed folds: {}.", time(&word));
+    Ok(())
 }
 
 /// What a process of this program prints, or nothing where it takes too long.
@@ -187,7 +211,7 @@ fn main() {
     let done = match words.first().map(String::as_str) {
         Some("measure") => measure(&words[1], number(2) as usize, number(3) as u32),
         Some("alone") => alone(&words[1], number(2) as usize, number(3) as u32),
-        _ => table().map(|()| check()),
+        _ => table().map(|()| check()).and_then(|()| growth()),
     };
     if let Err(why) = done {
         eprintln!("speed: {why}");
