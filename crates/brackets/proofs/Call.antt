@@ -8,10 +8,11 @@ use native.Mathlib.Decide.{decLt}
 use native.Mathlib.Omega.{arith}
 use lib.ListN.{getD}
 use borrow.Author.Tests.{eq-eqb, ne-eqb, lt-ltb, le-ltb}
-use Rattle.text.specs.Text.{textRefusal, rowCount, rowAt, rowLen}
+use Rattle.accept.specs.Accept.{textRefusal}
+use Rattle.text.specs.Text.{rowCount, rowAt, rowLen}
 use Rattle.text.specs.Offsets.{rowStart, lineAt, IsLine}
 use Rattle.text.specs.declared.Line.{Line}
-use Rattle.text.proofs.Check.{accepted-short}
+use Rattle.accept.proofs.Accepted.{accepted-short}
 use Rattle.text.proofs.Parts.{row-fits}
 use Rattle.text.proofs.Stands.{row-missed, row-found, stands-in}
 use Rattle.scans.specs.declared.Found.{Found}

@@ -4,7 +4,8 @@ use mathlib.Core.Bool.{cond, _&&_}
 use mathlib.Core.List.{List}
 use Prim.Native.Nat.{ℕ, _+_, _<_}
 use lib.Dec.{eqb, ltb}
-use Rattle.text.specs.Text.{textRefusal, rowCount, rowLen}
+use Rattle.accept.specs.Accept.{textRefusal}
+use Rattle.text.specs.Text.{rowCount, rowLen}
 use Rattle.text.specs.Offsets.{rowStart}
 use Rattle.partners.specs.declared.Partner.{Partner}
 use Rattle.partners.specs.declared.Partner.the-variants.{None, Refused}

@@ -6,7 +6,7 @@ use scans::Found;
 use signs::find;
 use text::Line;
 ghost use mathlib.Core.Path.{_≡_};
-ghost use Rattle.text.specs.Text.{textRefusal};
+ghost use Rattle.accept.specs.Accept.{textRefusal};
 ghost use Rattle.text.specs.Offsets.{Stands, IsLine};
 ghost use Rattle.brackets.specs.Matching.{matchingBracketPos};
 ghost use Rattle.brackets.specs.Walk.{columnOf};
@@ -38,7 +38,7 @@ fn offset_of(t: &[u32], row: usize, start: usize, col: usize) -> Found
 pub fn matching_bracket_pos(t: &[u32], row: u32, col: u32) -> Partner
     ensures { λ r. ⌜ r ≡ matchingBracketPos (now (t .entry)) row col ⌝ }
 {
-    let f = text::text_refusal(t);
+    let f = accept::text_refusal(t);
     if f != 0 {
         return Partner::Refused(f);
     }

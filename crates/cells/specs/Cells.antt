@@ -1,5 +1,5 @@
 -- The cells of a character, and how many characters go into a number of cells, over any width function w. From `wrap.rs`.
--- Cited by the contracts of `src/cells.rt`. Definitions only; the laws are in `proofs/Fits.antt`. Assumes nothing.
+-- Cited by the contracts of `src/lib.rt`. Definitions only; the laws are in `proofs/Fits.antt`. Assumes nothing.
 use Prim.Native.Nat.{ℕ, suc, _-_, max}
 use mathlib.Core.List.{List, [], _∷_}
 use mathlib.Core.Bool.{cond}

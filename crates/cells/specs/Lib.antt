@@ -1,4 +1,3 @@
 pub mod Cells
 pub mod Offsets
-pub mod Calls
 pub mod Lent

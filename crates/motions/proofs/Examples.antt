@@ -4,13 +4,14 @@ use mathlib.Core.Path.{_≡_, refl}
 use mathlib.Core.List.{List, [], _∷_}
 use Prim.Native.Nat.{ℕ}
 use Rattle.chars.specs.Scalar.{any}
-use Rattle.text.specs.Text.{textRefusal, onFirst, rows}
+use Rattle.accept.specs.Accept.{textRefusal}
+use Rattle.text.specs.Text.{onFirst, rows}
 use Rattle.text.specs.Offsets.{startIn}
 use Rattle.margins.specs.Margins.{indentOf}
 use Rattle.lines.specs.Paragraphs.{roundFrom, paragraphs}
 use Rattle.positions.specs.Positions.{positionRefusal, lowest}
 use Rattle.motions.specs.declared.Caret.{Caret}
-use Rattle.motions.specs.declared.Sticky.the-variants.{Absent}
+use Rattle.vertical.specs.declared.Sticky.the-variants.{Absent}
 use Rattle.motions.specs.declared.Moved.the-variants.{To, Refused}
 use Rattle.motions.specs.Carets.{moving}
 use Rattle.motions.specs.Lines.{moveFirstNonBlankLine}

@@ -3,7 +3,8 @@ use mathlib.Core.Path.{_≡_}
 use mathlib.Core.List.{List, [], _∷_}
 use mathlib.Core.Bool.{Bool}
 use Prim.Native.Nat.{ℕ}
-use Rattle.text.specs.Text.{textRefusal, rowCount}
+use Rattle.accept.specs.Accept.{textRefusal}
+use Rattle.text.specs.Text.{rowCount}
 use Rattle.folds.specs.Folds.{foldRefusal}
 use Rattle.wrap.specs.declared.Wrap.{Wrap}
 use Rattle.visible.specs.Visible.{deltaOf}
@@ -11,11 +12,12 @@ use Rattle.vertical.proofs.Inside.{rows-inside}
 use Rattle.vertical.proofs.Edges.{viewport-within}
 use Rattle.vertical.specs.declared.Edge.{Edge}
 use Rattle.screen.proofs.Inside.{move-inside}
-use Rattle.positions.proofs.Checks.{lowest-none, inside-at}
+use Rattle.positions.proofs.Lowest.{lowest-none}
+use Rattle.positions.proofs.Checks.{inside-at}
 use Rattle.jumps.proofs.Staying.{row-in}
 use Rattle.motions.specs.declared.Caret.{Caret}
 use Rattle.motions.specs.Carets.{here, caretRefusal, refusalOf, Inside}
-use Rattle.motions.specs.UpDown.{stopRefusal, verticalRefusal, aimOf, moveRows, moveScreenRows}
+use Rattle.motions.specs.UpDown.{stopRefusal, verticalRefusal, moveRows, moveScreenRows}
 use Rattle.motions.specs.ViewportMoves.{moveViewport}
 use Rattle.motions.proofs.Landing.{Lands, moving-lands}
 
@@ -29,14 +31,14 @@ module _ (t folds : List ℕ) (tabstop : ℕ) (k : Caret) where
   rows-lands down count =
       moving-lands t (verticalRefusal t folds tabstop k) _ (λ z.
       let i = own z in
-      let r = rows-inside t folds tabstop (k .row) (k .col) (aimOf (k .sticky)) (deltaOf down count) (record { in-row = i .in-row; in-col = i .in-col }) in
+      let r = rows-inside t folds tabstop (k .row) (k .col) (k .sticky) (deltaOf down count) (record { in-row = i .in-row; in-col = i .in-col }) in
       record { in-row = r .in-row; in-col = r .in-col })
 
   pub screen-lands : (mode : Wrap) (width : ℕ) (down : Bool) (count : ℕ) → Lands t (moveScreenRows t folds tabstop mode width down count k)
   screen-lands mode width down count =
       moving-lands t (verticalRefusal t folds tabstop k) _ (λ z.
       let i = own z in
-      let r = move-inside t folds tabstop (k .row) (k .col) (aimOf (k .sticky)) mode width down count
+      let r = move-inside t folds tabstop (k .row) (k .col) (k .sticky) mode width down count
       (record { in-row = i .in-row; in-col = i .in-col }) in
       record { in-row = r .in-row; in-col = r .in-col })
 

@@ -4,11 +4,13 @@ use mathlib.Core.Path.{_≡_, ap, sym, _∙_}
 use mathlib.Core.List.{List, [], _∷_}
 use Prim.Native.Nat.{ℕ}
 use borrow.Author.Tests.{eq-eqb, ne-eqb}
-use Rattle.text.specs.Text.{textRefusal, rowCount}
+use Rattle.accept.specs.Accept.{textRefusal}
+use Rattle.text.specs.Text.{rowCount}
 use Rattle.folds.specs.Folds.{foldRefusal}
 use Rattle.positions.specs.declared.Entry.{Entry}
 use Rattle.positions.specs.Positions.{lowest, entryFolds}
-use Rattle.positions.proofs.Checks.{lowest-kept, lowest-last, folds-number}
+use Rattle.positions.proofs.Lowest.{lowest-kept, lowest-last}
+use Rattle.positions.proofs.Checks.{folds-number}
 use Rattle.motions.specs.declared.Caret.{Caret}
 use Rattle.motions.specs.declared.Moved.the-variants.{To, Refused}
 use Rattle.motions.specs.Carets.{here, caretRefusal, moving}

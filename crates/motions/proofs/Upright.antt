@@ -7,7 +7,8 @@ use native.Mathlib.Omega.{arith}
 use borrow.Author.Tests.{lt-ltb, le-ltb}
 use Rattle.text.proofs.Parts.{count-le, row-fits}
 use Rattle.wrap.specs.declared.Wrap.{Wrap}
-use Rattle.vertical.specs.declared.Sticky.{Sticky as Aim}
+use Rattle.vertical.specs.declared.Sticky.{Sticky}
+use Rattle.vertical.specs.declared.Sticky.the-variants.{At}
 use Rattle.vertical.specs.declared.Target.{Target}
 use Rattle.vertical.proofs.Inside.{Inside}
 use Rattle.screen.specs.Screen.{moveScreen}
@@ -16,7 +17,6 @@ use Rattle.positions.specs.declared.Entry.{Entry}
 use Rattle.positions.specs.Positions.{entryFolds}
 use Rattle.positions.proofs.Checks.{folds-clear, folds-good, folds-entered}
 use Rattle.motions.specs.declared.Caret.{Caret}
-use Rattle.motions.specs.declared.Sticky.the-variants.{At}
 use Rattle.motions.specs.Carets.{here, placed}
 use Rattle.motions.specs.UpDown.{stopRefusal, atTarget, Ready}
 
@@ -41,7 +41,7 @@ upright-ready t folds tabstop k e is z h =
 
 -- the target is in the text, so that its numbers fit a u32
 pub target-fits : {t folds : List ℕ} {tabstop start : ℕ} (k : Caret) → Ready t folds tabstop k start →
-    (mode : Wrap) (width : ℕ) (down : Bool) (count : ℕ) (s : Aim) (p : Target) →
+    (mode : Wrap) (width : ℕ) (down : Bool) (count : ℕ) (s : Sticky) (p : Target) →
     p ≡ moveScreen t folds tabstop mode width down count (k .row) (k .col) s → (p .row < 2 ^ 32) × (p .col < 2 ^ 32)
 target-fits {t} {folds} {tabstop} {start} k h mode width down count s p e =
     let own : Inside t (k .row) (k .col) = record { in-row = h .here .in-row; in-col = omega (arith, h .here .in-col) } in

@@ -4,7 +4,8 @@ use mathlib.Core.List.{List, [], _∷_}
 use mathlib.Core.Bool.{Bool}
 use Prim.Native.Nat.{ℕ}
 use borrow.Author.Tests.{eq-eqb}
-use Rattle.text.specs.Text.{textRefusal, rowCount}
+use Rattle.accept.specs.Accept.{textRefusal}
+use Rattle.text.specs.Text.{rowCount}
 use Rattle.folds.specs.Folds.{foldRefusal}
 use Rattle.tokens.specs.Tokens.{inList}
 use Rattle.keywords.specs.Table.{parseOf}
@@ -14,7 +15,8 @@ use Rattle.turns.specs.declared.Motion.{Motion}
 use Rattle.turns.specs.Rounds.{wordMotion}
 use Rattle.turns.proofs.Inside.{word-motion-in}
 use Rattle.positions.specs.Positions.{lowest}
-use Rattle.positions.proofs.Checks.{lowest-none, inside}
+use Rattle.positions.proofs.Lowest.{lowest-none}
+use Rattle.positions.proofs.Checks.{inside}
 use Rattle.motions.specs.declared.Caret.{Caret}
 use Rattle.motions.specs.Carets.{here, caretRefusal, Inside}
 use Rattle.motions.specs.WordMoves.{wordRefusal, wordCaret, moveWord}

@@ -4,11 +4,11 @@ use Prim.Native.Nat.{ℕ}
 use mathlib.Core.List.{List, [], _∷_}
 use mathlib.Core.Bool.{Bool, cond}
 use lib.Dec.{ltb}
-use Rattle.text.specs.Text.{textRefusal, rowCount}
+use Rattle.accept.specs.Accept.{textRefusal}
+use Rattle.text.specs.Text.{rowCount}
 use Rattle.folds.specs.Folds.{foldRefusal}
 use Rattle.wrap.specs.declared.Wrap.{Wrap}
-use Rattle.vertical.specs.declared.Sticky.{Sticky as Aim}
-use Rattle.vertical.specs.declared.Sticky.the-variants as aim
+use Rattle.vertical.specs.declared.Sticky.the-variants.{At}
 use Rattle.vertical.specs.declared.Target.{Target}
 use Rattle.visible.specs.Visible.{deltaOf}
 use Rattle.vertical.specs.Moves.{moveVertical}
@@ -17,8 +17,6 @@ use Rattle.screen.specs.Screen.{moveScreen}
 use Rattle.positions.specs.Positions.{lowest}
 use Rattle.motions.specs.declared.Caret.{Caret}
 use Rattle.motions.specs.declared.Moved.{Moved}
-use Rattle.motions.specs.declared.Sticky.{Sticky}
-use Rattle.motions.specs.declared.Sticky.the-variants.{Absent, At}
 use Rattle.motions.specs.Carets.{caretRefusal, moving}
 
 -- 6: a tabstop above 1,000
@@ -29,11 +27,6 @@ stopRefusal tabstop = cond (ltb 1000 tabstop) 6 0
 abbrev pub verticalRefusal : List ℕ → List ℕ → ℕ → Caret → ℕ
 verticalRefusal t folds tabstop k = lowest (textRefusal t ∷ caretRefusal t k ∷ foldRefusal folds (rowCount t) ∷ stopRefusal tabstop ∷ [])
 
--- a sticky column, as the walks take it
-abbrev pub aimOf : Sticky → Aim
-aimOf Absent = aim.Absent
-aimOf (At col) = aim.At col
-
 -- the caret where a walk has ended: what it aimed for is the sticky column
 abbrev pub atTarget : Target → Caret
 atTarget p = record { row = p .row; col = p .col; sticky = At (p .want) }
@@ -41,11 +34,11 @@ atTarget p = record { row = p .row; col = p .col; sticky = At (p .want) }
 -- `j` and `k`
 abbrev pub moveRows : List ℕ → List ℕ → ℕ → Bool → ℕ → Caret → Moved
 moveRows t folds tabstop down count k =
-    moving (verticalRefusal t folds tabstop k) (atTarget (moveVertical t folds tabstop (deltaOf down count) (k .row) (k .col) (aimOf (k .sticky))))
+    moving (verticalRefusal t folds tabstop k) (atTarget (moveVertical t folds tabstop (deltaOf down count) (k .row) (k .col) (k .sticky)))
 
 -- `gj` and `gk`
 abbrev pub screenCaret : List ℕ → List ℕ → ℕ → Wrap → ℕ → Bool → ℕ → Caret → Caret
-screenCaret t folds tabstop mode width down count k = atTarget (moveScreen t folds tabstop mode width down count (k .row) (k .col) (aimOf (k .sticky)))
+screenCaret t folds tabstop mode width down count k = atTarget (moveScreen t folds tabstop mode width down count (k .row) (k .col) (k .sticky))
 
 abbrev pub moveScreenRows : List ℕ → List ℕ → ℕ → Wrap → ℕ → Bool → ℕ → Caret → Moved
 moveScreenRows t folds tabstop mode width down count k = moving (verticalRefusal t folds tabstop k) (screenCaret t folds tabstop mode width down count k)

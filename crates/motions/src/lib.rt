@@ -4,6 +4,7 @@
 // where a call is refused.
 use positions::Entry;
 use positions::Position;
+use vertical::Sticky;
 ghost use mathlib.Core.Path.{_≡_};
 ghost use Prim.Native.Nat.{_<_, _^_};
 ghost use Rattle.positions.specs.Positions.{entryFolds};
@@ -15,12 +16,6 @@ mod up_down;
 mod viewport_moves;
 mod within;
 mod word_moves;
-
-// The column that vertical motions aim for, where one is kept.
-pub enum Sticky {
-    Absent,
-    At(u32),
-}
 
 // A row, a column in it, which may be the row's character count, and the sticky column.
 pub struct Caret {

@@ -2,22 +2,12 @@
 // `j` and `k` are the screen moves of a viewport that doesn't wrap.
 use crate::Caret;
 use crate::Moved;
-use crate::Sticky;
 use text::Line;
+use vertical::Sticky;
 use wrap::Wrap;
 ghost use mathlib.Core.Path.{_≡_};
 ghost use mathlib.Core.Bool.{true, false};
-ghost use Rattle.motions.specs.UpDown.{aimOf, moveRows, moveScreenRows};
-
-// A sticky column, as the walks take it.
-fn aim_of(s: Sticky) -> vertical::Sticky
-    ensures { λ r. ⌜ r ≡ aimOf s ⌝ }
-{
-    match s {
-        Sticky::Absent => vertical::Sticky::Absent,
-        Sticky::At(col) => vertical::Sticky::At(col),
-    }
-}
+ghost use Rattle.motions.specs.UpDown.{moveRows, moveScreenRows};
 
 impl Caret {
     // The checks of a vertical motion, 1 to 6, and the motion.
@@ -46,13 +36,12 @@ impl Caret {
             start: e.start,
         };
         let s = self.sticky;
-        let a = aim_of(s);
         let p = screen::wrapped::move_screen(
             t,
             folds,
             l,
             self.col as usize,
-            a,
+            s,
             down,
             count,
             tabstop,

@@ -8,7 +8,8 @@ use native.Mathlib.Decide.{decLt, ℕ-discrete}
 use native.Mathlib.Omega.{arith}
 use lib.Dec.{ltb}
 use borrow.Author.Tests.{eq-eqb}
-use Rattle.text.specs.Text.{textRefusal, rowCount, rowLen}
+use Rattle.accept.specs.Accept.{textRefusal}
+use Rattle.text.specs.Text.{rowCount, rowLen}
 use Rattle.text.specs.Offsets.{rowStart}
 use Rattle.scans.specs.declared.Found.{Found}
 use Rattle.scans.specs.declared.Found.the-variants.{At, Nothing}

@@ -4,7 +4,7 @@ use mathlib.Core.Path.{_≡_, refl, sym, _∙_, ap, subst}
 use mathlib.Core.List.{List}
 use Prim.Native.Nat.{ℕ, _<_}
 use lib.ListN.{getD}
-use Rattle.text.specs.Text.{textRefusal}
+use Rattle.accept.specs.Accept.{textRefusal}
 use Rattle.signs.specs.declared.Kind.{Kind}
 use Rattle.partners.specs.declared.Pos.{Pos}
 use Rattle.scans.specs.declared.Found.{Found}

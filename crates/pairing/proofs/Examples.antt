@@ -5,7 +5,8 @@ use mathlib.Core.Bool.{true, false}
 use mathlib.Core.List.{List, [], _∷_}
 use Prim.Native.Nat.{ℕ}
 use Rattle.chars.specs.Scalar.{any}
-use Rattle.text.specs.Text.{textRefusal, onFirst, rows}
+use Rattle.accept.specs.Accept.{textRefusal}
+use Rattle.text.specs.Text.{onFirst, rows}
 use Rattle.text.specs.Offsets.{startIn, rowOf}
 use Rattle.scans.specs.declared.Found.the-variants.{At}
 use Rattle.partners.specs.declared.Partner.the-variants.{There, None}

@@ -5,7 +5,8 @@ use mathlib.Core.Logic.{_⊎_}
 use mathlib.Core.List.{List}
 use Prim.Native.Nat.{ℕ, _+_, _<_}
 use lib.ListN.{getD}
-use Rattle.text.specs.Text.{textRefusal, rowAt}
+use Rattle.accept.specs.Accept.{textRefusal}
+use Rattle.text.specs.Text.{rowAt}
 use Rattle.text.specs.Offsets.{rowStart}
 use Rattle.signs.specs.declared.Kind.{Kind}
 use Rattle.partners.specs.declared.Pos.{Pos}

@@ -19,7 +19,7 @@ pub struct Entry {
 pub fn enter(t: &[u32], p: Position) -> Entry
     ensures { λ r. ⌜ r ≡ entryOf (now (t .entry)) p ⌝ }
 {
-    let f = text::text_refusal(t);
+    let f = accept::text_refusal(t);
     if f != 0 {
         return Entry {
             refusal: f,

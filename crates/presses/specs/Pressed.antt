@@ -7,7 +7,7 @@ use Rattle.print.specs.Print.{bytes}
 use Rattle.turns.specs.declared.Motion.{Motion}
 use Rattle.turns.specs.declared.Motion.the-variants.{Fwd, Back, End, EndBack}
 use Rattle.motions.specs.declared.Caret.{Caret}
-use Rattle.motions.specs.declared.Sticky.the-variants.{Absent}
+use Rattle.vertical.specs.declared.Sticky.the-variants.{Absent}
 use Rattle.motions.specs.declared.Moved.{Moved}
 use Rattle.motions.specs.declared.Moved.the-variants.{To, Refused}
 use Rattle.motions.specs.declared.Sought.{Sought}

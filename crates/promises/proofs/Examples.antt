@@ -16,7 +16,8 @@ use Rattle.wrap.specs.Calls.{wrapRefusal}
 use Rattle.cells.specs.Offsets.{cellsIn, pairsBefore}
 use Rattle.wrap.specs.Room.{countOf, roomRefusal}
 use Rattle.chars.specs.Scalar.{any}
-use Rattle.text.specs.Text.{textRefusal, onFirst, rows}
+use Rattle.accept.specs.Accept.{textRefusal}
+use Rattle.text.specs.Text.{onFirst, rows}
 use Rattle.text.specs.Offsets.{startIn, rowOf}
 use Rattle.folds.specs.Folds.{anyFold, foldRefusal, visibleFrom, prevVisible}
 use Rattle.parts.specs.Numbers.{allDigits, value}

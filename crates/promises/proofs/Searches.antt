@@ -7,7 +7,8 @@ use native.Mathlib.Omega.{arith}
 use lib.Dec.{eqb}
 use borrow.Author.Tests.{eqb-true}
 use Rattle.chars.specs.Scalar.{isScalar}
-use Rattle.text.specs.Text.{textRefusal, rowAt, rowLen}
+use Rattle.accept.specs.Accept.{textRefusal}
+use Rattle.text.specs.Text.{rowAt, rowLen}
 use Rattle.scans.specs.declared.Found.{Found as Spotted}
 use Rattle.scans.specs.declared.Found.the-variants.{At, Nothing}
 use Rattle.partners.specs.declared.Pos.{Pos}
@@ -20,7 +21,8 @@ use Rattle.pairing.proofs.Demand.{refuses, unique}
 use Rattle.pairing.proofs.Jump.{key}
 use Rattle.scans.proofs.Finds.{find-within}
 use Rattle.positions.specs.Positions.{refusalWith}
-use Rattle.positions.proofs.Checks.{inside, lowest-none, sought-none}
+use Rattle.positions.proofs.Lowest.{lowest-none}
+use Rattle.positions.proofs.Checks.{inside, sought-none}
 use Rattle.motions.specs.declared.Caret.{Caret}
 use Rattle.motions.specs.declared.Moved.the-variants.{To}
 use Rattle.motions.specs.declared.Sought.{Sought}

@@ -5,13 +5,13 @@ use lib.ListN.{length}
 use mathlib.Core.List.{List}
 use mathlib.Core.Bool.{cond}
 use lib.Dec.{eqb, leb}
-use Rattle.cells.specs.declared.Segment.{Segment}
-use Rattle.cells.specs.declared.Segment.the-variants.{At, Refused as Segment·Refused}
+use Rattle.slots.specs.declared.Segment.{Segment}
+use Rattle.slots.specs.declared.Segment.the-variants.{At, Refused as Segment·Refused}
 use Rattle.wrap.specs.declared.Segments.{Segments}
 use Rattle.wrap.specs.declared.Segments.the-variants.{Count, Refused as Segments·Refused}
 use Rattle.wrap.specs.declared.Wrap.{Wrap}
 use Rattle.wrap.specs.declared.Wrap.the-variants.{None, Char, Word}
-use Rattle.cells.specs.Calls.{charColForVisualOffset, visualOffsetForCharCol, segmentForCol}
+use Rattle.slots.specs.Calls.{charColForVisualOffset, visualOffsetForCharCol, segmentForCol}
 use Rattle.wrap.specs.Calls.{wrapRefusal}
 use Rattle.wrap.specs.Modes.{segmentsOf}
 use Rattle.wrap.specs.Room.{countOf, filled}

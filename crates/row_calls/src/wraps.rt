@@ -1,8 +1,8 @@
 // Segments of one row.
 use crate::tabs::told_column;
-use cells::Segment;
 use lent::Told;
 use lent::reply;
+use slots::Segment;
 use wrap::Segments;
 use wrap::Wrap;
 ghost use mathlib.Core.Path.{_≡_};
@@ -40,8 +40,8 @@ fn offset_by(op: u32, row: &[u32], start: u32, end: u32, at: u32) -> Told
     ensures { λ r. ⌜ r ≡ offset op start end at (now (row .entry)) ⌝ }
 {
     match op {
-        0 => told_column(cells::char_col_for_visual_offset(row, start, end, at)),
-        1 => told_column(cells::visual_offset_for_char_col(row, start, at)),
+        0 => told_column(slots::char_col_for_visual_offset(row, start, end, at)),
+        1 => told_column(slots::visual_offset_for_char_col(row, start, at)),
         _ => Told::Refused(100),
     }
 }
@@ -59,7 +59,7 @@ pub fn segment_for_col(segments: &[u32], col: u32, out: &mut [u32; 1]) -> u32
     ensures { λ r. ⌜ Replied (segmentOf col (now (segments .entry))) (now (out .entry)) r
         (now (out .exit)) ⌝ }
 {
-    reply(told_segment(cells::segment_for_col(segments, col)), out)
+    reply(told_segment(slots::segment_for_col(segments, col)), out)
 }
 
 // `wrap_segments` by the number of a mode: 0 None, 1 Char, 2 Word; 100 for another.

@@ -35,7 +35,7 @@ fn jump_to(t: &[u32], l: Line, col: usize, row: usize) -> Jump
             col: col,
         };
     }
-    let m = crate::walks::line_toward(t, l, row);
+    let m = text::offsets::line_to(t, from, l.start, row);
     let n = text::offsets::row_len(t, m);
     Jump {
         row: m.row,

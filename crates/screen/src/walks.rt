@@ -13,22 +13,10 @@ ghost use Prim.Native.Nat.{_≤_, _<_};
 ghost use lib.ListN.{length};
 ghost use Rattle.cuts.specs.Lent.{Tables};
 ghost use Rattle.segments.specs.Parts.{layOf};
-ghost use Rattle.text.specs.Text.{rowCount};
-ghost use Rattle.text.specs.Offsets.{IsLine, lineAt};
+ghost use Rattle.text.specs.Offsets.{IsLine};
 ghost use Rattle.visible.specs.Rounds.{rounds};
 ghost use Rattle.screen.specs.Screen.{stepScreen, screenFrom};
 ghost use Rattle.screen.specs.Walks.{placeAt, seatAt, Ready, IsSpot, Leads};
-
-// Another row of the text, from a row with its start: only what lies between them is walked.
-pub fn line_toward(t: &[u32], from: Line, row: usize) -> Line
-    requires { ⌜ IsLine (now t) from × (row < rowCount (now t)) ⌝ }
-    ensures { λ r. ⌜ r ≡ lineAt (now (t .entry)) row ⌝ }
-{
-    if row < from.row {
-        return text::offsets::up(t, from.row, from.start, from.row - row);
-    }
-    text::offsets::down(t, from, row - from.row)
-}
 
 // So many rounds from a spot: segments of its row, and then from row to visible row.
 fn walk(
@@ -60,11 +48,7 @@ fn walk(
         let seen = hop.next;
         match seen {
             Visible::Row(x) => {
-                let here = Line {
-                    row: row,
-                    start: start,
-                };
-                let next = line_toward(t, here, x);
+                let next = text::offsets::line_to(t, row, start, x);
                 let line = text::offsets::row(t, next);
                 left = left - ahead - 1;
                 free = hop.free;

@@ -4,7 +4,8 @@ use mathlib.Core.Path.{_≡_, refl}
 use mathlib.Core.List.{List, [], _∷_}
 use Prim.Native.Nat.{ℕ}
 use Rattle.chars.specs.Scalar.{any}
-use Rattle.text.specs.Text.{textRefusal, onFirst, rows, contentRowCount}
+use Rattle.accept.specs.Accept.{textRefusal}
+use Rattle.text.specs.Text.{onFirst, rows, contentRowCount}
 use Rattle.text.specs.Offsets.{startIn, rowStart}
 use Rattle.text.specs.declared.Counted.the-variants.{Rows, Refused}
 

@@ -1,5 +1,4 @@
 -- Laws of texts, which the proofs of this crate and of the crates above it cite.
-pub mod Check
 pub mod Rows
 pub mod Parts
 pub mod At

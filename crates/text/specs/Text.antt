@@ -1,21 +1,13 @@
--- What a text is: its check, its rows, and where they stand in it. A text is a list of code points.
--- From document 01, "Text, rows, carets" and "Refusal numbers". Definitions only; the laws are in `proofs/`. Assumes nothing.
+-- What a text is: its rows, and those with content. A text is a list of code points.
+-- From document 01, "Text, rows, carets". Definitions only; the laws are in `proofs/`. Assumes nothing.
 use Prim.Native.Nat.{ℕ, _-_}
 use mathlib.Core.List.{List, [], _∷_}
-use mathlib.Core.Bool.{Bool, true, false, cond, _&&_, _||_, not}
+use mathlib.Core.Bool.{cond, _&&_}
 use lib.ListN.{length, getD}
-use lib.Dec.{eqb, ltb, leb}
-use Rattle.chars.specs.Scalar.{any, notScalar}
+use lib.Dec.{eqb, ltb}
+use Rattle.accept.specs.Accept.{textRefusal}
 use Rattle.text.specs.declared.Counted.{Counted}
 use Rattle.text.specs.declared.Counted.the-variants.{Rows, Refused}
-
--- the line breaks that a text may not hold: U+000B to U+000D, U+0085, U+2028 and U+2029
-abbrev pub isBreak : ℕ → Bool
-isBreak x = (leb 0xb x && leb x 0xd) || (eqb x 0x85 || (eqb x 0x2028 || eqb x 0x2029))
-
--- the number that a text is refused with, 0 where it is accepted
-unfoldable pub textRefusal : List ℕ → ℕ
-textRefusal t = cond (ltb 1048576 (length t)) 1 (cond (any notScalar t) 2 (cond (any isBreak t) 3 0))
 
 -- x in front of the first of the rows
 unfoldable pub onFirst : ℕ → List (List ℕ) → List (List ℕ)

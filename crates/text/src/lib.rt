@@ -1,9 +1,8 @@
-// What a text is: its check, its rows, and the rows with content.
-// From document 01, "Text, rows, carets" and "Refusal numbers", and `content_row_count` of
-// motions.rs.
+// What a text is: its rows, and the rows with content. From document 01, "Text, rows, carets", and
+// `content_row_count` of motions.rs.
 ghost use mathlib.Core.Path.{_≡_};
 ghost use Prim.Native.Nat.{_-_, _<_, min, max};
-ghost use Rattle.text.specs.Text.{textRefusal, rowCount, contentRows, contentRowCount};
+ghost use Rattle.text.specs.Text.{rowCount, contentRows, contentRowCount};
 
 pub mod offsets;
 
@@ -17,37 +16,6 @@ pub struct Line {
 pub enum Counted {
     Rows(u32),
     Refused(u32),
-}
-
-// The number that a text is refused with: 1 over 1,048,576 code points, 2 a value that is no scalar
-// value, 3 a line break other than U+000A; 0 where it is accepted.
-// One pass with no branch on what is read, so that the compiler reads many code points at a time.
-// Line breaks have two flags: with one the compiler takes the last code point out of the loop, as a
-// switch, and then reads them one by one.
-pub fn text_refusal(t: &[u32]) -> u32
-    ensures { λ r. ⌜ r ≡ textRefusal (now (t .entry)) ⌝ }
-{
-    if t.len() > 1048576 {
-        return 1;
-    }
-    let mut wrong = false;
-    let mut feed = false;
-    let mut separator = false;
-    let mut i: usize = 0;
-    while i < t.len() {
-        let x = t[i];
-        wrong = wrong | !((x <= 0x10ffff) & ((x < 0xd800) | (x > 0xdfff)));
-        feed = feed | ((x >= 0xb) & (x <= 0xd));
-        separator = separator | ((x == 0x85) | ((x == 0x2028) | (x == 0x2029)));
-        i += 1;
-    }
-    if wrong {
-        return 2;
-    }
-    if feed | separator {
-        return 3;
-    }
-    0
 }
 
 // How many rows a text has: one more than its separators.
@@ -84,7 +52,7 @@ pub fn content_rows(t: &[u32]) -> usize
 pub fn content_row_count(t: &[u32]) -> Counted
     ensures { λ r. ⌜ r ≡ contentRowCount (now (t .entry)) ⌝ }
 {
-    let f = text_refusal(t);
+    let f = accept::text_refusal(t);
     if f != 0 {
         return Counted::Refused(f);
     }

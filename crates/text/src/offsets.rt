@@ -73,6 +73,19 @@ pub fn up(t: &[u32], row: usize, at: usize, n: usize) -> Line
     Line { row: 0, start: 0 }
 }
 
+// Row `to` of the text, sought from row `row`, which has the offset `at`: only what lies between them
+// is walked.
+pub fn line_to(t: &[u32], row: usize, at: usize, to: usize) -> Line
+    requires { ⌜ Stands (now t) row (rowStart (now t) row) at × (to < rowCount (now t)) ⌝ }
+    ensures { λ r. ⌜ r ≡ lineAt (now (t .entry)) to ⌝ }
+{
+    if to <= row {
+        return up(t, row, at, row - to);
+    }
+    let here = up(t, row, at, 0);
+    down(t, here, to - row)
+}
+
 // Row `row` of the text, or the last row with content where there are fewer of those.
 pub fn content_line(t: &[u32], row: usize) -> Line
     ensures { λ r. ⌜ r ≡ lineAt (now (t .entry)) (min row (contentRows (now (t .entry)) - 1)) ⌝ }

@@ -4,8 +4,8 @@ use mathlib.Core.List.{[], _∷_}
 use mathlib.Core.Bool.{cond}
 use lib.Dec.{eqb}
 use Rattle.motions.specs.declared.Caret.{Caret}
-use Rattle.motions.specs.declared.Sticky.{Sticky}
-use Rattle.motions.specs.declared.Sticky.the-variants.{Absent, At}
+use Rattle.vertical.specs.declared.Sticky.{Sticky}
+use Rattle.vertical.specs.declared.Sticky.the-variants.{Absent, At}
 use Rattle.motions.specs.declared.Moved.{Moved}
 use Rattle.motions.specs.declared.Moved.the-variants.{To, Refused}
 use Rattle.lent.specs.Reply.{Reply, answer, refused}

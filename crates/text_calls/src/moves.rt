@@ -1,7 +1,7 @@
 // Motions of a text and a caret.
 use motions::Caret;
 use motions::Moved;
-use motions::Sticky;
+use vertical::Sticky;
 ghost use mathlib.Core.Path.{_≡_};
 ghost use Rattle.lent.specs.Reply.{Replied};
 ghost use Rattle.text_calls.specs.Carets.{stickyOf, caretOf, held, column, moved};

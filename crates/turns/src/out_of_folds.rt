@@ -1,28 +1,14 @@
 // Out of a closed fold: `fold_jump_fwd` and `fold_jump_back` of motions.rs.
 use folds::Span;
 use places::Spot;
-use text::Line;
 use text::offsets;
 ghost use mathlib.Core.Path.{_≡_};
 ghost use Prim.Native.Nat.{_+_, _-_, _<_};
 ghost use Rattle.text.specs.Text.{rowCount, rowLen};
-ghost use Rattle.text.specs.Offsets.{lineAt};
 ghost use Rattle.places.specs.Places.{place};
 ghost use Rattle.turns.specs.Rounds.{jumpFwd, jumpBack};
 ghost use Rattle.places.specs.Spots.{placeOf, IsSpot};
 ghost use Rattle.turns.specs.Turns.{Folded};
-
-// A row of the text, sought from a place of it.
-fn line_from(t: &[u32], p: Spot, row: usize) -> Line
-    requires { ⌜ IsSpot (now t) p × (row < rowCount (now t)) ⌝ }
-    ensures { λ r. ⌜ r ≡ lineAt (now (t .entry)) row ⌝ }
-{
-    if row <= p.row {
-        return offsets::up(t, p.row, p.at, p.row - row);
-    }
-    let here = offsets::up(t, p.row, p.at, 0);
-    offsets::down(t, here, row - p.row)
-}
 
 // The last character of a row, or its only place where it is empty.
 fn row_last(t: &[u32], p: Spot, row: usize) -> Spot
@@ -32,7 +18,7 @@ fn row_last(t: &[u32], p: Spot, row: usize) -> Spot
         place row (rowLen (now (t .entry)) row - 1)) ×
         IsSpot (now (t .entry)) r ⌝ }
 {
-    let l = line_from(t, p, row);
+    let l = offsets::line_to(t, p.row, p.at, row);
     let n = offsets::row_len(t, l);
     if n == 0 {
         return Spot {
@@ -51,7 +37,7 @@ fn row_first(t: &[u32], p: Spot, row: usize) -> Spot
     requires { ⌜ IsSpot (now t) p × (row < rowCount (now t)) ⌝ }
     ensures { λ r. ⌜ (placeOf (now (t .entry)) r ≡ place row 0) × IsSpot (now (t .entry)) r ⌝ }
 {
-    let l = line_from(t, p, row);
+    let l = offsets::line_to(t, p.row, p.at, row);
     Spot {
         row: row,
         at: l.start,

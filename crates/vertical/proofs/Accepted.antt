@@ -1,16 +1,16 @@
 -- A row of an accepted text is accepted. Assumes nothing.
 use mathlib.Core.Path.{_≡_, refl, ap, _∙_}
 use mathlib.Core.List.{List, [], _∷_}
-use mathlib.Core.Bool.{Bool, true, false, cond, _||_}
+use mathlib.Core.Bool.{Bool, true, false, _||_}
 use Prim.Native.Nat.{ℕ, zero, suc, _-_, _<_, min}
 use native.Mathlib.Omega.{arith}
-use lib.Dec.{ltb}
 use lib.ListN.{length, take, drop}
 use borrow.Author.Tests.{le-ltb, eq-eqb}
 use Rattle.row.specs.Row.{rowRefusal}
 use Rattle.tabstops.specs.Cells.{columnRefusal}
 use Rattle.chars.specs.Scalar.{any, notScalar}
-use Rattle.text.specs.Text.{isBreak, textRefusal, rowCount, rowAt, rowLen}
+use Rattle.accept.proofs.Accepted.{all-scalar}
+use Rattle.text.specs.Text.{rowCount, rowAt, rowLen}
 use Rattle.folds.proofs.Hiding.{or-right}
 use Rattle.text.proofs.Parts.{row-part, row-fits}
 use Rattle.text.specs.Offsets.{rowStart, lineAt}
@@ -32,15 +32,6 @@ any-take p (suc n) (x ∷ l) e = go (p x) (any p l) (any p (take n l)) e (any-ta
     go : (b c d : Bool) → (b || c) ≡ false → d ≡ false → (b || d) ≡ false
     go true c d h f = h
     go false c d h f = f
-
-all-scalar : (t : List ℕ) → textRefusal t ≡ 0 → any notScalar t ≡ false
-unfolding textRefusal
-all-scalar t e = go (ltb 1048576 (length t)) (any notScalar t) (any isBreak t) e
-  where
-    go : (a b d : Bool) → _≡_ {A = ℕ} (cond a 1 (cond b 2 (cond d 3 0))) 0 → b ≡ false
-    go true b d h = absurd (omega arith)
-    go false true d h = absurd (omega arith)
-    go false false d h = refl
 
 module _ {t : List ℕ} {row tabstop : ℕ} (a : AcceptedRow t row tabstop) where
   row-accepted : rowRefusal (rowAt t row) ≡ 0

@@ -8,7 +8,8 @@ use lib.IntN.{ℤ}
 use lib.ListN.{length}
 use Rattle.chars.specs.Width.{widthOf}
 use Rattle.columns.specs.Columns.{cursorCol, charCol}
-use Rattle.text.specs.Text.{textRefusal, rowCount, rowAt, rowLen}
+use Rattle.accept.specs.Accept.{textRefusal}
+use Rattle.text.specs.Text.{rowCount, rowAt, rowLen}
 use Rattle.text.specs.Offsets.{Stands, IsLine}
 use Rattle.folds.specs.Folds.{foldRefusal}
 use Rattle.text.specs.declared.Line.{Line}

@@ -4,9 +4,9 @@ use mathlib.Core.Path.{_≡_, sym, ap, _∙_}
 use native.Mathlib.Omega.{arith}
 use borrow.Author.Needs.{needs}
 use borrow.Author.Tests.{eq-eqb, ne-eqb}
-use Rattle.text.specs.Text.{textRefusal}
+use Rattle.accept.specs.Accept.{textRefusal}
 use Rattle.text.specs.declared.Counted.the-variants.{Rows}
-use Rattle.text.proofs.Check.{accepted-short}
+use Rattle.accept.proofs.Accepted.{accepted-short}
 use Rattle.text.proofs.Parts.{count-le}
 use Rattle.text.proofs.Content.{content-near}
 use Rattle.text.proofs.content_row_count.Statement.{statement}

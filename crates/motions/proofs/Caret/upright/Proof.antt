@@ -1,8 +1,7 @@
 -- `Caret::upright` meets its contract: the checks in the table's order, then the walk, whose target becomes a caret. Assumes nothing.
-use mathlib.Core.Path.{ap, refl, _∙_}
+use mathlib.Core.Path.{refl}
 use native.Mathlib.Omega.{arith}
 use borrow.Author.Needs.{needs}
-use Rattle.screen.specs.Screen.{moveScreen}
 use Rattle.motions.specs.UpDown.{stopRefusal}
 use Rattle.motions.proofs.Refusing.{refused-first, refused-last, refused-none}
 use Rattle.motions.proofs.Upright.{stop-refused, stop-fits, upright-ready, target-fits, target-caret}
@@ -25,7 +24,7 @@ returns-2 c =
 -- what the walk requires
 move-screen-requires : tie.Need-move-screen-requires
 move-screen-requires c κs =
-    let s = c .before .before .before in
+    let s = c .before .before in
     let n = s .before .before .before in
     let a = n .before .before .before .args in
     upright-ready (a .t .now) (a .folds .now) (a .tabstop) (a .self) _ (n .enter-folds .ensures) (s .before .if1 .left) (s .if2 .left)
@@ -33,25 +32,21 @@ move-screen-requires c κs =
 -- the target is in the text
 placed-requires : tie.Need-placed-requires
 placed-requires c κs =
-    let m = c .before .before in
-    let s = m .before .before in
+    let s = c .before .before .before in
     let n = s .before .before .before in
     let a = n .before .before .before .args in
     target-fits (a .self) (upright-ready (a .t .now) (a .folds .now) (a .tabstop) (a .self) _ (n .enter-folds .ensures) (s .before .if1 .left) (s .if2 .left))
-    (a .mode) (a .width) (a .down) (a .count) (m .aim-of .result) _ (c .move-screen .ensures)
+    (a .mode) (a .width) (a .down) (a .count) (a .self .sticky) _ (c .move-screen .ensures)
 
 returns-3 : tie.Need-returns-3
 returns-3 c =
     let p = c .before in
-    let m = p .before .before in
-    let s = m .before .before in
+    let s = p .before .before .before in
     let n = s .before .before .before in
     let a = n .before .before .before .args in
     refused-none (a .t .now) (a .folds .now) (a .self) (stopRefusal (a .tabstop)) _ (n .enter-folds .ensures) (s .before .if1 .left)
     (stop-fits (a .tabstop) (s .if2 .left)) _ _ refl
-    (target-caret (a .self) _ (p .move-screen .result) _ (c .placed .ensures)
-    (p .move-screen .ensures
-    ∙ ap (moveScreen (a .t .now) (a .folds .now) (a .tabstop) (a .mode) (a .width) (a .down) (a .count) (a .self .row) (a .self .col)) (m .aim-of .ensures)))
+    (target-caret (a .self) _ (p .move-screen .result) _ (c .placed .ensures) (p .move-screen .ensures))
 
 pub upright-spec : {M : Type 1} → statement M
 upright-spec =
@@ -61,7 +56,6 @@ upright-spec =
     returns
     returns-2
     (λ c. search needs)
-    (λ c κs. search needs)
     (λ c. search needs)
     move-screen-requires
     placed-requires

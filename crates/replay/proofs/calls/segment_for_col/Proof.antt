@@ -1,6 +1,6 @@
 -- `calls::segment_for_col` meets its contract: what the call answers and leaves is compared. Assumes nothing.
 use borrow.Author.Needs.{needs}
-use Rattle.cells.specs.Calls.{segmentForCol}
+use Rattle.slots.specs.Calls.{segmentForCol}
 use Rattle.row_calls.specs.Wraps.{toldSegment}
 use Rattle.replay.specs.Calls.{segmentForColOf}
 use Rattle.verdicts.proofs.Comparing.{replied-compared, places-count, told-sized}

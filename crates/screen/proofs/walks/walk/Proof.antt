@@ -6,7 +6,7 @@ use mathlib.Core.List.{List}
 use native.Mathlib.Omega.{arith}
 use borrow.Author.Needs.{needs}
 use Rattle.text.proofs.Parts.{count-le}
-use Rattle.text.proofs.Stands.{line-there}
+use Rattle.text.proofs.Stands.{line-there, stands-own}
 use Rattle.text.specs.declared.Line.{Line}
 use Rattle.visible.specs.Visible.{toward, Free}
 use Rattle.segments.specs.Parts.{segmentCount, layOf}
@@ -43,14 +43,14 @@ hop-requires c κs =
       l .loop .inv .1,
     )
 
-line-toward-requires : tie.Need-line-toward-requires Inv-loop μ-loop
-line-toward-requires c κs =
+line-to-requires : tie.Need-line-to-requires Inv-loop μ-loop
+line-to-requires c κs =
     let v = c .before .before .before in
     let l = v .before .before in
     let s = l .before .before .before .before .before .before .before in
     let a = s .args in
     let all = s .pre .0 .all-rows in (
-      l .loop .inv .0 .line,
+      stands-own (l .loop .inv .0 .line),
       omega (
         arith,
         all,
@@ -66,7 +66,7 @@ row-requires c κs =
     let s = l .before .before .before .before .before .before .before in
     let a = s .args in
     let all = s .pre .0 .all-rows in
-    line-there (a .t .now) (c .line-toward .result) _ (c .line-toward .ensures)
+    line-there (a .t .now) (c .line-to .result) _ (c .line-to .ensures)
     (omega (
       arith,
       all,
@@ -92,10 +92,10 @@ loop-again c =
     let is = k .before .before .seen .given .1 in
     let seen = sym (v .hop .ensures .found) ∙ is in
     let found = ap (λ (n : ℕ). toward (a .folds .now) n (a .down) (l .loop .row)) (sym all) ∙ seen in
-    let there : k .line-toward .result .row ≡ k .before .before .seen .given .0 .0 = ap (λ (x : Line). x .row) (k .line-toward .ensures) in (
-      walking-cross (l .loop .inv .0) _ (c .segment-count .result) (k .line-toward .result) (v .before .loop-test .taken) found
+    let there : k .line-to .result .row ≡ k .before .before .seen .given .0 .0 = ap (λ (x : Line). x .row) (k .line-to .ensures) in (
+      walking-cross (l .loop .inv .0) _ (c .segment-count .result) (k .line-to .result) (v .before .loop-test .taken) found
           (omega (arith, all, toward-within (a .folds .now) (a .rows) (a .down) (l .loop .row) _ (omega (arith, all, l .loop .inv .0 .line .in-row)) seen))
-          (k .line-toward .ensures) (c .segment-count .ensures .0 ∙ ap (λ (x : List ℕ). segmentCount (layOf (a .word) (a .width) x)) (r .row .ensures))
+          (k .line-to .ensures) (c .segment-count .ensures .0 ∙ ap (λ (x : List ℕ). segmentCount (layOf (a .word) (a .width) x)) (r .row .ensures))
           (c .segment-count .ensures .1),
       rw there (v .hop .ensures .onward _ is),
     )
@@ -119,5 +119,5 @@ returns-2 c =
 pub walk-spec : {M : Type 1} → statement M
 walk-spec =
     tie.close
-    (tie.spec Inv-loop μ-loop free-rows-requires loop-holds hop-requires (λ c. search needs) line-toward-requires row-requires (λ c. search needs)
+    (tie.spec Inv-loop μ-loop free-rows-requires loop-holds hop-requires (λ c. search needs) line-to-requires row-requires (λ c. search needs)
     (λ c. search needs) segment-count-requires (λ c. search needs) (λ c. search needs) loop-again (λ c. search needs) returns returns-2)

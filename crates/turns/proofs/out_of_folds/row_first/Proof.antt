@@ -8,7 +8,7 @@ use Rattle.turns.proofs.out_of_folds.row_first.Tie as tie
 returns : tie.Need-returns
 returns c =
     let s = c .before .before in
-    row-place s.args.t.now s.args.row (s .pre .1) (c .line-from .result) (c .line-from .ensures) 0 _ (omega arith) (omega arith)
+    row-place s.args.t.now s.args.row (s .pre .1) (c .line-to .result) (c .line-to .ensures) 0 _ (omega arith) (omega arith)
 
 pub row-first-spec : {M : Type 1} → statement M
 row-first-spec =

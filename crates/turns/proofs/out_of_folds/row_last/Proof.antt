@@ -11,14 +11,14 @@ use Rattle.turns.proofs.out_of_folds.row_last.Tie as tie
 row-len-requires : tie.Need-row-len-requires
 row-len-requires c κs =
     let s = c .before .before in
-    line-there s.args.t.now (c .line-from .result) s.args.row (c .line-from .ensures) (s .pre .1)
+    line-there s.args.t.now (c .line-to .result) s.args.row (c .line-to .ensures) (s .pre .1)
 
 returns : tie.Need-returns
 returns c =
     let s = c .before .before .before .before in
-    let n = line-length s.args.t.now s.args.row (s .pre .1) (c .before .before .line-from .result) (c .before .before .line-from .ensures)
+    let n = line-length s.args.t.now s.args.row (s .pre .1) (c .before .before .line-to .result) (c .before .before .line-to .ensures)
     (c .before .row-len .ensures) in
-    row-place s.args.t.now s.args.row (s .pre .1) (c .before .before .line-from .result) (c .before .before .line-from .ensures)
+    row-place s.args.t.now s.args.row (s .pre .1) (c .before .before .line-to .result) (c .before .before .line-to .ensures)
     (rowLen s.args.t.now s.args.row - 1) _ (omega arith)
     (omega (arith, n, c .if1 .taken))
 
@@ -26,15 +26,15 @@ add-t8 : tie.Need-add-t8
 add-t8 c =
     let b3 = c .before .before .before in
     let s = b3 .before .before in
-    let n = line-length s.args.t.now s.args.row (s .pre .1) (b3 .line-from .result) (b3 .line-from .ensures) (c .before .before .row-len .ensures) in
-    omega (arith, n, line-fits s.args.t.now s.args.row (s .pre .1) (b3 .line-from .result) (b3 .line-from .ensures))
+    let n = line-length s.args.t.now s.args.row (s .pre .1) (b3 .line-to .result) (b3 .line-to .ensures) (c .before .before .row-len .ensures) in
+    omega (arith, n, line-fits s.args.t.now s.args.row (s .pre .1) (b3 .line-to .result) (b3 .line-to .ensures))
 
 returns-2 : tie.Need-returns-2
 returns-2 c =
     let b3 = c .before .before .before in
     let s = b3 .before .before in
-    let n = line-length s.args.t.now s.args.row (s .pre .1) (b3 .line-from .result) (b3 .line-from .ensures) (c .before .before .row-len .ensures) in
-    row-place s.args.t.now s.args.row (s .pre .1) (b3 .line-from .result) (b3 .line-from .ensures) (rowLen s.args.t.now s.args.row - 1) _ (omega arith)
+    let n = line-length s.args.t.now s.args.row (s .pre .1) (b3 .line-to .result) (b3 .line-to .ensures) (c .before .before .row-len .ensures) in
+    row-place s.args.t.now s.args.row (s .pre .1) (b3 .line-to .result) (b3 .line-to .ensures) (rowLen s.args.t.now s.args.row - 1) _ (omega arith)
     (omega (arith, n))
 
 pub row-last-spec : {M : Type 1} → statement M

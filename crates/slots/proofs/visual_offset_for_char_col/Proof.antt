@@ -1,0 +1,33 @@
+-- `slots::visual_offset_for_char_col` meets its contract: a part of a row is no longer than the row. Assumes nothing.
+use borrow.Author.Needs.{needs}
+use mathlib.Core.Path.{refl, sym, ap, _∙_}
+use native.Mathlib.Omega.{arith}
+use Rattle.chars.specs.Width.{zeroWidths, doubleWidths, widthOf}
+use Rattle.row.proofs.Answers.{answer-refused, answer-at, accepted-brief}
+use Rattle.slots.proofs.Places.{part-most}
+use Rattle.cells.specs.Offsets.{cellsIn}
+use Rattle.slots.proofs.visual_offset_for_char_col.Statement.{statement}
+use Rattle.slots.proofs.visual_offset_for_char_col.Tie as tie
+
+returns : tie.Need-returns
+returns c = answer-refused _ (c .before .row-refusal .ensures) (c .if1 .taken)
+
+cells-in-requires : tie.Need-cells-in-requires
+unfolding zeroWidths doubleWidths
+cells-in-requires c κs =
+    let s = c .before .before in
+    let a = c .before .before .before .before .before .before .args in
+    let brief = accepted-brief (a .row .now) (sym (s .before .before .row-refusal .ensures) ∙ s .before .if1 .left) in
+    let most = part-most (a .row .now) (a .start) (a .col) .1 in
+    (record { none = refl; two = refl }, rw (s .part-of .ensures) (omega arith))
+
+returns-2 : tie.Need-returns-2
+returns-2 c =
+    let s = c .before .before .before in
+    answer-at (s .before .before .row-refusal .ensures) (s .before .if1 .left) (c .cells-in .ensures ∙ ap (cellsIn widthOf) (s .part-of .ensures))
+
+pub visual-offset-for-char-col-spec : {M : Type 1} → statement M
+visual-offset-for-char-col-spec =
+    tie.close
+    (tie.spec (λ c κs. search needs) returns (λ c κs. search needs) (λ c. search needs) (λ c. search needs)
+    cells-in-requires returns-2)
