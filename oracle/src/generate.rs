@@ -266,11 +266,12 @@ fn places(text: &[u32]) -> Vec<(u32, u32)> {
     rows.flat_map(|(row, line)| (0..=line.len()).map(move |col| (row as u32, col as u32))).collect()
 }
 
-/// No fold, every closed fold that hides a row, and every pair of them.
+/// No fold, every fold, open or closed, and every pair of closed ones that hide a row.
 fn fold_lists(rows: u32) -> Vec<Vec<u32>> {
-    let one: Vec<[u32; 3]> = (0..rows).flat_map(|a| (a + 1..rows).map(move |b| [a, b, 1])).collect();
-    let pairs = one.iter().flat_map(|a| one.iter().map(move |b| [*a, *b].concat()));
-    std::iter::once(vec![]).chain(one.iter().map(|f| f.to_vec())).chain(pairs).collect()
+    let every = (0..rows).flat_map(|a| (a..rows).flat_map(move |b| [[a, b, 0], [a, b, 1]]));
+    let hiding: Vec<[u32; 3]> = every.clone().filter(|&[a, b, closed]| a < b && closed == 1).collect();
+    let pairs = hiding.iter().flat_map(|a| hiding.iter().map(move |b| [*a, *b].concat()));
+    std::iter::once(vec![]).chain(every.map(|f| f.to_vec())).chain(pairs).collect()
 }
 
 /// Puts each value into each case.
