@@ -1,18 +1,17 @@
 -- Laws of command rows: where the next x stands, whether two lists are the same, and the value of digits. Assumes nothing.
 use mathlib.Core.Path.{_≡_, refl, ap, sym, _∙_}
 use mathlib.Core.List.{List, [], _∷_}
-use mathlib.Core.Bool.{Bool, true, false, cond, _&&_}
-use Prim.Native.Nat.{ℕ, suc, _+_, _*_, _-_, _^_, _≤_, _<_}
+use mathlib.Core.Bool.{Bool, true, false, _&&_}
+use Prim.Native.Nat.{ℕ, _+_, _*_, _-_, _^_, _≤_, _<_}
 use native.Mathlib.Numerals.{add-one}
 use native.Mathlib.Nat.{pow-suc, pow-le-pow-right}
 use native.Mathlib.Omega.{arith}
-use lib.Dec.{eqb, ltb, leb}
+use lib.Dec.{eqb}
 use lib.ListN.{length, getD, take, drop, drop-of-length-le, length-drop}
 use lib.Seq.{drop-cons, take-all}
 use borrow.Author.Tests.{eq-eqb, ne-eqb, eqb-true, lt-ltb, le-ltb, le-leb, lt-leb}
-use Rattle.commands.specs.declared.Count.{Count}
 use Rattle.commands.specs.declared.Count.the-variants.{Of, Malformed}
-use Rattle.commands.specs.Commands.{upTo, isSame, isDigit, digitsFrom, digitsOf, countIn, Same}
+use Rattle.commands.specs.Commands.{upTo, isSame, digitsFrom, digitsOf, countIn, Same}
 
 drop-on : (l : List ℕ) (i : ℕ) → i < length l → drop i l ≡ getD l i 0 ∷ drop (i + 1) l
 drop-on l i h = rw (add-one i) (drop-cons l i 0 h)

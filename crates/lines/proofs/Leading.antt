@@ -1,11 +1,10 @@
 -- Where the rounds of a paragraph motion lead from a row of the text is a row of the text.
 -- Assumes nothing.
-use mathlib.Core.Path.{_≡_, refl}
 use mathlib.Core.List.{List}
 use mathlib.Core.Bool.{Bool, true, false, cond, _&&_, _||_, not}
-use Prim.Native.Nat.{ℕ, zero, suc, _+_, _-_, _≤_, _<_}
+use Prim.Native.Nat.{ℕ, zero, suc, _+_, _<_}
 use native.Mathlib.Omega.{arith}
-use Rattle.text.specs.Text.{rowCount, contentRows}
+use Rattle.text.specs.Text.{rowCount}
 use Rattle.text.specs.Offsets.{lineAt}
 use Rattle.text.proofs.Rows.{rows-pos}
 use Rattle.text.proofs.Stands.{line-at}

@@ -2,18 +2,18 @@
 -- Assumes nothing.
 use mathlib.Core.Path.{_≡_, refl, ap, sym, _∙_}
 use mathlib.Core.List.{List}
-use mathlib.Core.Bool.{Bool, true, false, cond, _&&_, and-false}
+use mathlib.Core.Bool.{false, cond}
 use Prim.Native.Nat.{ℕ, zero, suc, _+_, _-_, _≤_, _<_, min}
 use native.Mathlib.Decide.{decLt}
 use native.Mathlib.Omega.{arith}
-use lib.Dec.{eqb, ltb}
+use lib.Dec.{eqb}
 use lib.ListN.{length, getD}
-use borrow.Author.Tests.{eq-eqb, ne-eqb, lt-ltb, le-ltb}
-use Rattle.text.specs.Text.{rowCount, rowAt, rowLen, contentRows}
-use Rattle.text.specs.Offsets.{rowStart, At, Stands, IsLine, lineAt}
+use borrow.Author.Tests.{ne-eqb, lt-ltb, le-ltb}
+use Rattle.text.specs.Text.{rowCount, rowLen, contentRows}
+use Rattle.text.specs.Offsets.{At, IsLine, lineAt}
 use Rattle.text.specs.declared.Line.{Line}
 use Rattle.text.proofs.At.{on-char, on-end, point-at}
-use Rattle.text.proofs.Stands.{stands-at, line-there}
+use Rattle.text.proofs.Stands.{line-there}
 use Rattle.text.proofs.Content.{content-near, content-yes, content-no}
 use Rattle.lines.specs.Sections.{begins, sectionUp, sectionDown}
 

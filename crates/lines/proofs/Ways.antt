@@ -1,11 +1,11 @@
 -- A signed row, one step on or back: it may come to stand at minus one. The calls that make the step hand each number on by its bits.
 -- Assumes nothing.
 use mathlib.Core.Path.{_≡_, refl, ap, sym, _∙_}
-use mathlib.Core.Bool.{Bool, true, false, cond, _||_}
-use Prim.Native.Nat.{ℕ, zero, suc, _+_, _-_, _≤_, _<_, _^_}
+use mathlib.Core.Bool.{Bool, true, false, _||_}
+use Prim.Native.Nat.{ℕ, _+_, _-_, _≤_, _<_}
 use native.Mathlib.Decide.{decLt}
 use native.Mathlib.Omega.{arith}
-use lib.Dec.{T, ltb}
+use lib.Dec.{T}
 use lib.IntN.{ℤ, pos, negsuc, _+ℤ_, natAbs}
 use lib.Signed.{ltZ, nonNeg}
 use borrow.Author.Tests.{lt-ltb, le-ltb}

@@ -1,7 +1,7 @@
 -- Worked examples of the definitions, as theorems: each holds by computation.
 -- From document 01, "Examples": P9, and `_` from the last empty row. Assumes nothing.
 use mathlib.Core.Path.{_≡_, refl}
-use mathlib.Core.List.{List, [], _∷_}
+use mathlib.Core.List.{[], _∷_}
 use Prim.Native.Nat.{ℕ}
 use Rattle.chars.specs.Scalar.{any}
 use Rattle.accept.specs.Accept.{textRefusal}

@@ -10,7 +10,7 @@ use Rattle.folds.specs.Folds.{foldRefusal}
 use Rattle.positions.specs.declared.Entry.{Entry}
 use Rattle.positions.specs.Positions.{lowest, entryFolds}
 use Rattle.positions.proofs.Lowest.{lowest-kept, lowest-last}
-use Rattle.positions.proofs.Checks.{folds-number}
+use Rattle.positions.proofs.Entered.{folds-number}
 use Rattle.motions.specs.declared.Caret.{Caret}
 use Rattle.motions.specs.declared.Moved.the-variants.{To, Refused}
 use Rattle.motions.specs.Carets.{here, caretRefusal, moving}

@@ -15,7 +15,7 @@ use Rattle.screen.specs.Screen.{moveScreen}
 use Rattle.screen.proofs.Inside.{move-inside}
 use Rattle.positions.specs.declared.Entry.{Entry}
 use Rattle.positions.specs.Positions.{entryFolds}
-use Rattle.positions.proofs.Checks.{folds-clear, folds-good, folds-entered}
+use Rattle.positions.proofs.Entered.{folds-clear, folds-good, folds-entered}
 use Rattle.motions.specs.declared.Caret.{Caret}
 use Rattle.motions.specs.Carets.{here, placed}
 use Rattle.motions.specs.UpDown.{stopRefusal, atTarget, Ready}

@@ -21,7 +21,6 @@ use Rattle.commands.specs.Commands.{isSame}
 use Rattle.motions.specs.declared.Caret.{Caret}
 use Rattle.motions.specs.declared.Moved.{Moved}
 use Rattle.motions.specs.declared.Moved.the-variants.{To, Refused}
-use Rattle.motions.specs.declared.Sought.{Sought}
 use Rattle.motions.specs.declared.Sought.the-variants.{Refused as Sought·Refused}
 use Rattle.motions.specs.Carets.{moving, refusalOf}
 use Rattle.motions.specs.Finds.{partnerTo, seeking, matchBracket}

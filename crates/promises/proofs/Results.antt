@@ -1,6 +1,6 @@
 -- No input of a public call has two results. Assumes nothing.
 use Prim.Native.Nat.{ℕ}
-use mathlib.Core.Path.{_≡_, ap, sym, _∙_}
+use mathlib.Core.Path.{ap, sym, _∙_}
 use mathlib.Core.List.{_++_}
 use lib.ListN.{drop}
 use Rattle.promises.specs.Results.{OneResult}

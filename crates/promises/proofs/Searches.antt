@@ -22,7 +22,8 @@ use Rattle.pairing.proofs.Jump.{key}
 use Rattle.scans.proofs.Finds.{find-within}
 use Rattle.positions.specs.Positions.{refusalWith}
 use Rattle.positions.proofs.Lowest.{lowest-none}
-use Rattle.positions.proofs.Checks.{inside, sought-none}
+use Rattle.positions.proofs.Checks.{inside}
+use Rattle.positions.proofs.Entered.{sought-none}
 use Rattle.motions.specs.declared.Caret.{Caret}
 use Rattle.motions.specs.declared.Moved.the-variants.{To}
 use Rattle.motions.specs.declared.Sought.{Sought}

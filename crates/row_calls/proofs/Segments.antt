@@ -1,10 +1,9 @@
 -- `wrap_segments` by the number of a mode, from what the call for that mode answers and leaves. Assumes nothing.
-use mathlib.Core.Path.{_≡_, refl, ap, sym, subst, _∙_}
+use mathlib.Core.Path.{_≡_, ap, subst, _∙_}
 use mathlib.Core.List.{List}
 use Prim.Native.Nat.{ℕ, _≤_, _<_}
 use borrow.Author.Tests.{le-leb, lt-leb}
 use Rattle.wrap.specs.declared.Wrap.{Wrap}
-use Rattle.wrap.specs.declared.Wrap.the-variants.{None, Char, Word}
 use Rattle.wrap.specs.declared.Segments.{Segments}
 use Rattle.wrap.specs.Calls.{Wraps}
 use Rattle.lent.specs.declared.Told.{Told}

@@ -1,6 +1,6 @@
 -- A row of a wide character and `ab`, in one segment: `b` is 2 characters behind its start, and 3 cells. It holds by computation. Assumes nothing.
 use mathlib.Core.Path.{_≡_, refl}
-use mathlib.Core.List.{List, [], _∷_}
+use mathlib.Core.List.{[], _∷_}
 use Rattle.chars.specs.Width.{zeroWidths, doubleWidths, widthOf}
 use Rattle.cells.specs.Offsets.{cellsIn, pairsBefore}
 use Rattle.segments.specs.Parts.{offsetIn}

@@ -5,7 +5,6 @@ use mathlib.Core.Bool.{true, false}
 use Prim.Native.Nat.{ℕ, _+_, _-_, _≤_, _<_}
 use native.Mathlib.Omega.{arith}
 use lib.ListN.{length, take, drop, length-append}
-use Rattle.text.specs.Text.{rows}
 use Rattle.print.specs.Print.{Wrote}
 use Rattle.print.proofs.Laws.{wrote-none, wrote-then}
 use Rattle.commands.specs.Commands.{keyPart, Ends}

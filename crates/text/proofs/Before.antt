@@ -1,6 +1,6 @@
 -- The place before an offset, that an offset has one row and one column, and the last place of a text.
 -- Assumes nothing.
-use mathlib.Core.Path.{_≡_, refl, ap, sym, _∙_}
+use mathlib.Core.Path.{_≡_, refl, ap}
 use mathlib.Core.List.{List}
 use Prim.Native.Nat.{ℕ, zero, suc, _+_, _-_, _≤_, _<_}
 use native.Mathlib.Nat.{add-zero}
@@ -11,7 +11,7 @@ use lib.ListN.{length, getD}
 use Rattle.text.specs.Text.{rows, rowCount, rowLen}
 use Rattle.text.specs.Offsets.{startIn, rowStart, At}
 use Rattle.text.proofs.Rows.{rows-pos, start-zero}
-use Rattle.text.proofs.Parts.{row-fits, next-start}
+use Rattle.text.proofs.Parts.{next-start}
 use Rattle.text.proofs.At.{at-le, at-end, at-col, on-char, after-nl, char-there, nl-there}
 
 module _ (t : List ℕ) (r : ℕ) (h : 0 < r) (l : r < rowCount t) where

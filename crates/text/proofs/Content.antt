@@ -10,7 +10,7 @@ use lib.Dec.{eqb, ltb}
 use lib.ListN.{length, getD}
 use borrow.Author.Tests.{eq-eqb, ne-eqb, lt-ltb, le-ltb, ltb-true}
 use Rattle.text.specs.Text.{rowCount, rowLen, contentRows}
-use Rattle.text.specs.Offsets.{rowStart, At, IsLine, lineAt}
+use Rattle.text.specs.Offsets.{rowStart, IsLine, lineAt}
 use Rattle.text.specs.declared.Line.{Line}
 use Rattle.text.proofs.Rows.{rows-pos}
 use Rattle.text.proofs.At.{at-start, on-char, after-nl, on-end, on-last}

@@ -1,8 +1,7 @@
 -- Worked examples of the definitions, as theorems: each holds by computation.
 -- From document 01, "Examples": P8, and what a text is refused for. Assumes nothing.
 use mathlib.Core.Path.{_≡_, refl}
-use mathlib.Core.List.{List, [], _∷_}
-use Prim.Native.Nat.{ℕ}
+use mathlib.Core.List.{[], _∷_}
 use Rattle.chars.specs.Scalar.{any}
 use Rattle.accept.specs.Accept.{textRefusal}
 use Rattle.text.specs.Text.{onFirst, rows, contentRowCount}

@@ -1,18 +1,16 @@
 -- Laws of the list of rows, by the code point at an offset of the text, as a loop reads it. What stands above cites `At` instead.
 -- Assumes nothing.
-use mathlib.Core.Path.{_≡_, refl, ap, sym, _∙_}
+use mathlib.Core.Path.{_≡_, refl, sym, _∙_}
 use mathlib.Core.List.{List, [], _∷_}
 use mathlib.Core.Bool.{Bool, true, false, cond}
 use Prim.Native.Nat.{ℕ, zero, suc, _+_, _-_, _≤_, _<_}
-use native.Mathlib.Nat.{add-zero}
 use native.Mathlib.Numerals.{add-one, sub-one}
-use native.Mathlib.Decide.{decLe, ℕ-discrete}
+use native.Mathlib.Decide.{decLe}
 use native.Mathlib.Omega.{arith}
 use lib.Dec.{eqb}
-use lib.ListN.{length, getD, take, drop, drop-of-length-le, length-take, length-drop}
-use lib.Seq.{drop-cons, getD-drop, drop-drop}
+use lib.ListN.{length, getD, drop, drop-of-length-le}
 use borrow.Author.Tests.{eq-eqb, ne-eqb}
-use Rattle.text.specs.Text.{onFirst, rows, rowCount, rowAt, rowLen}
+use Rattle.text.specs.Text.{onFirst, rows, rowCount, rowLen}
 use Rattle.text.specs.Offsets.{startIn, rowStart}
 use Rattle.chars.proofs.Lists.{drop-at}
 

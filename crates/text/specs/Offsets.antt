@@ -1,6 +1,6 @@
 -- Offsets: where the rows of a text stand in it. A place is a row and a column, and an offset of the text: the same thing.
 -- From document 01, "Text, rows, carets". Definitions only; the laws are in `proofs/At.antt`, `Before.antt` and `Stands.antt`. Assumes nothing.
-use Prim.Native.Nat.{ℕ, zero, suc, _+_, _-_, _≤_, _<_}
+use Prim.Native.Nat.{ℕ, zero, suc, _+_, _≤_, _<_}
 use mathlib.Core.Path.{_≡_}
 use mathlib.Core.List.{List, [], _∷_}
 use mathlib.Core.Bool.{cond}

@@ -2,7 +2,7 @@
 use mathlib.Core.Path.{_≡_, ap, sym, _∙_}
 use mathlib.Core.List.{List}
 use mathlib.Core.Bool.{Bool, true, false, _&&_}
-use Prim.Native.Nat.{ℕ, _-_}
+use Prim.Native.Nat.{ℕ}
 use Rattle.text.proofs.Before.{same-row, same-col}
 use Rattle.text.proofs.Stands.{stands-at}
 use Rattle.places.specs.declared.Spot.{Spot}

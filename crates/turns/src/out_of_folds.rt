@@ -3,7 +3,7 @@ use folds::Span;
 use places::Spot;
 use text::offsets;
 ghost use mathlib.Core.Path.{_≡_};
-ghost use Prim.Native.Nat.{_+_, _-_, _<_};
+ghost use Prim.Native.Nat.{_-_, _<_};
 ghost use Rattle.text.specs.Text.{rowCount, rowLen};
 ghost use Rattle.places.specs.Places.{place};
 ghost use Rattle.turns.specs.Rounds.{jumpFwd, jumpBack};

@@ -1,5 +1,5 @@
 -- Verdicts counted. What the contracts of `verdicts::tallies` cite. Definitions only; the laws are in `proofs/Counting.antt`. Assumes nothing.
-use Prim.Native.Nat.{ℕ, _+_, _<_, _≤_}
+use Prim.Native.Nat.{_+_, _<_, _≤_}
 use mathlib.Core.Bool.{Bool, true, false, cond}
 use lib.Dec.{eqb}
 use Rattle.verdicts.specs.declared.Tally.{Tally}

@@ -3,7 +3,6 @@ use mathlib.Core.Path.{_≡_, _∙_}
 use Prim.Native.Nat.{ℕ}
 use native.Mathlib.Omega.{arith}
 use Rattle.row.specs.Row.{columnOf}
-use Rattle.row.specs.declared.Column.{Column}
 use Rattle.row.specs.declared.Column.the-variants.{At, Refused}
 
 answered : {n : ℕ} (v : ℕ) → n ≡ 0 → columnOf n v ≡ At v

@@ -13,7 +13,6 @@ use Rattle.folds.specs.Folds.{hidden}
 use Rattle.folds.specs.declared.Visible.{Visible}
 use Rattle.folds.specs.declared.Visible.the-variants.{Row, NoRow}
 use Rattle.vertical.specs.declared.Sticky.{Sticky}
-use Rattle.vertical.specs.declared.Target.{Target}
 use Rattle.visible.specs.Rounds.{rounds}
 use Rattle.visible.specs.Visible.{toward, rowOr, stepRow, shownRow, verticalRow}
 use Rattle.vertical.specs.Moves.{landed, moveVertical}

@@ -4,7 +4,6 @@ use mathlib.Core.List.{List}
 use Prim.Native.Nat.{ℕ}
 use lib.IntN.{ℤ}
 use borrow.Author.Tests.{eq-eqb, ne-eqb}
-use Rattle.vertical.specs.declared.Target.{Target}
 use Rattle.vertical.specs.Moves.{landed, aimedCol}
 use Rattle.visible.specs.Visible.{verticalRow}
 

@@ -1,6 +1,6 @@
 -- `margins::first_non_blank` meets its contract: the row's indent, within its last column.
 -- Assumes nothing.
-use mathlib.Core.Path.{_≡_, ap}
+use mathlib.Core.Path.{ap}
 use native.Mathlib.Omega.{arith}
 use lib.ListN.{length}
 use borrow.Author.Needs.{needs}

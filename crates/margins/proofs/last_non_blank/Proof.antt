@@ -1,8 +1,7 @@
 -- `margins::last_non_blank` meets its contract: the row up to its last character that is no white space, less one.
 -- Assumes nothing.
-use mathlib.Core.Path.{_≡_, refl, ap}
+use mathlib.Core.Path.{refl, ap}
 use native.Mathlib.Omega.{arith}
-use lib.ListN.{length}
 use borrow.Author.Needs.{needs}
 use Rattle.chars.specs.White.{whites}
 use Rattle.text.specs.Text.{rowAt}

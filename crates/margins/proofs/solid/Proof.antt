@@ -1,6 +1,6 @@
 -- `margins::solid` meets its contract. The invariant of its loop: from n on all is white space. The measure is n.
 -- Assumes nothing.
-use Prim.Native.Nat.{_-_, _≤_}
+use Prim.Native.Nat.{_≤_}
 use mathlib.Core.Path.{_≡_, sym, ap, _∙_}
 use native.Mathlib.Omega.{arith}
 use lib.ListN.{length, take}

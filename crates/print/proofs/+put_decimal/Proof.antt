@@ -1,5 +1,4 @@
 -- `print::put_decimal` meets its contract: the last digit stands after those of a tenth. The measure is the number. Assumes nothing.
-use mathlib.Core.Path.{_≡_}
 use Prim.Native.Nat.{ℕ, _<_}
 use native.Mathlib.Omega.{arith}
 use borrow.Author.Needs.{needs}

@@ -1,7 +1,7 @@
 -- `session::lines` meets its contract. The invariant of its loop: what was printed so far, and that the rest is still to come. The measure is
 -- the rest of the input. Assumes nothing.
 use Prim.Native.Nat.{_+_, _-_}
-use mathlib.Core.Path.{ap, sym, subst, _∙_}
+use mathlib.Core.Path.{sym, _∙_}
 use native.Mathlib.Omega.{arith}
 use borrow.Author.Needs.{needs}
 use lib.ListN.{length}

@@ -1,10 +1,9 @@
 -- `text::content_row_count` meets its contract: an accepted text is short, so that its rows fit a u32.
 -- Assumes nothing.
-use mathlib.Core.Path.{_≡_, sym, ap, _∙_}
+use mathlib.Core.Path.{sym, ap, _∙_}
 use native.Mathlib.Omega.{arith}
 use borrow.Author.Needs.{needs}
 use borrow.Author.Tests.{eq-eqb, ne-eqb}
-use Rattle.accept.specs.Accept.{textRefusal}
 use Rattle.text.specs.declared.Counted.the-variants.{Rows}
 use Rattle.accept.proofs.Accepted.{accepted-short}
 use Rattle.text.proofs.Parts.{count-le}

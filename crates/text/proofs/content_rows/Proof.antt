@@ -1,6 +1,6 @@
 -- `text::content_rows` meets its contract: the rows with content go by the last code point.
 -- Assumes nothing.
-use mathlib.Core.Path.{_≡_, sym, _∙_}
+use mathlib.Core.Path.{sym, _∙_}
 use native.Mathlib.Omega.{arith}
 use borrow.Author.Needs.{needs}
 use Rattle.text.proofs.Rows.{rows-pos}

@@ -1,5 +1,4 @@
 -- `tsivareza_wrap_segments` meets its contract: the room is filled, and the call on code points answers. Assumes nothing.
-use mathlib.Core.Path.{ap, sym, _∙_}
 use mathlib.Core.List.{List}
 use Prim.Native.Nat.{ℕ}
 use borrow.Author.Needs.{needs}

@@ -1,6 +1,6 @@
 -- `folds::folds::closed_fold_at` meets its contract: the row shows, or the row that shows before it is the fold's first.
 -- Assumes nothing.
-use mathlib.Core.Path.{_≡_, sym, ap, _∙_}
+use mathlib.Core.Path.{sym, _∙_}
 use native.Mathlib.Omega.{arith}
 use borrow.Author.Needs.{needs}
 use borrow.Author.Tests.{not-true, not-false}

@@ -1,6 +1,6 @@
 -- `folds::folds::closed_from` meets its contract: the row after the first is hidden or not, and a next row shows or not.
 -- Assumes nothing.
-use mathlib.Core.Path.{_≡_, sym, ap, _∙_}
+use mathlib.Core.Path.{sym, _∙_}
 use native.Mathlib.Omega.{arith}
 use borrow.Author.Needs.{needs}
 use borrow.Author.Tests.{not-true, not-false}

@@ -1,7 +1,6 @@
 -- `folds::folds::is_row_hidden` meets its contract: the first fold that hides the row tells whether there is one.
 -- Assumes nothing.
-use mathlib.Core.Path.{_≡_, sym, _∙_}
-use native.Mathlib.Omega.{arith}
+use mathlib.Core.Path.{sym, _∙_}
 use borrow.Author.Needs.{needs}
 use Rattle.folds.proofs.Past.{said}
 use Rattle.folds.proofs.folds.is_row_hidden.Statement.{statement}

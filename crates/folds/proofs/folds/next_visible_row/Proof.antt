@@ -1,6 +1,6 @@
 -- `folds::folds::next_visible_row` meets its contract. The invariant of its loop: the first row seen from r on is the answer.
 -- The measure is the rows less r. Assumes nothing.
-use Prim.Native.Nat.{_+_, _-_, _≤_, _<_}
+use Prim.Native.Nat.{_-_, _≤_}
 use mathlib.Core.Path.{_≡_, refl, sym, _∙_}
 use mathlib.Core.Bool.{false}
 use native.Mathlib.Omega.{arith}

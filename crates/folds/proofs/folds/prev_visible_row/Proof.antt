@@ -1,7 +1,7 @@
 -- `folds::folds::prev_visible_row` meets its contract. The invariant of its loop: the last row seen before r is the answer.
 -- The measure is r. Assumes nothing.
 use Prim.Native.Nat.{_-_}
-use mathlib.Core.Path.{_≡_, refl, sym, _∙_}
+use mathlib.Core.Path.{_≡_, sym, _∙_}
 use native.Mathlib.Omega.{arith}
 use borrow.Author.Needs.{needs}
 use Rattle.folds.specs.Folds.{prevVisible}

@@ -1,7 +1,6 @@
 -- `rows::prev_line` meets its contract: from row 0 there is no row up.
 -- Assumes nothing.
-use Prim.Native.Nat.{_-_, max}
-use mathlib.Core.Path.{_≡_, ap, _∙_}
+use mathlib.Core.Path.{ap, _∙_}
 use native.Mathlib.Omega.{arith}
 use borrow.Author.Needs.{needs}
 use borrow.Author.Tests.{eq-eqb, ne-eqb}

@@ -1,7 +1,7 @@
 -- `sections::section_back` meets its contract: column 0 of the row that the walk leads to.
 -- Assumes nothing.
 use Prim.Native.Nat.{ℕ}
-use mathlib.Core.Path.{_≡_, ap, _∙_}
+use mathlib.Core.Path.{ap, _∙_}
 use native.Mathlib.Omega.{arith}
 use borrow.Author.Needs.{needs}
 use Rattle.positions.specs.Positions.{position}

@@ -1,6 +1,6 @@
 -- `lines::paragraphs::is_void` meets its contract: the code point at the row's start tells.
 -- Assumes nothing.
-use mathlib.Core.Path.{_≡_, sym}
+use mathlib.Core.Path.{sym}
 use native.Mathlib.Omega.{arith}
 use borrow.Author.Needs.{needs}
 use Rattle.text.proofs.At.{at-start}

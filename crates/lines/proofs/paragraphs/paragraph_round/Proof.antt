@@ -1,7 +1,6 @@
 -- `lines::paragraphs::paragraph_round` meets its contract. The invariant of its loop is `Rounding`: from the walk's row on the round leads where it was to.
 -- The measure is the rows that are left in the direction. Assumes nothing.
-use mathlib.Core.Path.{_≡_, sym, _∙_}
-use native.Mathlib.Omega.{arith}
+use mathlib.Core.Path.{sym, _∙_}
 use borrow.Author.Needs.{needs}
 use Rattle.lines.specs.Toward.{restOf}
 use Rattle.lines.proofs.Rounding.{Rounding, rounding-start, rounding-near, rounding-found, rounding-off, rounding-in, rounding-less, rounding-on}

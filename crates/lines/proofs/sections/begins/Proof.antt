@@ -1,9 +1,8 @@
 -- `lines::sections::begins` meets its contract: the code point at the row's start tells.
 -- Assumes nothing.
-use mathlib.Core.Path.{_≡_, sym}
+use mathlib.Core.Path.{sym}
 use native.Mathlib.Omega.{arith}
 use borrow.Author.Needs.{needs}
-use Rattle.text.specs.Offsets.{At}
 use Rattle.text.proofs.At.{at-start}
 use Rattle.lines.proofs.Marks.{begins-end, begins-is}
 use Rattle.lines.proofs.sections.begins.Statement.{statement}

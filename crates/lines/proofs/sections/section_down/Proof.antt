@@ -1,7 +1,7 @@
 -- `lines::sections::section_down` meets its contract. The invariant of its loop: what is left to be found from the walk's row on leads where all of it does.
 -- The measure is the rows below. Assumes nothing.
-use Prim.Native.Nat.{_-_, _<_}
-use mathlib.Core.Path.{_≡_, ap, sym, _∙_}
+use Prim.Native.Nat.{_-_}
+use mathlib.Core.Path.{_≡_, sym, _∙_}
 use native.Mathlib.Omega.{arith}
 use borrow.Author.Needs.{needs}
 use Rattle.text.specs.Text.{rowCount, contentRows}

@@ -1,6 +1,5 @@
 -- `lines::sections::section_up` meets its contract. The invariant of its loop: what is left to be found from the walk's row on leads where all of it does.
 -- The measure is the row. Assumes nothing.
-use Prim.Native.Nat.{_-_}
 use mathlib.Core.Path.{_≡_, ap, sym, _∙_}
 use native.Mathlib.Omega.{arith}
 use borrow.Author.Needs.{needs}

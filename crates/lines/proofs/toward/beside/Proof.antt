@@ -1,7 +1,6 @@
 -- `lines::toward::beside` meets its contract: down one row, or up one.
 -- Assumes nothing.
-use Prim.Native.Nat.{_-_, min}
-use mathlib.Core.Path.{_≡_, ap, _∙_}
+use mathlib.Core.Path.{ap, _∙_}
 use native.Mathlib.Omega.{arith}
 use borrow.Author.Needs.{needs}
 use Rattle.text.specs.Offsets.{lineAt}

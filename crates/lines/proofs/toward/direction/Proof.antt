@@ -1,5 +1,4 @@
 -- `lines::toward::direction` meets its contract.
-use borrow.Author.Needs.{needs}
 use Rattle.lines.proofs.toward.direction.Statement.{statement}
 use Rattle.lines.proofs.toward.direction.Tie as tie
 

@@ -1,5 +1,4 @@
 -- `lines::toward::next_row` meets its contract.
-use mathlib.Core.Path.{_≡_, sym, _∙_}
 use borrow.Author.Needs.{needs}
 use Rattle.lines.proofs.Ways.{step-fits, stops, inside, goes}
 use Rattle.lines.proofs.toward.next_row.Statement.{statement}

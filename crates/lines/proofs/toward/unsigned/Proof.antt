@@ -1,5 +1,4 @@
 -- `lines::toward::unsigned` meets its contract.
-use native.Mathlib.Omega.{arith}
 use borrow.Author.Needs.{needs}
 use Rattle.lines.proofs.Ways.{unsigned-fits}
 use Rattle.lines.proofs.toward.unsigned.Statement.{statement}

@@ -1,6 +1,6 @@
 -- `loops::walks::back` meets its contract. The invariant of its loop: the walk stands at `cur`, with turns enough for the places before it.
 -- The measure is the offset. Assumes nothing.
-use Prim.Native.Nat.{_+_, _-_}
+use Prim.Native.Nat.{_+_}
 use mathlib.Core.Bool.{_&&_, not}
 use native.Mathlib.Omega.{arith}
 use borrow.Author.Tests.{not-true, not-false}

@@ -1,6 +1,6 @@
 -- `Caret::word` meets its contract: the checks in the table's order; then the caret's spot goes in, and the spot that the walk ended on is a row
 -- and a column again. Assumes nothing.
-use mathlib.Core.Path.{ap, refl, _∙_}
+use mathlib.Core.Path.{ap, _∙_}
 use mathlib.Core.List.{List}
 use Prim.Native.Nat.{ℕ, _-_}
 use native.Mathlib.Omega.{arith}
@@ -12,7 +12,7 @@ use Rattle.keywords.specs.Table.{parseOf, kept}
 use Rattle.keywords.proofs.Agree.{parse-kept, parse-length}
 use Rattle.places.specs.Places.{Place, kindOf}
 use Rattle.turns.specs.Rounds.{wordMotion}
-use Rattle.positions.proofs.Checks.{folds-good, folds-entered}
+use Rattle.positions.proofs.Entered.{folds-good, folds-entered}
 use Rattle.steps.proofs.Stepping.{up-start}
 use Rattle.motions.specs.Carets.{here}
 use Rattle.motions.specs.WordMoves.{wordCaret}

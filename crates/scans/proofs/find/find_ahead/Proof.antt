@@ -1,6 +1,5 @@
 -- `scans::find::find_ahead` meets its contract.
 -- Assumes nothing.
-use Prim.Native.Nat.{_-_}
 use borrow.Author.Needs.{needs}
 use native.Mathlib.Omega.{arith}
 use Rattle.scans.proofs.Finds.{ahead-onto, ahead-nowhere, ahead-past}

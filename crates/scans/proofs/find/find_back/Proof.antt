@@ -1,6 +1,5 @@
 -- `scans::find::find_back` meets its contract.
 -- Assumes nothing.
-use Prim.Native.Nat.{_-_}
 use borrow.Author.Needs.{needs}
 use native.Mathlib.Omega.{arith}
 use Rattle.scans.proofs.Finds.{back-within, back-onto, back-nowhere, back-before}

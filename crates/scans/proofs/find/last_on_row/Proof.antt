@@ -1,6 +1,6 @@
 -- `scans::find::last_on_row` meets its contract. The invariant of its loop: the last match before the column is the last before i.
 -- The measure is i. Assumes nothing.
-use Prim.Native.Nat.{_-_, _≤_}
+use Prim.Native.Nat.{_≤_}
 use mathlib.Core.Path.{_≡_, refl, sym, _∙_}
 use native.Mathlib.Omega.{arith}
 use lib.ListN.{length}

@@ -1,6 +1,6 @@
 -- `text::offsets::content_line` meets its contract: a row after the first that starts at the end of the text has no content, and the row above it has.
 -- Assumes nothing.
-use mathlib.Core.Path.{_≡_, ap, _∙_}
+use mathlib.Core.Path.{ap, _∙_}
 use native.Mathlib.Omega.{arith}
 use borrow.Author.Needs.{needs}
 use Rattle.text.specs.Offsets.{lineAt}

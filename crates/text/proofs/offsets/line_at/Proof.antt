@@ -1,7 +1,6 @@
 -- `text::offsets::line_at` meets its contract: it goes down from the first row.
 -- Assumes nothing.
 use native.Mathlib.Nat.{zero-add}
-use borrow.Author.Needs.{needs}
 use Rattle.text.proofs.Stands.{first-line}
 use Rattle.text.proofs.offsets.line_at.Statement.{statement}
 use Rattle.text.proofs.offsets.line_at.Tie as tie

@@ -1,6 +1,6 @@
 -- `text::offsets::up` meets its contract. The invariant of its loop: i stands in row r, and `left` rows are still to go up.
 -- The measure is i. Assumes nothing.
-use Prim.Native.Nat.{_+_, _-_, _≤_}
+use Prim.Native.Nat.{_+_, _≤_}
 use mathlib.Core.Path.{_≡_, sym}
 use native.Mathlib.Omega.{arith}
 use borrow.Author.Needs.{needs}

@@ -1,6 +1,5 @@
 -- `vertical::moves::aimed` meets its contract. Assumes nothing.
 use mathlib.Core.Path.{_≡_, ap, _∙_}
-use Prim.Native.Nat.{_-_}
 use borrow.Author.Needs.{needs}
 use Rattle.text.specs.Text.{rowAt}
 use Rattle.text.specs.declared.Line.{Line}
