@@ -21,5 +21,16 @@ one-result =
         (p .room-left ∙ sym (q .room-left)) i,
         (p .out-left ∙ sym (q .out-left)) i,
       );
+      replied-leaving = λ m out left x y p q. λ i. (
+        (p .0 .numbered ∙ sym (q .0 .numbered)) i,
+        (p .0 .out-left ∙ sym (q .0 .out-left)) i,
+        (p .1 ∙ sym (q .1)) i,
+      );
+      answered-leaving = λ s room out m left x y p q. λ i. (
+        (p .0 .numbered ∙ sym (q .0 .numbered)) i,
+        (p .0 .room-left ∙ sym (q .0 .room-left)) i,
+        (p .0 .out-left ∙ sym (q .0 .out-left)) i,
+        (p .1 ∙ sym (q .1)) i,
+      );
       printed = λ out s x y p q. let e = p .count ∙ sym (q .count) in λ i. (e i, (p .front ∙ ap (λ (n : ℕ). s ++ drop n out) e ∙ sym (q .front)) i);
     }

@@ -15,7 +15,7 @@ abbrev pub One : {A : Type 0} → (A → Type 0) → Type 0
 One {A = A} allows = (x y : A) → allows x → allows y → x ≡ y
 
 pub record OneResult : Type 1 where
-  -- `r ≡ definition`: every method of `Caret`, and all calls of `chars`, `keywords`, `columns`, `cells`, `text`, `brackets`
+  -- `r ≡ definition`: every method of `Caret`; the calls of `chars`, `letters`, `keywords`, `tabstops`, `columns`, `slots`, `text` and `brackets`
   pub equal : {A : Type 0} (v : A) → One (λ (r : A). r ≡ v)
   -- `wrap_segments`: the answer, and the slice lent for segments
   pub wraps : (mode : Wrap) (width : ℕ) (row out : List ℕ) → One (λ (x : Segments × List ℕ). Wraps mode width row out (x .0) (x .1))
@@ -25,5 +25,9 @@ pub record OneResult : Type 1 where
   pub answered : (s room out : List ℕ) (m : Reply) → One (λ (x : ℕ × List ℕ × List ℕ). Answered s room out m (x .0) (x .1) (x .2))
   -- an export on several byte strings, which share the room
   pub answered-all : (l : List (List ℕ)) (room out : List ℕ) (m : Reply) → One (λ (x : ℕ × List ℕ × List ℕ). AnsweredAll l room out m (x .0) (x .1) (x .2))
+  -- `wrap_segments` for hosts, on code points and on bytes: another clause says what is left in the slice lent for segments
+  pub replied-leaving : (m : Reply) (out left : List ℕ) → One (λ (x : ℕ × List ℕ × List ℕ). Replied m out (x .0) (x .1) × (x .2 ≡ left))
+  pub answered-leaving : (s room out : List ℕ) (m : Reply) (left : List ℕ) →
+      One (λ (x : ℕ × List ℕ × List ℕ × List ℕ). Answered s room out m (x .0) (x .1) (x .2) × (x .3 ≡ left))
   -- a session: how many bytes it prints, and the places for them
   pub printed : (out s : List ℕ) → One (λ (x : ℕ × List ℕ). Printed out s (x .0) (x .1))
