@@ -3,6 +3,7 @@
 use Prim.Native.Nat.{ℕ, _<_}
 use mathlib.Core.Path.{_≡_, refl}
 use mathlib.Core.List.{[], _∷_}
+use native.Mathlib.Omega.{arith}
 use lib.Dec.{T}
 use lib.ListN.{drop}
 use Rattle.ranges.specs.Ranges.{inTable, ascending}
@@ -23,9 +24,9 @@ unfolding doubleWidths
 double-widths-ascend = tt
 
 module _ (x : ℕ) where
-  pub white-low : x < 0x1680 → isWhite x ≡ inTable x (0x9 ∷ 0xe ∷ 0x20 ∷ 0x21 ∷ 0x85 ∷ 0x86 ∷ 0xa0 ∷ 0xa1 ∷ [])
+  pub white-ascii : x < 0x80 → isWhite x ≡ inTable x (0x9 ∷ 0xe ∷ 0x20 ∷ 0x21 ∷ [])
   unfolding isWhite whites
-  white-low h = table-low x (0x9 ∷ 0xe ∷ 0x20 ∷ 0x21 ∷ 0x85 ∷ 0x86 ∷ 0xa0 ∷ 0xa1 ∷ []) 0x1680 (drop 9 whites) whites refl whites-ascend h
+  white-ascii h = table-low x (0x9 ∷ 0xe ∷ 0x20 ∷ 0x21 ∷ []) 0x85 (drop 5 whites) whites refl whites-ascend (omega arith)
 
   pub zero-width-low : x < 0x300 → inTable x zeroWidths ≡ inTable x (0 ∷ 1 ∷ [])
   unfolding zeroWidths

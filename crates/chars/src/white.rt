@@ -27,27 +27,26 @@ pub const WHITE: [u32; 20] = [
     0x3001,
 ];
 
-// Whether x, below U+1680, is white space.
-fn low_white(x: u32) -> bool
-    requires { ⌜ x < 0x1680 ⌝ }
+// Whether x, an ASCII character, is white space.
+fn ascii_white(x: u32) -> bool
+    requires { ⌜ x < 0x80 ⌝ }
     ensures { λ r. ⌜ r ≡ isWhite x ⌝ }
 {
-    ((0x9 <= x) & (x < 0xe))
-        | (((0x20 <= x) & (x < 0x21)) | (((0x85 <= x) & (x < 0x86)) | ((0xa0 <= x) & (x < 0xa1))))
+    ((0x9 <= x) & (x < 0xe)) | ((0x20 <= x) & (x < 0x21))
 }
 
-// Whether x is white space, by the table WHITE that is lent.
+// Whether x is white space, by the table WHITE that is lent: it answers for all but ASCII.
 pub fn white_in(white: &[u32], x: u32) -> bool
     requires { ⌜ now white ≡ whites ⌝ }
     ensures { λ r. ⌜ r ≡ isWhite x ⌝ }
 {
-    if x < 0x1680 {
-        return low_white(x);
+    if x < 0x80 {
+        return ascii_white(x);
     }
     ranges::in_table(white, x)
 }
 
-// The same for one that is not low: names the table.
+// The same, by the table WHITE that it names.
 fn high_white(x: u32) -> bool
     ensures { λ r. ⌜ r ≡ isWhite x ⌝ }
 {
@@ -58,8 +57,8 @@ fn high_white(x: u32) -> bool
 pub fn is_white(x: u32) -> bool
     ensures { λ r. ⌜ r ≡ isWhite x ⌝ }
 {
-    if x < 0x1680 {
-        return low_white(x);
+    if x < 0x80 {
+        return ascii_white(x);
     }
     high_white(x)
 }
