@@ -56,7 +56,7 @@ module _ (t : List ℕ) (p : Position) (i : Inside t p) where
 
   -- paragraphs
   pub up-at-in : (r : Paragraph) → LeadsIn t r → Inside t (upAt p r)
-  up-at-in (At r) h = position-in t r 0 h (omega arith)
+  up-at-in (At l) h = position-in t (l .row) 0 (h .in-row) (omega arith)
   up-at-in Nothing h = i
 
   side : (r : ℕ) (b : Bool) → cond b (rowLen t r - 1) 0 ≤ rowLen t r
@@ -64,5 +64,5 @@ module _ (t : List ℕ) (p : Position) (i : Inside t p) where
   side r false = omega arith
 
   pub down-at-in : (r : Paragraph) → LeadsIn t r → Inside t (downAt t p r)
-  down-at-in (At r) h = position-in t r _ h (side r (eqb r (contentRows t - 1)))
+  down-at-in (At l) h = position-in t (l .row) _ (h .in-row) (side (l .row) (eqb (l .row) (contentRows t - 1)))
   down-at-in Nothing h = i

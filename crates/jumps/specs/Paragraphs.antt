@@ -14,12 +14,12 @@ use Rattle.steps.specs.Steps.{times}
 
 -- up to column 0 of the row, where the rounds lead to one
 abbrev pub upAt : Position → Paragraph → Position
-upAt p (At r) = position r 0
+upAt p (At l) = position (l .row) 0
 upAt p Nothing = p
 
 -- down to column 0 of the row, or to the last column of the last row with content
 abbrev pub downAt : List ℕ → Position → Paragraph → Position
-downAt t p (At r) = position r (cond (eqb r (lastRow t)) (lastCol t r) 0)
+downAt t p (At l) = position (l .row) (cond (eqb (l .row) (lastRow t)) (lastCol t (l .row)) 0)
 downAt t p Nothing = p
 
 abbrev pub paragraphPrev : List ℕ → ℕ → Position → Position

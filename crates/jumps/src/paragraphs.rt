@@ -6,9 +6,8 @@ use text::Line;
 use text::minus;
 use text::most;
 ghost use mathlib.Core.Path.{_≡_};
-ghost use Prim.Native.Nat.{_≤_, _<_};
-ghost use lib.ListN.{length};
-ghost use Rattle.text.specs.Text.{rowCount};
+ghost use Rattle.text.specs.Offsets.{IsLine};
+ghost use Rattle.lines.specs.Paragraphs.{lastRow};
 ghost use Rattle.lines.specs.declared.Paragraph.the-variants.{At};
 ghost use Rattle.positions.specs.Positions.{Accepted};
 ghost use Rattle.jumps.specs.Paragraphs.{downAt, paragraphPrev, paragraphNext};
@@ -17,43 +16,45 @@ pub fn paragraph_prev(t: &[u32], p: Position, start: usize, count: u32) -> Posit
     requires { ⌜ Accepted (now t) p start ⌝ }
     ensures { λ r. ⌜ r ≡ paragraphPrev (now (t .entry)) count p ⌝ }
 {
-    let l = Line {
+    let from = Line {
         row: p.row,
         start: start,
     };
-    match find_paragraph(t, false, l, most(count as usize, 1)) {
-        Paragraph::At(r) => Position { row: r, col: 0 },
+    let last = text::content_rows(t) - 1;
+    match find_paragraph(t, false, last, from, most(count as usize, 1)) {
+        Paragraph::At(l) => Position { row: l.row, col: 0 },
         Paragraph::Nothing => p,
     }
 }
 
-// The position in a row that a paragraph move leads down to.
-fn down_at(t: &[u32], p: Position, r: usize) -> Position
-    requires { ⌜ (r < rowCount (now t)) × (length (now t) ≤ 1048576) ⌝ }
-    ensures { λ x. ⌜ x ≡ downAt (now (t .entry)) p (At r) ⌝ }
+// The position in a row that a paragraph move leads down to, where `last` is the last row with
+// content.
+fn down_at(t: &[u32], p: Position, last: usize, l: Line) -> Position
+    requires { ⌜ IsLine (now t) l × (last ≡ lastRow (now t)) ⌝ }
+    ensures { λ x. ⌜ x ≡ downAt (now (t .entry)) p (At l) ⌝ }
 {
-    let last = text::content_rows(t) - 1;
-    if r == last {
-        let l = text::offsets::line_at(t, r);
+    let row = l.row;
+    if row == last {
         let n = text::offsets::row_len(t, l);
         return Position {
-            row: r,
+            row: row,
             col: minus(n, 1),
         };
     }
-    Position { row: r, col: 0 }
+    Position { row: row, col: 0 }
 }
 
 pub fn paragraph_next(t: &[u32], p: Position, start: usize, count: u32) -> Position
     requires { ⌜ Accepted (now t) p start ⌝ }
     ensures { λ r. ⌜ r ≡ paragraphNext (now (t .entry)) count p ⌝ }
 {
-    let l = Line {
+    let from = Line {
         row: p.row,
         start: start,
     };
-    match find_paragraph(t, true, l, most(count as usize, 1)) {
-        Paragraph::At(r) => down_at(t, p, r),
+    let last = text::content_rows(t) - 1;
+    match find_paragraph(t, true, last, from, most(count as usize, 1)) {
+        Paragraph::At(l) => down_at(t, p, last, l),
         Paragraph::Nothing => p,
     }
 }

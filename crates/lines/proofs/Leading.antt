@@ -47,8 +47,8 @@ module _ (t : List ℕ) where
       (round-in fwd (skip || not (isVoid t row)) (onward fwd row) rest (room-on fwd row rest h))
 
   last-in : (r : Round) → EndsIn t r → LeadsIn t (atLast r)
-  last-in (Found l) p = p .in-row
-  last-in (RanOff l) p = p .in-row
+  last-in (Found l) p = p
+  last-in (RanOff l) p = p
 
   on-in : (f : ℕ → Paragraph) → ((row : ℕ) → row < rowCount t → LeadsIn t (f row)) → (r : Round) → EndsIn t r → LeadsIn t (goOn f r)
   on-in f h (Found l) p = h (l .row) (p .in-row)

@@ -3,7 +3,7 @@
 use mathlib.Core.Path.{_≡_, refl, sym, _∙_}
 use mathlib.Core.List.{List}
 use mathlib.Core.Bool.{Bool, true, false, _&&_, _||_, not}
-use Prim.Native.Nat.{ℕ, zero, suc, _+_, _-_, _≤_, _<_}
+use Prim.Native.Nat.{ℕ, zero, suc, _-_, _≤_, _<_}
 use native.Mathlib.Decide.{ℕ-discrete}
 use native.Mathlib.Omega.{arith}
 use lib.Dec.{eqb}
@@ -12,11 +12,9 @@ use borrow.Author.Tests.{eq-eqb, ne-eqb}
 use Rattle.text.specs.Text.{rowLen}
 use Rattle.text.specs.Offsets.{At, lineAt}
 use Rattle.text.proofs.At.{on-char, on-nl, on-end}
-use Rattle.lines.specs.Toward.{nextRow, restOf, onward}
+use Rattle.lines.specs.Toward.{restOf, onward}
 use Rattle.lines.specs.Paragraphs.{isVoid, roundFrom, roundOf, atLast, goOn, paragraphs}
-use Rattle.lines.specs.declared.Next.the-variants.{Row, Edge}
 use Rattle.lines.specs.declared.Round.the-variants.{Found, RanOff}
-use Rattle.lines.proofs.Ways.{next-edge, next-on}
 
 -- a row is empty where a separator or the end of the text stands at its start
 module _ {t : List ℕ} {r at : ℕ} (a : At t r 0 at) where
@@ -30,31 +28,7 @@ module _ {t : List ℕ} {r at : ℕ} (a : At t r 0 at) where
       go (yes e) = eq-eqb (rowLen t r) 0 (sym (on-nl a h e)) ∙ sym (eq-eqb (getD t at 0) 10 e)
       go (no n) = ne-eqb (rowLen t r) 0 (λ z. omega (arith, on-char a h n)) ∙ sym (ne-eqb (getD t at 0) 10 n)
 
--- the next row in a direction
-module _ (fwd : Bool) (last row : ℕ) (h : row ≤ last + 1) where
-  pub edge-rest : nextRow fwd last row ≡ Edge → restOf fwd last row ≡ 0
-  edge-rest e = go (ℕ-discrete (restOf fwd last row) 0)
-    where
-      go : Dec (restOf fwd last row ≡ 0) → restOf fwd last row ≡ 0
-      go (yes z) = z
-      go (no n) =
-          let clash : Row (onward fwd row) ≡ Edge = sym (next-on last row fwd h (omega arith)) ∙ e in
-          let z : _≡_ {A = ℕ} 0 1 = cc in
-          absurd (omega arith)
-
-  pub row-rest : (q : ℕ) → nextRow fwd last row ≡ Row q → (0 < restOf fwd last row) × (q ≡ onward fwd row)
-  row-rest q e = go (ℕ-discrete (restOf fwd last row) 0)
-    where
-      go : Dec (restOf fwd last row ≡ 0) → (0 < restOf fwd last row) × (q ≡ onward fwd row)
-      go (yes z) =
-          let clash : Edge ≡ Row q = sym (next-edge last row fwd z) ∙ e in
-          let o : _≡_ {A = ℕ} 0 1 = cc in
-          absurd (omega arith)
-      go (no n) =
-          let same : Row (onward fwd row) ≡ Row q = sym (next-on last row fwd h (omega arith)) ∙ e in
-          (omega arith, cc)
-
--- one row less is left behind it, and it is a row where the last one is
+-- behind the next row one row less is left, and it is a row where the last one is
 pub rest-less : (fwd : Bool) (last row : ℕ) → restOf fwd last (onward fwd row) ≡ restOf fwd last row - 1
 rest-less true last row = omega arith
 rest-less false last row = refl

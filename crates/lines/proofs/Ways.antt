@@ -1,96 +1,125 @@
--- A signed row, one step on or back: it may come to stand at minus one. The calls that make the step hand each number on by its bits.
--- Assumes nothing.
+-- A signed row, one step on or back: it may come to stand at minus one, and be stepped back from there. Signed numbers are kept as their bits,
+-- which each operation reads and writes; those of a row of a text are the row. Assumes nothing.
 use mathlib.Core.Path.{_≡_, refl, ap, sym, _∙_}
 use mathlib.Core.Bool.{Bool, true, false, _||_}
 use Prim.Native.Nat.{ℕ, _+_, _-_, _≤_, _<_}
-use native.Mathlib.Decide.{decLt}
+use native.Mathlib.Decide.{ℕ-discrete, decLt}
 use native.Mathlib.Omega.{arith}
 use lib.Dec.{T}
-use lib.IntN.{ℤ, pos, negsuc, _+ℤ_, natAbs}
+use lib.IntN.{ℤ, pos, negsuc, _+ℤ_, _-ℤ_, natAbs, +ℤ-negℤ-cancel}
 use lib.Signed.{ltZ, nonNeg}
 use borrow.Author.Tests.{lt-ltb, le-ltb}
 use mir.Syntax.{w64}
 use mir.Val.{Fits, SFits, toZ, ofZ}
-use mir.Facts.{toZ-ofZ}
-use Rattle.lines.specs.Toward.{dirOf, isOutside, restOf, onward, nextRow}
-use Rattle.lines.specs.declared.Next.the-variants.{Row, Edge}
-
-or-left : (a b : Bool) → (a || b) ≡ false → a ≡ false
-or-left true b e = e
-or-left false b e = refl
+use mir.Facts.{toZ-ofZ, toZ-pos}
+use Rattle.lines.specs.Toward.{dirOf, restOf, onward}
 
 pub fits-pos : (n : ℕ) → n ≤ 1048577 → SFits w64 (pos n)
 fits-pos n h = record { sfits = omega arith }
 
--- a number that is not below 0 can be read unsigned
-pub unsigned-fits : (z : ℤ) → SFits w64 z → ltZ z (pos 0) ≡ false → T (nonNeg (toZ w64 (ofZ w64 z))) × Fits w64 (natAbs (toZ w64 (ofZ w64 z)))
-unsigned-fits (pos n) f e = rw (toZ-ofZ f) (tt, record { fits = omega (arith, f .sfits) })
-unsigned-fits (negsuc n) f e = let z : _≡_ {A = ℕ} 0 1 = cc in absurd (omega arith)
+-- what the code's operations give, by their bits: a row read unsigned, one step on in the direction d, and that step back
+abbrev pub castOf : ℕ → ℕ
+castOf row = natAbs (toZ w64 row)
 
-back-is : (row : ℕ) → 0 < row → pos row +ℤ negsuc 0 ≡ pos (row - 1)
-back-is row h = rw (le-ltb row 1 h)
+abbrev pub nextOf : ℕ → ℤ → ℤ
+nextOf row d = toZ w64 row +ℤ toZ w64 (ofZ w64 d)
+
+abbrev pub backOf : ℕ → ℤ → ℤ
+backOf row d = toZ w64 (ofZ w64 (nextOf row d)) -ℤ toZ w64 (ofZ w64 d)
+
+-- before the first row, or behind the last
+abbrev pub isOutside : ℤ → ℤ → Bool
+isOutside last row = ltZ row (pos 0) || ltZ last row
+
+module _ (row : ℕ) (h : row ≤ 1048577) where
+  read-row : toZ w64 row ≡ pos row
+  read-row = toZ-pos w64 (omega arith)
+
+  pub cast-fits : T (nonNeg (toZ w64 row)) × Fits w64 (castOf row)
+  cast-fits = rw read-row (tt, record { fits = omega arith })
+
+  pub cast-row : castOf row ≡ row
+  cast-row = ap natAbs read-row
+
+up-is : (row : ℕ) → 0 < row → pos row +ℤ negsuc 0 ≡ pos (row - 1)
+up-is row h = rw (le-ltb row 1 h)
 
 -- the sum fits: at row 0 it is minus one
-pub fits-step : (fwd : Bool) (row : ℕ) → row ≤ 1048576 → SFits w64 (pos row +ℤ dirOf fwd)
+fits-step : (fwd : Bool) (row : ℕ) → row ≤ 1048577 → SFits w64 (pos row +ℤ dirOf fwd)
 fits-step true row h = record { sfits = omega arith }
 fits-step false row h = go (decLt 0 row)
   where
     go : Dec (0 < row) → SFits w64 (pos row +ℤ negsuc 0)
-    go (yes p) = rw (back-is row p) (fits-pos (row - 1) (omega arith))
+    go (yes p) = rw (up-is row p) (fits-pos (row - 1) (omega arith))
     go (no n) =
         let z : row ≡ 0 = omega arith in
         rw z (record { sfits = omega arith })
 
--- the rows that are left in a direction tell whether there is a next one
+-- the rows that are left in a direction tell whether the next one is outside
 module _ (last row : ℕ) where
-  pub next-edge : (fwd : Bool) → restOf fwd last row ≡ 0 → nextRow fwd last row ≡ Edge
-  unfolding nextRow
-  next-edge true e = rw (le-ltb (row + 1) 0 (omega arith), lt-ltb last (row + 1) (omega arith))
-  next-edge false e = rw e
+  next-outside : (fwd : Bool) → restOf fwd last row ≡ 0 → isOutside (pos last) (pos row +ℤ dirOf fwd) ≡ true
+  next-outside true e = rw (le-ltb (row + 1) 0 (omega arith), lt-ltb last (row + 1) (omega arith))
+  next-outside false e = rw e
 
-  pub next-on : (fwd : Bool) → row ≤ last + 1 → 0 < restOf fwd last row → nextRow fwd last row ≡ Row (onward fwd row)
-  unfolding nextRow
-  next-on true l h = rw (le-ltb (row + 1) 0 (omega arith), le-ltb last (row + 1) (omega arith))
-  next-on false l h = rw (back-is row h, le-ltb (row - 1) 0 (omega arith), le-ltb last (row - 1) (omega arith))
+  next-inside : (fwd : Bool) → row ≤ last + 1 → 0 < restOf fwd last row → isOutside (pos last) (pos row +ℤ dirOf fwd) ≡ false
+  next-inside true l h = rw (le-ltb (row + 1) 0 (omega arith), le-ltb last (row + 1) (omega arith))
+  next-inside false l h = rw (up-is row h, le-ltb (row - 1) 0 (omega arith), le-ltb last (row - 1) (omega arith))
 
--- what the calls hand on: each number is read back from its bits
-module _ (fwd : Bool) (last row : ℕ) (l : row ≤ 1048576) (m : last ≤ 1048576) where
-  read-row : (z : ℤ) → z ≡ pos row → toZ w64 (ofZ w64 z) ≡ pos row
-  read-row z e = rw e (toZ-ofZ (fits-pos row (omega arith)))
+  next-row : (fwd : Bool) → 0 < restOf fwd last row → ofZ w64 (pos row +ℤ dirOf fwd) ≡ onward fwd row
+  next-row true h = refl
+  next-row false h = ap (ofZ w64) (up-is row h)
 
-  read-last : (z : ℤ) → z ≡ pos last → toZ w64 (ofZ w64 z) ≡ pos last
-  read-last z e = rw e (toZ-ofZ (fits-pos last (omega arith)))
-
-  read-dir : (d : ℤ) → d ≡ dirOf fwd → toZ w64 (ofZ w64 d) ≡ dirOf fwd
-  read-dir d e = rw e (toZ-ofZ (go fwd))
+-- the step and the step back in the direction d
+module _ (fwd : Bool) (last row : ℕ) (near : row ≤ last + 1) (most : last ≤ 1048576) (d : ℤ) (f : d ≡ dirOf fwd) where
+  read-dir : toZ w64 (ofZ w64 d) ≡ dirOf fwd
+  read-dir = rw f (toZ-ofZ (go fwd))
     where
       go : (b : Bool) → SFits w64 (dirOf b)
       go true = record { sfits = omega arith }
       go false = record { sfits = omega arith }
 
-  module _ (z d : ℤ) (e : z ≡ pos row) (f : d ≡ dirOf fwd) where
-    sum : toZ w64 (ofZ w64 z) +ℤ toZ w64 (ofZ w64 d) ≡ pos row +ℤ dirOf fwd
-    sum = rw (read-row z e, read-dir d f)
+  next-is : nextOf row d ≡ pos row +ℤ dirOf fwd
+  next-is = rw (read-row row (omega arith), read-dir)
 
-    pub step-fits : SFits w64 (toZ w64 (ofZ w64 z) +ℤ toZ w64 (ofZ w64 d))
-    step-fits = rw sum (fits-step fwd row l)
+  pub next-fits : SFits w64 (nextOf row d)
+  next-fits = rw next-is (fits-step fwd row (omega arith))
 
-    -- curr is where the step has led to
-    module _ (curr : ℤ) (s : curr ≡ toZ w64 (ofZ w64 z) +ℤ toZ w64 (ofZ w64 d)) where
-      pub read-curr : toZ w64 (ofZ w64 curr) ≡ pos row +ℤ dirOf fwd
-      read-curr = rw (s ∙ sum) (toZ-ofZ (fits-step fwd row l))
+  read-next : toZ w64 (ofZ w64 (nextOf row d)) ≡ pos row +ℤ dirOf fwd
+  read-next = rw next-is (toZ-ofZ (fits-step fwd row (omega arith)))
 
-      module _ (b : Bool) (y : ℤ) (g : y ≡ pos last) (o : b ≡ isOutside (toZ w64 (ofZ w64 y)) (toZ w64 (ofZ w64 curr))) where
-        outside : b ≡ isOutside (pos last) (pos row +ℤ dirOf fwd)
-        outside = o ∙ rw (read-last y g, read-curr)
+  back-is : backOf row d ≡ pos row
+  back-is = rw (read-next, read-dir) (+ℤ-negℤ-cancel (pos row) (dirOf fwd))
 
-        pub stops : b ≡ true → Edge ≡ nextRow fwd last row
-        unfolding nextRow
-        stops t = rw (sym outside ∙ t)
+  pub back-fits : SFits w64 (backOf row d)
+  back-fits = rw back-is (fits-pos row (omega arith))
 
-        pub inside : b ≡ false → ltZ (toZ w64 (ofZ w64 curr)) (pos 0) ≡ false
-        inside t = rw read-curr (or-left _ _ (sym outside ∙ t))
+  pub back-row : ofZ w64 (backOf row d) ≡ row
+  back-row = ap (ofZ w64) back-is
 
-        pub goes : b ≡ false → (r : ℕ) → r ≡ natAbs (toZ w64 (ofZ w64 curr)) → Row r ≡ nextRow fwd last row
-        unfolding nextRow
-        goes t r h = rw (sym outside ∙ t) (ap Row (h ∙ ap natAbs read-curr))
+  -- whether the next row is outside
+  module _ (b : Bool) (o : isOutside (toZ w64 last) (toZ w64 (ofZ w64 (nextOf row d))) ≡ b) where
+    outside : isOutside (pos last) (pos row +ℤ dirOf fwd) ≡ b
+    outside = rw (read-row last (omega arith), read-next) at o
+
+    pub outside-rest : b ≡ true → restOf fwd last row ≡ 0
+    outside-rest e = go (ℕ-discrete (restOf fwd last row) 0)
+      where
+        go : Dec (restOf fwd last row ≡ 0) → restOf fwd last row ≡ 0
+        go (yes z) = z
+        go (no n) =
+            let clash : false ≡ true = sym (next-inside last row fwd near (omega arith)) ∙ outside ∙ e in
+            let z : _≡_ {A = ℕ} 0 1 = cc in
+            absurd (omega arith)
+
+    pub inside-rest : b ≡ false → 0 < restOf fwd last row
+    inside-rest e = go (ℕ-discrete (restOf fwd last row) 0)
+      where
+        go : Dec (restOf fwd last row ≡ 0) → 0 < restOf fwd last row
+        go (yes z) =
+            let clash : true ≡ false = sym (next-outside last row fwd z) ∙ outside ∙ e in
+            let o : _≡_ {A = ℕ} 0 1 = cc in
+            absurd (omega arith)
+        go (no n) = omega arith
+
+    pub inside-row : b ≡ false → ofZ w64 (nextOf row d) ≡ onward fwd row
+    inside-row e = ap (ofZ w64) next-is ∙ next-row last row fwd (inside-rest e)

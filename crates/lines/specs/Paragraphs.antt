@@ -31,8 +31,8 @@ roundOf t fwd row = roundFrom t fwd false row (restOf fwd (lastRow t) row)
 
 -- the last round may run off: it stops at the edge. One before it that does ends it all
 abbrev pub atLast : Round → Paragraph
-atLast (Found l) = At (l .row)
-atLast (RanOff l) = At (l .row)
+atLast (Found l) = At l
+atLast (RanOff l) = At l
 
 abbrev pub goOn : (ℕ → Paragraph) → Round → Paragraph
 goOn next (Found l) = next (l .row)
@@ -50,5 +50,5 @@ EndsIn t (RanOff l) = IsLine t l
 
 -- and so is where all of them lead
 abbrev pub LeadsIn : List ℕ → Paragraph → Type 0
-LeadsIn t (At r) = r < rowCount t
+LeadsIn t (At l) = IsLine t l
 LeadsIn t Nothing = 0 < rowCount t

@@ -1,10 +1,9 @@
 // Paragraphs: `find_paragraph` of motions.rs. A walk goes from row start to row start, so that it
 // reads the text once.
-use crate::Next;
 use crate::Paragraph;
 use crate::Round;
 use crate::toward::beside;
-use crate::toward::next_row;
+use crate::toward::direction;
 use text::Line;
 ghost use mathlib.Core.Path.{_≡_};
 ghost use Prim.Native.Nat.{_-_, _≤_, _<_};
@@ -25,18 +24,21 @@ fn is_void(t: &[u32], l: Line) -> bool
     t[at] == 10
 }
 
-// One round: on to the first empty row behind one that isn't, or to the row at the edge.
+// One round: on to the first empty row behind one that isn't, or to the row at the edge. The row is
+// signed: at the top edge it stands at minus one before it is stepped back.
 fn paragraph_round(t: &[u32], forward: bool, last: usize, from: Line) -> Round
     requires { ⌜ IsLine (now t) from × (last ≡ lastRow (now t)) × (length (now t) ≤ 1048576) ⌝ }
     ensures { λ r. ⌜ (r ≡ roundOf (now (t .entry)) forward (from .row)) ×
         EndsIn (now (t .entry)) r ⌝ }
 {
-    let mut row = from.row;
+    let end = last as i64;
+    let dir = direction(forward);
+    let mut curr = from.row as i64;
     let mut start = from.start;
     let mut skip = false;
     loop {
         let here = Line {
-            row: row,
+            row: curr as usize,
             start: start,
         };
         let void = is_void(t, here);
@@ -44,41 +46,43 @@ fn paragraph_round(t: &[u32], forward: bool, last: usize, from: Line) -> Round
         if passed & void {
             return Round::Found(here);
         }
-        match next_row(forward, last, row) {
-            Next::Edge => {
-                return Round::RanOff(here);
-            }
-            Next::Row(q) => {
-                let l = beside(t, forward, here);
-                row = q;
-                start = l.start;
-                skip = passed;
-            }
+        curr += dir;
+        if (curr < 0) | (curr > end) {
+            curr -= dir;
+            let edge = Line {
+                row: curr as usize,
+                start: start,
+            };
+            return Round::RanOff(edge);
         }
+        let l = beside(t, forward, here);
+        start = l.start;
+        skip = passed;
     }
 }
 
-// `find_paragraph`: so many rounds. A round that runs off with others still owed leads nowhere.
-pub fn find_paragraph(t: &[u32], forward: bool, from: Line, n: usize) -> Paragraph
-    requires { ⌜ IsLine (now t) from × (0 < n) × (length (now t) ≤ 1048576) ⌝ }
+// `find_paragraph`: so many rounds, where `last` is the last row with content. A round that runs
+// off with others still owed leads nowhere.
+pub fn find_paragraph(t: &[u32], forward: bool, last: usize, from: Line, n: usize) -> Paragraph
+    requires { ⌜ IsLine (now t) from × (last ≡ lastRow (now t)) × (0 < n) ×
+        (length (now t) ≤ 1048576) ⌝ }
     ensures { λ r. ⌜ (r ≡ paragraphs (now (t .entry)) forward (n - 1) (from .row)) ×
         LeadsIn (now (t .entry)) r ⌝ }
 {
-    let last = text::content_rows(t) - 1;
     let mut here = from;
     let mut owed = n - 1;
     loop {
         match paragraph_round(t, forward, last, here) {
             Round::Found(l) => {
                 if owed == 0 {
-                    return Paragraph::At(l.row);
+                    return Paragraph::At(l);
                 }
                 owed -= 1;
                 here = l;
             }
             Round::RanOff(l) => {
                 if owed == 0 {
-                    return Paragraph::At(l.row);
+                    return Paragraph::At(l);
                 }
                 return Paragraph::Nothing;
             }

@@ -1,41 +1,44 @@
 -- `paragraphs::paragraph_next` meets its contract: the rounds lead to a row, or nowhere.
 -- Assumes nothing.
 use Prim.Native.Nat.{ℕ, _-_}
-use mathlib.Core.Path.{ap, sym, _∙_}
+use mathlib.Core.Path.{ap, _∙_}
 use mathlib.Core.Bool.{true}
 use native.Mathlib.Omega.{arith}
 use borrow.Author.Needs.{needs}
-use Rattle.lines.specs.Paragraphs.{paragraphs}
+use Rattle.text.proofs.Content.{content-near}
 use Rattle.jumps.specs.Paragraphs.{downAt}
+use Rattle.jumps.proofs.Led.{led}
 use Rattle.jumps.proofs.paragraphs.paragraph_next.Statement.{statement}
 use Rattle.jumps.proofs.paragraphs.paragraph_next.Tie as tie
 
+sub-last : tie.Need-sub-last
+sub-last c = omega (arith, c .content-rows .ensures, content-near (c .before .before .args .t .now))
+
 find-paragraph-requires : tie.Need-find-paragraph-requires
 find-paragraph-requires c κs =
-    let s = c .before .before in
-    (s .pre .line, omega (arith, c .most .ensures), s .pre .brief)
+    let s = c .before .before .before in
+    (s .pre .line, ap (λ (n : ℕ). n - 1) (c .before .content-rows .ensures), omega (arith, c .most .ensures), s .pre .brief)
 
 down-at-requires : tie.Need-down-at-requires
 down-at-requires c κs =
     let f = c .before .before .before in
-    let s = f .before .before .before in
-    (rw (c .before .r .given .1) at (f .find-paragraph .ensures .1), s .pre .brief)
+    (rw (c .before .l .given .1) at (f .find-paragraph .ensures .1), ap (λ (n : ℕ). n - 1) (f .before .before .content-rows .ensures))
 
 returns : tie.Need-returns
 returns c =
     let f = c .before .before .before .before in
-    let a = f .before .before .before .args in
-    c .down-at .ensures ∙ ap (downAt (a .t .now) (a .p)) (sym (c .before .before .r .given .1) ∙ f .find-paragraph .ensures .0 ∙
-    ap (λ (n : ℕ). paragraphs (a .t .now) true (n - 1) (a .p .row)) (f .before .most .ensures))
+    let a = f .before .before .before .before .args in
+    c .down-at .ensures ∙ ap (downAt (a .t .now) (a .p))
+    (led (a .t .now) true (a .p .row) (c .before .before .l .given .1) (f .find-paragraph .ensures .0) (f .before .most .ensures))
 
 returns-2 : tie.Need-returns-2
 returns-2 c =
     let f = c .before .before in
-    let a = f .before .before .before .args in
-    ap (downAt (a .t .now) (a .p)) (sym (c .enum-told .given .1) ∙ f .find-paragraph .ensures .0 ∙
-    ap (λ (n : ℕ). paragraphs (a .t .now) true (n - 1) (a .p .row)) (f .before .most .ensures))
+    let a = f .before .before .before .before .args in
+    ap (downAt (a .t .now) (a .p)) (led (a .t .now) true (a .p .row) (c .enum-told .given .1) (f .find-paragraph .ensures .0) (f .before .most .ensures))
 
 pub paragraph-next-spec : {M : Type 1} → statement M
 paragraph-next-spec =
     tie.close
-    (tie.spec (λ c κs. search needs) find-paragraph-requires (λ c. search needs) down-at-requires (λ c. search needs) returns returns-2)
+    (tie.spec (λ c κs. search needs) sub-last (λ c κs. search needs) find-paragraph-requires (λ c. search needs) down-at-requires
+    (λ c. search needs) returns returns-2)
