@@ -33,7 +33,7 @@ foldHides row s e closed = eqb closed 1 && (ltb s row && leb row e)
 abbrev pub hidden : List ℕ → ℕ → Bool
 hidden folds row = anyFold (foldHides row) folds
 
--- the first of the n rows from `row` on that no fold hides
+-- the first of the n rows from `row` on that no fold hides. n is exact: for the next visible row it is the rows behind, `rows - (row + 1)`
 unfoldable pub visibleFrom : List ℕ → ℕ → ℕ → Visible
 visibleFrom folds row zero = NoRow
 visibleFrom folds row (suc n) = cond (hidden folds row) (visibleFrom folds (row + 1) n) (Row row)

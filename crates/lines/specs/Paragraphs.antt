@@ -20,7 +20,7 @@ abbrev pub lastRow : List ℕ → ℕ
 lastRow t = contentRows t - 1
 
 -- a round from `row`, with `rest` rows left in its direction, `skip` where it has passed a row that isn't empty: it ends on an empty row once it
--- has, and runs off where no row is left
+-- has, and runs off where no row is left. `rest` is exact: one less with each row (`round-on`, `rest-less`)
 unfoldable pub roundFrom : List ℕ → Bool → Bool → ℕ → ℕ → Round
 roundFrom t fwd skip row zero = cond ((skip || not (isVoid t row)) && isVoid t row) (Found (lineAt t row)) (RanOff (lineAt t row))
 roundFrom t fwd skip row (suc rest) =

@@ -17,7 +17,8 @@ sectionUp t x n zero = zero
 sectionUp t x zero (suc row) = suc row
 sectionUp t x (suc n) (suc row) = sectionUp t x (cond (begins t x row) n (suc n)) row
 
--- a row down at a time until n rows that begin with x are found, or none of the `rest` rows below is left
+-- a row down at a time until n rows that begin with x are found, or none of the `rest` rows below is left.
+-- `rest` is exact: one less with each row (`down-step`)
 unfoldable pub sectionDown : List ℕ → ℕ → ℕ → ℕ → ℕ → ℕ
 sectionDown t x n row zero = row
 sectionDown t x zero row (suc rest) = row

@@ -1,5 +1,5 @@
 -- The loops of the word motions: how one goes, and each of those in the source. motions.rs, "Internals".
--- Definitions only; the laws are in `proofs/Walking.antt`. Assumes nothing.
+-- Definitions only; the laws are in `proofs/Walking.antt` and `proofs/Counters.antt`. Assumes nothing.
 use Prim.Native.Nat.{ℕ, zero, suc, _+_}
 use mathlib.Core.List.{List}
 use mathlib.Core.Bool.{Bool, false, cond, _&&_, _||_, not}
@@ -12,7 +12,8 @@ pub data Halt : Type 0 where
   Onto : Place → Halt
   Stuck : Place → Halt
 
--- `while test(cur) { cur = step(cur) }`. The counter is never used up where each step goes one way: see `Walking` in `proofs/Walking.antt`
+-- `while test(cur) { cur = step(cur) }`. The counter is never used up where each step goes one way: from a place of the text every counter above the text's
+-- length leads to the same end (`counter-unused`), and a loop is its test, a step and the loop again (`loop-turn`)
 unfoldable pub walk : (Place → Bool) → (Place → Went) → ℕ → Place → Halt
 walk test step zero p = Stuck p
 walk test step (suc n) p = cond (test p) (further (step p) (walk test step n) (Stuck p)) (Onto p)

@@ -15,7 +15,8 @@ unfoldable pub bytes : String → List ℕ
 bytes ended = []
 bytes (c then s) = code c ∷ bytes s
 
--- at most k decimal digits of n, in ASCII, with no zero in front
+-- at most k decimal digits of n, in ASCII, with no zero in front. k is never used up where n < 10 ^ k (`enough`); the equations of `decimal`
+-- are `decimal-small` and `decimal-more`
 unfoldable pub spell : ℕ → ℕ → List ℕ
 spell zero n = []
 spell (suc k) n = cond (ltb n 10) ((48 + n) ∷ []) (spell k (n / 10) ++ ((48 + n % 10) ∷ []))

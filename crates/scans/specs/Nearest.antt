@@ -5,7 +5,7 @@ use Prim.Native.Nat.{ℕ, zero, suc, _-_}
 use Rattle.scans.specs.declared.Found.{Found}
 use Rattle.scans.specs.declared.Found.the-variants.{At, Nothing}
 
--- the first of the n places from i on
+-- the first of the n places from i on. n is exact: in `firstIn` it is the places up to b (`from-suc`)
 unfoldable pub firstFrom : (ℕ → Bool) → ℕ → ℕ → Found
 firstFrom p i zero = Nothing
 firstFrom p i (suc n) = let rest = firstFrom p (suc i) n in cond (p i) (At i) rest
