@@ -4,7 +4,7 @@ use crate::refusals::{Inputs, refusal};
 use crate::{Caret, Viewport, Wrap, string};
 use hjkl_buffer::{Fold, KeywordSpec};
 use hjkl_engine::motions;
-use hjkl_engine::types::Pos;
+use hjkl_engine::types::{Pos, Query};
 use hjkl_engine::{SnapshotFoldProvider, View};
 
 type Answer<T> = Result<T, u32>;
@@ -19,7 +19,6 @@ fn accept(given: &Inputs) -> Answer<()> {
 /// The given buffer with the caret in it. Every position written must be inside the text.
 struct Desk {
     view: View,
-    lengths: Vec<usize>,
     sticky: Option<usize>,
 }
 
@@ -27,18 +26,16 @@ impl Desk {
     fn new(text: &[u32], caret: Caret) -> Desk {
         Desk {
             view: View::new(&string(text), Pos { line: caret.row, col: caret.col }),
-            lengths: text.split(|&x| x == 10).map(<[u32]>::len).collect(),
             sticky: caret.sticky.map(|s| s as usize),
         }
     }
 
     fn caret(&self) -> Caret {
-        for p in self.view.written.iter().chain([&self.view.at]) {
-            let inside = self.lengths.get(p.line as usize).is_some_and(|&n| p.col as usize <= n);
-            assert!(inside, "a position outside the text was written: {p:?}");
-        }
+        let View { at, outside, .. } = self.view;
+        assert!(outside.is_none(), "a position outside the text was written: {outside:?}");
+        assert!(self.view.is_inside(at), "the caret was left outside the text: {at:?}");
         let sticky = self.sticky.map(|s| u32::try_from(s).expect("a sticky column below 2^32"));
-        Caret { row: self.view.at.line, col: self.view.at.col, sticky }
+        Caret { row: at.line, col: at.col, sticky }
     }
 
     fn folds(&self, folds: &[u32]) -> SnapshotFoldProvider {
@@ -48,7 +45,7 @@ impl Desk {
             closed: f[2] == 1,
             auto_generated: false,
         });
-        SnapshotFoldProvider::new(folds.collect(), self.lengths.len())
+        SnapshotFoldProvider::new(folds.collect(), self.view.line_count() as usize)
     }
 }
 

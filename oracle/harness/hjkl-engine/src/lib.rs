@@ -63,17 +63,25 @@ pub use folds::SnapshotFoldProvider;
 
 use types::{Cursor, Pos, Query};
 
-/// A text and its cursor.
+/// A text and its cursor. Every position is tested when it is written, however many there are.
 pub struct View {
     rope: ropey::Rope,
+    lengths: Vec<usize>,
     pub at: Pos,
-    /// Every position that was written.
-    pub written: Vec<Pos>,
+    /// How many positions were written, and the first that was outside the text.
+    pub writes: u64,
+    pub outside: Option<Pos>,
 }
 
 impl View {
     pub fn new(text: &str, at: Pos) -> View {
-        View { rope: ropey::Rope::from_text(text), at, written: Vec::new() }
+        let lengths = text.split('\n').map(|row| row.chars().count()).collect();
+        View { rope: ropey::Rope::from_text(text), lengths, at, writes: 0, outside: None }
+    }
+
+    /// In a row of the text, at most at its character count.
+    pub fn is_inside(&self, pos: Pos) -> bool {
+        self.lengths.get(pos.line as usize).is_some_and(|&n| pos.col as usize <= n)
     }
 }
 
@@ -84,8 +92,9 @@ impl Cursor for View {
 
     fn set_cursor(&mut self, pos: Pos) {
         self.at = pos;
-        if self.written.len() < 1024 {
-            self.written.push(pos);
+        self.writes += 1;
+        if self.outside.is_none() && !self.is_inside(pos) {
+            self.outside = Some(pos);
         }
     }
 }
