@@ -12,20 +12,16 @@ use Rattle.vertical.proofs.Inside.{rows-inside}
 use Rattle.vertical.proofs.Edges.{viewport-within}
 use Rattle.vertical.specs.declared.Edge.{Edge}
 use Rattle.screen.proofs.Inside.{move-inside}
-use Rattle.positions.proofs.Lowest.{lowest-none}
-use Rattle.positions.proofs.Checks.{inside-at}
 use Rattle.jumps.proofs.Staying.{row-in}
 use Rattle.motions.specs.declared.Caret.{Caret}
-use Rattle.motions.specs.Carets.{here, caretRefusal, refusalOf, Inside}
+use Rattle.motions.specs.Carets.{refusalOf, Inside}
 use Rattle.motions.specs.UpDown.{stopRefusal, verticalRefusal, moveRows, moveScreenRows}
 use Rattle.motions.specs.ViewportMoves.{moveViewport}
-use Rattle.motions.proofs.Landing.{Lands, moving-lands}
+use Rattle.motions.proofs.Landing.{Lands, moving-lands, caret-in}
 
 module _ (t folds : List ℕ) (tabstop : ℕ) (k : Caret) where
-  own : verticalRefusal t folds tabstop k ≡ 0 → Inside t k
-  own z =
-      let rest = foldRefusal folds (rowCount t) ∷ stopRefusal tabstop ∷ [] in
-      inside-at t (here k) (lowest-none (caretRefusal t k) rest (lowest-none (textRefusal t) (caretRefusal t k ∷ rest) z .1) .0)
+  pub own : verticalRefusal t folds tabstop k ≡ 0 → Inside t k
+  own z = caret-in t k (textRefusal t) (foldRefusal folds (rowCount t) ∷ stopRefusal tabstop ∷ []) z
 
   pub rows-lands : (down : Bool) (count : ℕ) → Lands t (moveRows t folds tabstop down count k)
   rows-lands down count =

@@ -3,7 +3,6 @@ use mathlib.Core.Path.{_≡_}
 use mathlib.Core.List.{List, [], _∷_}
 use mathlib.Core.Bool.{Bool}
 use Prim.Native.Nat.{ℕ}
-use borrow.Author.Tests.{eq-eqb}
 use Rattle.accept.specs.Accept.{textRefusal}
 use Rattle.text.specs.Text.{rowCount}
 use Rattle.folds.specs.Folds.{foldRefusal}
@@ -14,20 +13,10 @@ use Rattle.loops.proofs.Within.{In}
 use Rattle.turns.specs.declared.Motion.{Motion}
 use Rattle.turns.specs.Rounds.{wordMotion}
 use Rattle.turns.proofs.Inside.{word-motion-in}
-use Rattle.positions.specs.Positions.{lowest}
-use Rattle.positions.proofs.Lowest.{lowest-none}
-use Rattle.positions.proofs.Checks.{inside}
 use Rattle.motions.specs.declared.Caret.{Caret}
-use Rattle.motions.specs.Carets.{here, caretRefusal, Inside}
+use Rattle.motions.specs.Carets.{Inside}
 use Rattle.motions.specs.WordMoves.{wordRefusal, wordCaret, moveWord}
-use Rattle.motions.proofs.Landing.{Lands, moving-lands}
-
--- the first two of a list of refusals
-lowest-two : (a b : ℕ) (rest : List ℕ) → lowest (a ∷ b ∷ rest) ≡ 0 → lowest (a ∷ b ∷ []) ≡ 0
-unfolding lowest
-lowest-two a b rest e =
-    let p = lowest-none a (b ∷ rest) e in
-    rw (eq-eqb a 0 (p .0), eq-eqb b 0 (lowest-none b rest (p .1) .0))
+use Rattle.motions.proofs.Landing.{Lands, moving-lands, caret-in}
 
 module _ (t folds list : List ℕ) (k : Caret) where
   pub word-lands : (big : Bool) (m : Motion) (stop : Bool) (count : ℕ) → Lands t (moveWord t folds list big m stop count k)
@@ -35,7 +24,7 @@ module _ (t folds list : List ℕ) (k : Caret) where
     where
       there : wordRefusal t folds list k ≡ 0 → Inside t (wordCaret t folds (inList list) big m stop count k)
       there e =
-          let i = inside t (here k) (lowest-two (textRefusal t) (caretRefusal t k) (foldRefusal folds (rowCount t) ∷ parseOf list .refusal ∷ []) e) in
+          let i = caret-in t k (textRefusal t) (foldRefusal folds (rowCount t) ∷ parseOf list .refusal ∷ []) e in
           let j : In t (wordMotion t folds (kindOf (inList list) big) big m stop count (place (k .row) (k .col))) =
           word-motion-in t folds (kindOf (inList list) big) big m stop count (place (k .row) (k .col))
           (record { in-row = i .in-row; in-col = i .in-col }) in

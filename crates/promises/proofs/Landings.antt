@@ -1,25 +1,19 @@
--- Where a motion by number leads to is in the text. Assumes nothing.
+-- Where a motion by number leads to is in the text: those by their position alone, and the viewport's. Assumes nothing.
 use mathlib.Core.Path.{_≡_}
-use mathlib.Core.List.{List, []}
+use mathlib.Core.List.{List}
 use mathlib.Core.Bool.{Bool, true, false, cond}
 use Prim.Native.Nat.{ℕ}
 use native.Mathlib.Omega.{arith}
-use lib.Dec.{eqb, leb}
+use lib.Dec.{eqb}
 use Rattle.ways.specs.declared.Step.the-variants as step
 use Rattle.ways.specs.declared.Jump.the-variants as jump
 use Rattle.motions.specs.declared.Caret.{Caret}
 use Rattle.motions.specs.declared.Moved.the-variants.{Refused}
 use Rattle.motions.proofs.Landing.{Lands, step-lands, jump-lands}
-use Rattle.motions.proofs.WordLanding.{word-lands as each-word-lands}
-use Rattle.motions.proofs.Reaching.{rows-lands, screen-lands, viewport-lands}
-use Rattle.turns.specs.declared.Motion.the-variants.{Fwd, Back, End, EndBack}
+use Rattle.motions.proofs.Reaching.{viewport-lands}
 use Rattle.vertical.specs.declared.Edge.the-variants.{Top, Middle, Bottom}
-use Rattle.row_calls.specs.Wraps.{modeOf}
 use Rattle.text_calls.specs.Moves.{motion}
-use Rattle.fold_calls.specs.Terms.{word}
 use Rattle.text_calls.specs.Viewports.{viewport}
-use Rattle.fold_calls.specs.Upright.{vertical}
-use Rattle.fold_calls.specs.Upright
 
 -- one of two answers
 pub either : {A : Type 0} (P : A → Type 0) (b : Bool) (x y : A) → P x → P y → P (cond b x y)
@@ -56,27 +50,6 @@ module _ (t : List ℕ) where
       (either P (eqb op 19) _ _ (jump-lands t k jump.Top 1)
       (either P (eqb op 20) _ _ (jump-lands t k jump.Bottom n)
       (none-lands 100)))))))))))))))))))))
-
-  pub word-lands : (op : ℕ) (big : Bool) (n : ℕ) (folds list : List ℕ) (k : Caret) → Lands t (word op big n k t folds list)
-  unfolding word
-  word-lands op big n folds list k =
-      let P = Lands t in
-      either P (eqb op 0) _ _ (each-word-lands t folds list k big Fwd false n)
-      (either P (eqb op 1) _ _ (each-word-lands t folds list k big Back false n)
-      (either P (eqb op 2) _ _ (each-word-lands t folds list k big End false n)
-      (either P (eqb op 3) _ _ (each-word-lands t folds list k big End true n)
-      (either P (eqb op 4) _ _ (each-word-lands t [] list k big EndBack false n) (none-lands 100)))))
-
-  pub upright-lands : (op mode width n tabstop : ℕ) (folds : List ℕ) (k : Caret) → Lands t (vertical op mode width n tabstop k t folds)
-  unfolding vertical Upright.upright
-  upright-lands op mode width n tabstop folds k =
-      let P = Lands t in
-      either P (leb mode 2) _ _
-      (either P (eqb op 0) _ _ (rows-lands t folds tabstop k false n)
-      (either P (eqb op 1) _ _ (rows-lands t folds tabstop k true n)
-      (either P (eqb op 2) _ _ (screen-lands t folds tabstop k (modeOf mode) width false n)
-      (either P (eqb op 3) _ _ (screen-lands t folds tabstop k (modeOf mode) width true n) (none-lands 100)))))
-      (none-lands 100)
 
   pub edge-lands : (op top height offset : ℕ) (k : Caret) → Lands t (viewport op top height offset k t)
   unfolding viewport

@@ -3,4 +3,7 @@ pub mod Examples
 pub mod Results
 pub mod Landings
 pub mod Searches
+pub mod Trails
+pub mod Writing
+pub mod Uprights
 pub mod Positions

@@ -1,29 +1,58 @@
--- Every position that a call writes stands in the text: the law that each motion has of its own, over all calls. Assumes nothing.
-use mathlib.Core.Path.{refl}
+-- Every position that a call writes stands in the text, and the last is that of its answer: the laws of the motions, over all calls. Assumes nothing.
+use mathlib.Core.Path.{_≡_, refl}
 use mathlib.Core.List.{List}
+use mathlib.Core.Bool.{Bool}
 use Prim.Native.Nat.{ℕ}
+use Rattle.tokens.specs.Tokens.{inList}
+use Rattle.places.specs.Places.{kindOf}
+use Rattle.partners.specs.declared.Partner.{Partner}
+use Rattle.partners.specs.declared.Partner.the-variants.{There, None, Refused as Partner·Refused}
+use Rattle.brackets.specs.Matching.{matchingBracketPos}
+use Rattle.motions.specs.declared.Caret.{Caret}
 use Rattle.motions.specs.declared.Moved.{Moved}
-use Rattle.motions.specs.declared.Moved.the-variants.{To, Refused}
-use Rattle.motions.proofs.Landing.{Lands}
+use Rattle.motions.specs.declared.Sought.{Sought}
+use Rattle.motions.specs.declared.Sought.the-variants.{Found, Missing, Refused as Sought·Refused}
+use Rattle.row_calls.specs.Wraps.{modeOf}
 use Rattle.text_calls.specs.Moves.{motion}
-use Rattle.fold_calls.specs.Terms.{word}
+use Rattle.text_calls.specs.Seeks.{seek}
 use Rattle.text_calls.specs.Viewports.{viewport}
+use Rattle.fold_calls.specs.Terms.{word}
 use Rattle.fold_calls.specs.Upright.{vertical}
-use Rattle.promises.specs.Positions.{plain, by-word, upright, edge, search, partner, inMoved, positions, AllIn, EveryPositionInside}
-use Rattle.promises.proofs.Landings.{motion-lands, word-lands, upright-lands, edge-lands}
-use Rattle.promises.proofs.Searches.{stands, seek-sits, pair-sits}
+use Rattle.promises.specs.Positions.{plain, by-word, upright, edge, search, partner, inSought, inPartner, positions}
+use Rattle.promises.specs.Writes.{byRow, plainWrites, termWrites, uprightWrites, written, ends, lastOf, EveryPositionInside}
+use Rattle.promises.proofs.Landings.{edge-lands}
+use Rattle.promises.proofs.Searches.{seek-sits, pair-sits}
+use Rattle.promises.proofs.Writing.{kept, by-row, plain-keeps, term-keeps}
+use Rattle.promises.proofs.Uprights.{vertical-keeps}
 
-module _ (t : List ℕ) where
-  in-moved : (m : Moved) → Lands t m → AllIn t (inMoved m)
-  in-moved (To k) h = stands t k (h k refl)
-  in-moved (Refused f) h = tt
+-- an answer with one position at most
+last-sought : (m : Sought) → lastOf (inSought m) ≡ inSought m
+unfolding ends
+last-sought (Found k) = refl
+last-sought (Missing k) = refl
+last-sought (Sought·Refused f) = refl
+
+last-partner : (p : Partner) → lastOf (inPartner p) ≡ inPartner p
+unfolding ends
+last-partner (There p) = refl
+last-partner None = refl
+last-partner (Partner·Refused f) = refl
 
 pub every-inside : EveryPositionInside
-unfolding positions
-every-inside (plain op count) k t = in-moved t (motion op count k t) (motion-lands t op count k)
-every-inside (by-word op big count folds list) k t = in-moved t (word op big count k t folds list) (word-lands t op big count folds list k)
-every-inside (upright op mode width count tabstop folds) k t =
-    in-moved t (vertical op mode width count tabstop k t folds) (upright-lands t op mode width count tabstop folds k)
-every-inside (edge op top height offset) k t = in-moved t (viewport op top height offset k t) (edge-lands t op top height offset k)
-every-inside (search op x) k t = seek-sits t k op x
-every-inside partner k t = pair-sits t (k .row) (k .col)
+unfolding written positions
+every-inside (plain op n) k t =
+    let w = kept t (motion op n k t) (plainWrites op n k t) (plain-keeps t k n op) in
+    record { inside = w .0; last = w .1 }
+every-inside (by-word op big n folds list) k t =
+    let w = kept t (word op big n k t folds list) (λ c. termWrites op big n k t folds (kindOf (inList list) big)) (term-keeps t k n list big op folds) in
+    record { inside = w .0; last = w .1 }
+every-inside (upright op mode width n tabstop folds) k t =
+    let w = kept t (vertical op mode width n tabstop k t folds) (uprightWrites op (modeOf mode) width n k t folds)
+    (vertical-keeps t k n folds tabstop op mode width) in
+    record { inside = w .0; last = w .1 }
+every-inside (edge op top height offset) k t =
+    let w = kept t (viewport op top height offset k t) byRow
+    (record { fits = λ c e. by-row t c (edge-lands t op top height offset k c e) }) in
+    record { inside = w .0; last = w .1 }
+every-inside (search op x) k t = record { inside = seek-sits t k op x; last = last-sought (seek op x k t) }
+every-inside partner k t = record { inside = pair-sits t (k .row) (k .col); last = last-partner (matchingBracketPos t (k .row) (k .col)) }

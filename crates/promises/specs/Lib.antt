@@ -2,3 +2,5 @@ pub mod Table
 pub mod Calls
 pub mod Results
 pub mod Positions
+pub mod Trails
+pub mod Writes

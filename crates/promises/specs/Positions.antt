@@ -1,17 +1,19 @@
--- Every position that a call writes stands in the text: the calls that answer with positions, and the positions that they answer with.
--- Definitions only; `inside` is in `proofs/Positions.antt`. Assumes nothing.
-use Prim.Native.Nat.{ℕ, _<_, _≤_}
+-- The calls that answer with positions, the positions that they answer with, and when a position stands in the text.
+-- Definitions only; what a call writes on the way is in `specs/Writes.antt`. Assumes nothing.
+use Prim.Native.Nat.{ℕ}
 use mathlib.Core.List.{List, [], _∷_}
 use mathlib.Core.Bool.{Bool}
-use Rattle.text.specs.Text.{rowCount, rowLen}
 use Rattle.partners.specs.declared.Partner.{Partner}
 use Rattle.partners.specs.declared.Partner.the-variants.{There, None, Refused as Partner·Refused}
 use Rattle.brackets.specs.Matching.{matchingBracketPos}
+use Rattle.positions.specs.declared.Position.{Position}
+use Rattle.positions.specs.Positions.{position, Inside}
 use Rattle.motions.specs.declared.Caret.{Caret}
 use Rattle.motions.specs.declared.Moved.{Moved}
 use Rattle.motions.specs.declared.Moved.the-variants.{To, Refused}
 use Rattle.motions.specs.declared.Sought.{Sought}
 use Rattle.motions.specs.declared.Sought.the-variants.{Found, Missing, Refused as Sought·Refused}
+use Rattle.motions.specs.Carets.{here}
 use Rattle.text_calls.specs.Moves.{motion}
 use Rattle.text_calls.specs.Seeks.{seek}
 use Rattle.fold_calls.specs.Terms.{word}
@@ -27,12 +29,8 @@ pub data Call : Type 0 where
   search : (op x : ℕ) → Call
   partner : Call
 
-pub record Position : Type 0 where
-  pub row : ℕ
-  pub col : ℕ
-
 abbrev pub standing : Caret → List Position
-standing k = record { row = k .row; col = k .col } ∷ []
+standing k = here k ∷ []
 
 -- the positions in an answer: none in a refusal
 abbrev pub inMoved : Moved → List Position
@@ -45,7 +43,7 @@ inSought (Missing k) = standing k
 inSought (Sought·Refused f) = []
 
 abbrev pub inPartner : Partner → List Position
-inPartner (There p) = record { row = p .row; col = p .col } ∷ []
+inPartner (There p) = position (p .row) (p .col) ∷ []
 inPartner None = []
 inPartner (Partner·Refused f) = []
 
@@ -57,13 +55,10 @@ positions (edge op top height offset) k t = inMoved (viewport op top height offs
 positions (search op x) k t = inSought (seek op x k t)
 positions partner k t = inPartner (matchingBracketPos t (k .row) (k .col))
 
-pub record In (t : List ℕ) (p : Position) : Type 0 where
-  pub in-row : p .row < rowCount t
-  pub in-col : p .col ≤ rowLen t (p .row)
+-- in one of its rows, and at most at the row's end
+abbrev pub In : List ℕ → Position → Type 0
+In t p = Inside t p
 
 abbrev pub AllIn : List ℕ → List Position → Type 0
 AllIn t [] = Unit
 AllIn t (p ∷ l) = In t p × AllIn t l
-
-abbrev pub EveryPositionInside : Type 0
-EveryPositionInside = (c : Call) (k : Caret) (t : List ℕ) → AllIn t (positions c k t)

@@ -18,7 +18,8 @@ use Rattle.strides.proofs.Inside.{next-start-in, prev-start-in, next-end-in, pr
 use Rattle.turns.specs.Rounds.{Turn, On, Off, toLast, toFirst, foldAt, jumpFwd, jumpBack, turn, roundOf, after, counted, wordMotion}
 use Rattle.turns.proofs.Folding.{span-within}
 
-abbrev Turns : List ℕ → Turn → Type 0
+-- where a round ends
+abbrev pub Turns : List ℕ → Turn → Type 0
 Turns t (On q) = In t q
 Turns t (Off q) = In t q
 
@@ -35,14 +36,14 @@ module _ (t : List ℕ) where
           let k = content-near t in
           span-within folds (rowCount t) (contentRows t) (p .row) a b e (i .in-row) (k .2) (k .1)
 
-      jump-fwd-in : In t (jumpFwd t folds p)
+      pub jump-fwd-in : In t (jumpFwd t folds p)
       jump-fwd-in = go (foldAt t folds p) refl
         where
           go : (s : Span) → foldAt t folds p ≡ s → In t (toLast t p s)
           go (Of a b) e = record { in-row = span a b e .1; in-col = omega arith }
           go NoSpan e = i
 
-      jump-back-in : In t (jumpBack t folds p)
+      pub jump-back-in : In t (jumpBack t folds p)
       jump-back-in = go (foldAt t folds p) refl
         where
           go : (s : Span) → foldAt t folds p ≡ s → In t (toFirst p s)
@@ -50,7 +51,7 @@ module _ (t : List ℕ) where
           go NoSpan e = i
 
     module _ (kind : ℕ → ℕ) (big : Bool) where
-      round-in : (m : Motion) (stop : Bool) (p : Place) → In t p → Turns t (roundOf t folds kind big m stop p)
+      pub round-in : (m : Motion) (stop : Bool) (p : Place) → In t p → Turns t (roundOf t folds kind big m stop p)
       unfolding roundOf
       round-in Fwd stop p i =
           let j = jump-fwd-in p i in

@@ -1,0 +1,86 @@
+-- What up, down and the screen moves write stands in the text, and the last position written is that of the answer. Assumes nothing.
+use mathlib.Core.Path.{ap}
+use mathlib.Core.List.{List, [], _∷_}
+use mathlib.Core.Bool.{Bool, true, false, cond, _||_}
+use Prim.Native.Nat.{ℕ, max}
+use lib.Dec.{eqb, leb}
+use Rattle.chars.specs.White.{isWhite}
+use Rattle.chars.specs.Width.{widthOf}
+use Rattle.wrap.specs.declared.Wrap.{Wrap}
+use Rattle.wrap.specs.Modes.{isNone, segmentsOf}
+use Rattle.visible.specs.Visible.{deltaOf}
+use Rattle.vertical.specs.Moves.{moveVertical}
+use Rattle.vertical.proofs.Inside as Upright
+use Rattle.vertical.proofs.Inside.{rows-inside}
+use Rattle.screen.specs.declared.Place.{Place}
+use Rattle.screen.specs.Screen.{jumped, screenTarget}
+use Rattle.screen.proofs.Inside.{round-inside, jump-inside}
+use Rattle.positions.specs.declared.Position.{Position}
+use Rattle.positions.specs.Positions.{Inside}
+use Rattle.motions.specs.declared.Caret.{Caret}
+use Rattle.motions.specs.declared.Moved.{Moved}
+use Rattle.motions.specs.UpDown.{verticalRefusal, atTarget, screenCaret, moveRows, moveScreenRows}
+use Rattle.motions.proofs.Landing.{moving-to}
+use Rattle.motions.proofs.Reaching.{own, rows-lands}
+use Rattle.row_calls.specs.Wraps.{modeOf}
+use Rattle.fold_calls.specs.Upright.{upright, vertical}
+use Rattle.promises.specs.Positions.{standing}
+use Rattle.promises.specs.Trails.{onScreen, stepOf, screenWrites}
+use Rattle.promises.specs.Writes.{screenMoves, uprightWrites}
+use Rattle.promises.proofs.Landings.{either}
+use Rattle.promises.proofs.Trails.{trail-ends, trail-in}
+use Rattle.promises.proofs.Writing.{Fits, Keeps, refused, both, once}
+
+module _ (t : List ℕ) (k : Caret) (n : ℕ) (folds : List ℕ) (tabstop : ℕ) where
+  rows-once : (down : Bool) → Keeps t (moveRows t folds tabstop down n k) standing
+  rows-once down = record { fits = λ c e. once t c (rows-lands t folds tabstop k down n c e) }
+
+  module _ (mode : Wrap) (width : ℕ) where
+    abbrev lay : List ℕ → List ℕ
+    lay = segmentsOf widthOf isWhite mode width
+
+    -- where the walk begins
+    abbrev from : Bool → Place
+    from down = jumped t folds down (record { row = k .row; col = k .col })
+
+    step-in : (down : Bool) (o p : Place) → Inside t (onScreen p) → Inside t (onScreen (stepOf t folds lay down o p))
+    step-in down o p i =
+        let r = round-inside t folds lay down _ p (record { in-row = i .in-row; in-col = i .in-col }) in
+        record { in-row = r .in-row; in-col = r .in-col }
+
+    by-screen : (down : Bool) → Keeps t (moveScreenRows t folds tabstop mode width down n k) (screenMoves mode width down n k t folds)
+    by-screen down = record {
+      fits =
+          moving-to (λ c. Fits t (screenMoves mode width down n k t folds c) c) (verticalRefusal t folds tabstop k)
+          (screenCaret t folds tabstop mode width down n k)
+          (λ z. let i = own t folds tabstop k z in go (eqb width 0 || isNone mode) (record { in-row = i .in-row; in-col = i .in-col }));
+    }
+      where
+        go : (b : Bool) → Upright.Inside t (k .row) (k .col) →
+            let c = atTarget (cond b (moveVertical t folds tabstop (deltaOf down n) (k .row) (k .col) (k .sticky))
+            (screenTarget t folds tabstop lay down n (k .row) (k .col) (k .sticky))) in
+            Fits t (cond b (standing c) (screenWrites t folds lay down n (record { row = k .row; col = k .col }))) c
+        go true i =
+            let r = rows-inside t folds tabstop (k .row) (k .col) (k .sticky) (deltaOf down n) i in
+            once t (atTarget (moveVertical t folds tabstop (deltaOf down n) (k .row) (k .col) (k .sticky)))
+            (record { in-row = r .in-row; in-col = r .in-col })
+        go false i =
+            let j = jump-inside t folds down (record { row = k .row; col = k .col }) i in
+            let here : Inside t (onScreen (from down)) = record { in-row = j .in-row; in-col = j .in-col } in (
+              (here, trail-in onScreen (stepOf t folds lay down (from down)) t (step-in down (from down)) (max n 1) (from down) here),
+              ap (λ (q : Position). q ∷ []) (trail-ends onScreen (stepOf t folds lay down (from down)) (max n 1) (from down)),
+            )
+
+    upright-keeps : (op : ℕ) → Keeps t (upright op mode width n tabstop k t folds) (uprightWrites op mode width n k t folds)
+    unfolding upright uprightWrites
+    upright-keeps op =
+        both t (eqb op 0) (rows-once false)
+        (both t (eqb op 1) (rows-once true)
+        (both t (eqb op 2) (by-screen false)
+        (either (λ (m : Moved). Keeps t m (screenMoves mode width true n k t folds)) (eqb op 3) _ _ (by-screen true) (refused t 100 _))))
+
+  pub vertical-keeps : (op mode width : ℕ) → Keeps t (vertical op mode width n tabstop k t folds) (uprightWrites op (modeOf mode) width n k t folds)
+  unfolding vertical
+  vertical-keeps op mode width =
+      either (λ (m : Moved). Keeps t m (uprightWrites op (modeOf mode) width n k t folds)) (leb mode 2) _ _ (upright-keeps (modeOf mode) width op)
+      (refused t 100 _)

@@ -1,0 +1,59 @@
+-- The positions that the Rust writes in the middle of a counted motion, in the order of its `set_cursor`s, by the rounds that the contracts cite.
+-- Where a jump or a round leaves the caret as it is the Rust may write nothing; the lists have that position once more.
+-- Definitions only; the laws are in `proofs/Trails.antt`. Assumes nothing.
+use Prim.Native.Nat.{ℕ, zero, suc, _-_, max}
+use mathlib.Core.List.{List, [], _∷_}
+use mathlib.Core.Bool.{Bool, false}
+use Rattle.text.specs.Text.{rowAt}
+use Rattle.places.specs.Places
+use Rattle.turns.specs.declared.Motion.{Motion}
+use Rattle.turns.specs.declared.Motion.the-variants.{Fwd, Back, End, EndBack}
+use Rattle.turns.specs.Rounds.{Turn, On, Off, jumpFwd, jumpBack, roundOf}
+use Rattle.segments.specs.Parts.{offsetIn}
+use Rattle.screen.specs.declared.Place.{Place}
+use Rattle.screen.specs.Screen.{stepScreen, jumped}
+use Rattle.positions.specs.declared.Position.{Position}
+use Rattle.positions.specs.Positions.{position}
+
+-- where each of n rounds leads to, `show` the position of a place
+unfoldable pub trail : {A : Type 0} → (A → Position) → (A → A) → ℕ → A → List Position
+trail show f zero p = []
+trail show f (suc n) p = show (f p) ∷ trail show f n (f p)
+
+-- the place that a word is sought from: out of the closed fold, where there is one
+abbrev pub origin : List ℕ → List ℕ → Motion → Places.Place → Places.Place
+origin t folds Fwd p = jumpFwd t folds p
+origin t folds Back p = jumpBack t folds p
+origin t folds End p = jumpFwd t folds p
+origin t folds EndBack p = p
+
+abbrev pub atPlace : Places.Place → Position
+atPlace p = position (p .row) (p .col)
+
+-- the word found, then what the rounds after it write; none is found, and no more is written
+abbrev pub found : Turn → (Places.Place → List Position) → List Position
+found (On q) rest = atPlace q ∷ rest q
+found (Off q) rest = []
+
+-- each round of a word motion writes the fold's jump, then the word found
+unfoldable pub countedWrites : (Places.Place → Places.Place) → (Places.Place → Turn) → ℕ → Places.Place → List Position
+countedWrites from round zero p = []
+countedWrites from round (suc n) p = atPlace (from p) ∷ found (round p) (countedWrites from round n)
+
+-- as in `wordMotion`, `stop` holds in the first round alone
+unfoldable pub wordWrites : List ℕ → List ℕ → (ℕ → ℕ) → Bool → Motion → Bool → ℕ → Places.Place → List Position
+wordWrites t folds kind big m stop count p =
+    atPlace (origin t folds m p) ∷
+    found (roundOf t folds kind big m stop p) (countedWrites (origin t folds m) (roundOf t folds kind big m false) (max count 1 - 1))
+
+-- a screen move under wrap writes the fold's jump, then each step
+abbrev pub onScreen : Place → Position
+onScreen p = position (p .row) (p .col)
+
+-- a step of the walk from p: it keeps the offset that p has in its segment
+abbrev pub stepOf : List ℕ → List ℕ → (List ℕ → List ℕ) → Bool → Place → Place → Place
+stepOf t folds lay down p = stepScreen t folds lay down (offsetIn (lay (rowAt t (p .row))) (rowAt t (p .row)) (p .col))
+
+abbrev pub screenWrites : List ℕ → List ℕ → (List ℕ → List ℕ) → Bool → ℕ → Place → List Position
+screenWrites t folds lay down count p =
+    onScreen (jumped t folds down p) ∷ trail onScreen (stepOf t folds lay down (jumped t folds down p)) (max count 1) (jumped t folds down p)
