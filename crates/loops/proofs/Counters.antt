@@ -1,10 +1,9 @@
 -- The counter of a loop is never used up: each step goes one way, so every counter above the text's length leads to the same end, and a loop is its test,
 -- one step and the loop again. Assumes nothing.
-use mathlib.Core.Path.{_≡_, refl, sym, _∙_}
+use mathlib.Core.Path.{_≡_, refl, sym}
 use mathlib.Core.List.{List}
 use mathlib.Core.Bool.{Bool, true, false, cond, _&&_, _||_, not}
 use Prim.Native.Nat.{ℕ, zero, suc, _+_, _-_, _≤_, _<_}
-use native.Mathlib.Numerals.{add-one}
 use native.Mathlib.Omega.{arith}
 use lib.Dec.{eqb, ltb}
 use lib.ListN.{length}
@@ -14,8 +13,8 @@ use Rattle.text.specs.Offsets.{rowStart}
 use Rattle.text.proofs.Parts.{row-fits, next-start}
 use Rattle.text.proofs.Before.{start-after}
 use Rattle.places.specs.Places.{Place, place, Went, To, Nowhere, kindAt, cls, onEmptyRow, nextRow, stepForward, dec, further}
-use Rattle.loops.specs.Walks.{Halt, Onto, Stuck, walk, skip, leave, goesOn, run, back}
-use Rattle.loops.proofs.Within.{In, WentTo, forward-in, dec-in}
+use Rattle.loops.specs.Walks.{Onto, Stuck, walk, skip, leave, goesOn, run, back}
+use Rattle.loops.proofs.Within.{In, forward-in, dec-in}
 
 -- a step that goes one way: from a place of the text to one, with fewer places ahead
 pub record OneWay (t : List ℕ) (step : Place → Went) : Type 0 where

@@ -1,15 +1,10 @@
 -- Every position that a call writes stands in the text, and the last is that of its answer: the laws of the motions, over all calls. Assumes nothing.
 use mathlib.Core.Path.{_≡_, refl}
-use mathlib.Core.List.{List}
-use mathlib.Core.Bool.{Bool}
-use Prim.Native.Nat.{ℕ}
 use Rattle.tokens.specs.Tokens.{inList}
 use Rattle.places.specs.Places.{kindOf}
 use Rattle.partners.specs.declared.Partner.{Partner}
 use Rattle.partners.specs.declared.Partner.the-variants.{There, None, Refused as Partner·Refused}
 use Rattle.brackets.specs.Matching.{matchingBracketPos}
-use Rattle.motions.specs.declared.Caret.{Caret}
-use Rattle.motions.specs.declared.Moved.{Moved}
 use Rattle.motions.specs.declared.Sought.{Sought}
 use Rattle.motions.specs.declared.Sought.the-variants.{Found, Missing, Refused as Sought·Refused}
 use Rattle.row_calls.specs.Wraps.{modeOf}
