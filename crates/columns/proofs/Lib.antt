@@ -4,4 +4,3 @@ pub mod Cursor
 pub mod Leading
 pub mod Accepted
 pub mod Laws
-pub mod Examples

@@ -1,12 +1,10 @@
 -- What a motion answers, once the checks of its call are done.
 -- Assumes nothing.
-use mathlib.Core.Path.{_≡_, refl, ap, sym, subst, _∙_}
+use mathlib.Core.Path.{_≡_, ap, sym, subst, _∙_}
 use mathlib.Core.List.{List}
-use mathlib.Core.Bool.{Bool, true, false, cond}
 use Prim.Native.Nat.{ℕ, _≤_, _<_, _^_}
-use lib.Dec.{eqb}
 use lib.ListN.{length}
-use borrow.Author.Tests.{eq-eqb, ne-eqb, eqb-true}
+use borrow.Author.Tests.{eq-eqb, ne-eqb}
 use Rattle.positions.specs.declared.Entry.{Entry}
 use Rattle.positions.specs.declared.Position.{Position}
 use Rattle.positions.specs.Positions
@@ -14,7 +12,7 @@ use Rattle.positions.proofs.Checks.{entry-number}
 use Rattle.steps.proofs.Staying.{inside-fits}
 use Rattle.motions.specs.declared.Caret.{Caret}
 use Rattle.motions.specs.declared.Moved.the-variants.{To, Refused}
-use Rattle.motions.specs.Carets.{here, refusalOf, moving, numberOf, caretAfter, entryOf}
+use Rattle.motions.specs.Carets.{here, refusalOf, moving, entryOf}
 
 -- what a method goes by, once it has called `enter`
 module _ (t : List ℕ) (k : Caret) (e : Entry) (is : e ≡ entryOf t k) where
@@ -29,20 +27,3 @@ module _ (t : List ℕ) (k : Caret) (e : Entry) (is : e ≡ entryOf t k) where
 -- a position in the text, so that its numbers fit a u32
 pub fits : {t : List ℕ} {q r : Position} → length t ≤ 1048576 → q ≡ r → Positions.Inside t r → (q .row < 2 ^ 32) × (q .col < 2 ^ 32)
 fits {t} {q} {r} b e i = inside-fits {t = t} {p = q} b (subst (λ (x : Position). Positions.Inside t x) (sym e) i)
-
--- an answer by its number and caret: the number is the call's refusal, and a refusal leaves the caret as it was
-pub answer-number : (f : ℕ) (k : Caret) → numberOf (moving f k) ≡ f
-unfolding moving
-answer-number f k = go (eqb f 0) refl
-  where
-    go : (b : Bool) → eqb f 0 ≡ b → numberOf (cond b (To k) (Refused f)) ≡ f
-    go true e = sym (eqb-true f 0 e)
-    go false e = refl
-
-pub answer-caret : (f : ℕ) (old k : Caret) → caretAfter old (moving f k) ≡ cond (eqb f 0) k old
-unfolding moving
-answer-caret f old k = go (eqb f 0)
-  where
-    go : (b : Bool) → caretAfter old (cond b (To k) (Refused f)) ≡ cond b k old
-    go true = refl
-    go false = refl

@@ -1,5 +1,5 @@
 -- Worked examples of the definitions, as theorems: each holds by computation.
--- From document 01, "Examples": P9, and `_` from the last empty row. Assumes nothing.
+-- `_` from the last empty row, and from outside the text. Assumes nothing.
 use mathlib.Core.Path.{_≡_, refl}
 use mathlib.Core.List.{[], _∷_}
 use Prim.Native.Nat.{ℕ}
@@ -8,31 +8,16 @@ use Rattle.accept.specs.Accept.{textRefusal}
 use Rattle.text.specs.Text.{onFirst, rows}
 use Rattle.text.specs.Offsets.{startIn}
 use Rattle.margins.specs.Margins.{indentOf}
-use Rattle.lines.specs.Paragraphs.{roundFrom, paragraphs}
 use Rattle.positions.specs.Positions.{positionRefusal, lowest}
 use Rattle.motions.specs.declared.Caret.{Caret}
 use Rattle.vertical.specs.declared.Sticky.the-variants.{Absent}
 use Rattle.motions.specs.declared.Moved.the-variants.{To, Refused}
 use Rattle.motions.specs.Carets.{moving}
 use Rattle.motions.specs.Lines.{moveFirstNonBlankLine}
-use Rattle.motions.specs.Paragraphs.{moveParagraphNext}
 
 -- a caret with no sticky column
 abbrev pub at : ℕ → ℕ → Caret
 at r c = record { row = r; col = c; sticky = Absent }
-
--- P9: rows `a`, empty, `b`, from (0,0)
-pub next-one : moveParagraphNext (97 ∷ 10 ∷ 10 ∷ 98 ∷ []) 1 (at 0 0) ≡ To (at 1 0)
-unfolding any textRefusal onFirst rows startIn positionRefusal lowest moving roundFrom paragraphs
-next-one = refl
-
-pub next-two : moveParagraphNext (97 ∷ 10 ∷ 10 ∷ 98 ∷ []) 2 (at 0 0) ≡ To (at 2 0)
-unfolding any textRefusal onFirst rows startIn positionRefusal lowest moving roundFrom paragraphs
-next-two = refl
-
-pub next-three : moveParagraphNext (97 ∷ 10 ∷ 10 ∷ 98 ∷ []) 3 (at 0 0) ≡ To (at 0 0)
-unfolding any textRefusal onFirst rows startIn positionRefusal lowest moving roundFrom paragraphs
-next-three = refl
 
 -- `a` and a separator: `_` from the last empty row goes up; one row further the caret is refused
 pub line-from-last : moveFirstNonBlankLine (97 ∷ 10 ∷ []) 1 (at 1 0) ≡ To (at 0 0)

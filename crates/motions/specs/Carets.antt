@@ -34,11 +34,7 @@ entryOf t k = Positions.entryOf t (here k)
 unfoldable pub moving : ℕ → Caret → Moved
 moving f k = cond (eqb f 0) (To k) (Refused f)
 
--- document 01's number for each case of an answer, and the caret then: where it has led to, or unchanged
-abbrev pub numberOf : Moved → ℕ
-numberOf (To k) = 0
-numberOf (Refused f) = f
-
+-- the caret that one goes on from after an answer: where the motion has led to, or the old one of a refused call
 abbrev pub caretAfter : Caret → Moved → Caret
 caretAfter old (To k) = k
 caretAfter old (Refused f) = old

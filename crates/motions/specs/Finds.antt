@@ -17,12 +17,6 @@ use Rattle.motions.specs.declared.Sought.{Sought}
 use Rattle.motions.specs.declared.Sought.the-variants.{Found as Sought·Found, Missing, Refused}
 use Rattle.motions.specs.Carets.{here, refusalOf, placed}
 
--- found and missing by document 01's number, the Rust's truth, and the caret
-abbrev pub numberOfSought : Sought → ℕ
-numberOfSought (Sought·Found k) = 0
-numberOfSought (Missing k) = 0
-numberOfSought (Refused f) = f
-
 -- the caret at the partner, or as it was
 unfoldable pub partnerTo : Caret → Partner → Sought
 partnerTo k (There p) = Sought·Found (placed k (p .row) (p .col))

@@ -1,6 +1,6 @@
--- Answers of `matching_bracket_pos`: two that are the same, whether a position is in the text, and the number that an answer gives.
+-- Answers of `matching_bracket_pos`: two that are the same, whether a position is in the text, and when a call is refused.
 -- Assumes nothing.
-use mathlib.Core.Path.{_≡_, refl, sym, _∙_, ap}
+use mathlib.Core.Path.{_≡_, sym, _∙_, ap}
 use mathlib.Core.Bool.{Bool, true, false, cond, _&&_}
 use mathlib.Core.List.{List}
 use Prim.Native.Nat.{ℕ, _+_, _<_}
@@ -14,14 +14,20 @@ use Rattle.text.specs.Offsets.{rowStart}
 use Rattle.scans.specs.declared.Found.{Found}
 use Rattle.scans.specs.declared.Found.the-variants.{At, Nothing}
 use Rattle.partners.specs.declared.Pos.{Pos}
-use Rattle.partners.specs.declared.Partner.the-variants.{There, None}
+use Rattle.partners.specs.declared.Partner.the-variants.{There, None, Refused}
 use Rattle.partners.specs.Matching.{partnerOf, placed}
 use Rattle.brackets.specs.Matching.{matchingBracketPos, Inside}
 use Rattle.brackets.proofs.Call.{call-refused}
-use Rattle.pairing.specs.Demand.{numberOf}
+use Rattle.pairing.specs.Demand.{Refusal}
 
 pub there-once : {p q : Pos} → There p ≡ There q → p ≡ q
 there-once e = cc
+
+there-answers : {p : Pos} {f : ℕ} → There p ≡ Refused f → ⊥
+there-answers e = let z : _≡_ {A = ℕ} 0 1 = cc in omega arith
+
+refused-once : {f g : ℕ} → Refused f ≡ Refused g → f ≡ g
+refused-once e = cc
 
 pub there-some : {p : Pos} → There p ≡ None → ⊥
 there-some e = let z : _≡_ {A = ℕ} 0 1 = cc in omega arith
@@ -36,15 +42,31 @@ module _ (t : List ℕ) (row col : ℕ) where
       on (no p) d = no (λ h. p (h .in-row))
 
   -- refused exactly where the text is, and with its number
-  pub call-number : numberOf (matchingBracketPos t row col) ≡ textRefusal t
+  pub call-told : (f : ℕ) → matchingBracketPos t row col ≡ Refused f → Refusal t f
   unfolding matchingBracketPos placed
-  call-number = on (ℕ-discrete (textRefusal t) 0)
+  call-told f e = on (ℕ-discrete (textRefusal t) 0)
     where
-      met : (r : Found) (b : Bool) → numberOf (cond b (placed t r) None) ≡ 0
-      met (At j) true = refl
-      met Nothing true = refl
-      met r false = refl
+      met : (r : Found) (b : Bool) → cond b (placed t r) None ≡ Refused f → ⊥
+      met (At j) true q = let z : _≡_ {A = ℕ} 0 1 = cc in omega arith
+      met Nothing true q = let z : _≡_ {A = ℕ} 0 1 = cc in omega arith
+      met r false q = let z : _≡_ {A = ℕ} 0 1 = cc in omega arith
 
-      on : Dec (textRefusal t ≡ 0) → numberOf (matchingBracketPos t row col) ≡ textRefusal t
-      on (yes e) = rw (eq-eqb _ _ e) (met (partnerOf t (rowStart t row + col)) (ltb row (rowCount t) && ltb col (rowLen t row)) ∙ sym e)
-      on (no n) = ap numberOf (call-refused t row col n)
+      on : Dec (textRefusal t ≡ 0) → Refusal t f
+      on (yes z) =
+          let inner = cond (ltb row (rowCount t) && ltb col (rowLen t row)) (placed t (partnerOf t (rowStart t row + col))) None in
+          let same : matchingBracketPos t row col ≡ inner = rw (eq-eqb _ _ z) in
+          absurd (met (partnerOf t (rowStart t row + col)) (ltb row (rowCount t) && ltb col (rowLen t row)) (sym same ∙ e))
+      on (no n) =
+          let same : textRefusal t ≡ f = refused-once (sym (call-refused t row col n) ∙ e) in
+          record { number = same; some = λ z. n (same ∙ z) }
+
+  pub call-refusal : (f : ℕ) → Refusal t f → matchingBracketPos t row col ≡ Refused f
+  call-refusal f r = call-refused t row col (λ z. r .some (sym (r .number) ∙ z)) ∙ ap Refused (r .number)
+
+  -- so a text that a partner is told of is accepted
+  pub call-accepted : (q : Pos) → matchingBracketPos t row col ≡ There q → textRefusal t ≡ 0
+  call-accepted q e = on (ℕ-discrete (textRefusal t) 0)
+    where
+      on : Dec (textRefusal t ≡ 0) → textRefusal t ≡ 0
+      on (yes z) = z
+      on (no n) = absurd (there-answers (sym e ∙ call-refused t row col n))

@@ -19,12 +19,12 @@ use Rattle.pairing.proofs.Pairs.{pairs-stand}
 use Rattle.pairing.proofs.Partners.{partner-back, to-in, of-kind}
 use Rattle.pairing.proofs.Answers.{partner-told, partner-found, alone-told, alone-found}
 use Rattle.brackets.proofs.Call.{call-inside, call-outside}
-use Rattle.pairing.proofs.Call.{there-once, there-some, inside?, call-number}
+use Rattle.pairing.proofs.Call.{there-once, there-some, inside?, call-told, call-refusal}
 use Rattle.pairing.proofs.Positions.{offset-in, point-pos, pos-offset, offset-pos, pos-in, offset-once, offset-before}
 
 -- refused exactly where the text is
 pub refuses : (t : List ℕ) → Refuses t
-refuses t p = call-number t (p .row) (p .col)
+refuses t = record { refused = λ p. call-told t (p .row) (p .col); refused-only = λ p. call-refusal t (p .row) (p .col) }
 
 module _ (t : List ℕ) (ok : textRefusal t ≡ 0) where
   told : (p q : Pos) → answerAt t p ≡ There q → PartnerAt t p q

@@ -11,18 +11,18 @@ use Rattle.accept.specs.Accept.{textRefusal}
 use Rattle.text.specs.Text.{rowAt}
 use Rattle.scans.specs.declared.Found.{Found}
 use Rattle.scans.specs.declared.Found.the-variants.{At, Nothing}
-use Rattle.partners.specs.declared.Partner.the-variants.{There, None}
+use Rattle.partners.specs.declared.Partner.the-variants.{There, None, Refused}
 use Rattle.partners.specs.declared.Pos.{Pos}
 use Rattle.pairing.specs.Pairs.{IsPartner, forward, backward}
 use Rattle.pairing.specs.Demand.{PartnerAt}
 use Rattle.signs.specs.Find.{firstBracket}
 use Rattle.brackets.specs.Find.{keyTo, keyFrom}
-use Rattle.pairing.specs.Jump.{Plain, posAt, Lands, Stays, no-plain, no-partner, Key}
+use Rattle.pairing.specs.Jump.{Plain, posAt, Lands, Stays, no-plain, no-partner, KeyGoes}
 use Rattle.pairing.proofs.Partners.{kind-once}
 use Rattle.pairing.proofs.Call.{there-some}
 use Rattle.pairing.proofs.Positions.{point-pos}
 use Rattle.pairing.proofs.Plain.{plain-first, plain-none, plain-found}
-use Rattle.pairing.proofs.Demand.{unique}
+use Rattle.pairing.proofs.Demand.{refuses, unique}
 
 -- the partner of a round, square or curly bracket is one, and is another
 plain-partner : {t : List ℕ} {i j : ℕ} → IsPartner t i j → Plain (getD t i 0) → Plain (getD t j 0)
@@ -65,6 +65,14 @@ module _ (t : List ℕ) (ok : textRefusal t ≡ 0) (row col : ℕ) where
       on Nothing f = refl
   stays-only (no-partner i f n) = ap (keyTo t row) (plain-found t row col i f) ∙ unique t ok .none-only (posAt row i) n
 
+  answers : (f : ℕ) → keyFrom t row col ≡ Refused f → ⊥
+  unfolding keyTo
+  answers f e = on (firstBracket (rowAt t row) col) e
+    where
+      on : (r : Found) → keyTo t row r ≡ Refused f → ⊥
+      on (At i) g = let r = refuses t .refused (posAt row i) f g in r .some (sym (r .number) ∙ ok)
+      on Nothing g = let z : _≡_ {A = ℕ} 0 1 = cc in omega arith
+
   moves : keyFrom t row col ≡ There (posAt row col) → ⊥
   moves e = on (eq-or-lt-of-le (a .first .from))
     where
@@ -78,6 +86,7 @@ module _ (t : List ℕ) (ok : textRefusal t ≡ 0) (row col : ℕ) where
       on (inl s) = not-itself (rw (← s) at (m .partner))
       on (inr l) = a .first .first col (omega arith) l (rw (point-pos (m .to)) (plain-partner (m .partner) (rw (point-pos (m .from)) at (a .first .plain))))
 
--- where the key moves it lands on the partner of the first round, square or curly bracket, and it stays exactly where there is none
-pub key : (t : List ℕ) → textRefusal t ≡ 0 → Key t
-key t ok = record { lands = lands t ok; lands-only = lands-only t ok; moves = moves t ok; stays = stays t ok; stays-only = stays-only t ok }
+-- where the key goes it lands on the partner of the first round, square or curly bracket, and it stays exactly where there is none
+pub key-goes : (t : List ℕ) → textRefusal t ≡ 0 → KeyGoes t
+key-goes t ok =
+    record { lands = lands t ok; lands-only = lands-only t ok; moves = moves t ok; stays = stays t ok; stays-only = stays-only t ok; answers = answers t ok }

@@ -9,4 +9,3 @@ pub mod Positions
 pub mod Demand
 pub mod Plain
 pub mod Jump
-pub mod Examples

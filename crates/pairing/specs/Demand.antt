@@ -37,15 +37,15 @@ pub data NoPartner (t : List ℕ) (p : Pos) : Type 0 where
   outside : (inText t p → ⊥) → NoPartner t p
   alone : inText t p → Alone t (offsetOf t p) → NoPartner t p
 
--- the number of document 01 that an answer gives, 0 where it gives none
-abbrev pub numberOf : Partner → ℕ
-numberOf (There p) = 0
-numberOf None = 0
-numberOf (Refused n) = n
+-- the number f that the text is refused with
+pub record Refusal (t : List ℕ) (f : ℕ) : Type 0 where
+  pub number : textRefusal t ≡ f
+  pub some : f ≡ 0 → ⊥
 
--- the answer gives the number that the text is refused with
-abbrev pub Refuses : List ℕ → Type 0
-Refuses t = (p : Pos) → numberOf (answerAt t p) ≡ textRefusal t
+-- refused exactly where the text is, and with its number
+pub record Refuses (t : List ℕ) : Type 0 where
+  pub refused : (p : Pos) (f : ℕ) → answerAt t p ≡ Refused f → Refusal t f
+  pub refused-only : (p : Pos) (f : ℕ) → Refusal t f → answerAt t p ≡ Refused f
 
 -- at most one partner, and the answer is it; none exactly where there is none
 pub record Unique (t : List ℕ) : Type 0 where

@@ -9,7 +9,7 @@ use Rattle.text.specs.Text.{rowAt, rowLen}
 use Rattle.signs.specs.declared.Kind.{Kind}
 use Rattle.signs.specs.declared.Kind.the-variants.{Angle}
 use Rattle.partners.specs.declared.Pos.{Pos}
-use Rattle.partners.specs.declared.Partner.the-variants.{There, None}
+use Rattle.partners.specs.declared.Partner.the-variants.{There, None, Refused}
 use Rattle.signs.specs.Kinds.{openOf, closeOf}
 use Rattle.pairing.specs.Demand.{PartnerAt, NoPartner}
 use Rattle.brackets.specs.Find.{keyFrom}
@@ -44,10 +44,11 @@ pub data Stays (t : List ℕ) (row col : ℕ) : Type 0 where
   no-plain : ((m : ℕ) → col ≤ m → m < rowLen t row → plainAt t row m → ⊥) → Stays t row col
   no-partner : (i : ℕ) → FirstPlain t row col i → NoPartner t (posAt row i) → Stays t row col
 
--- where the key moves it lands on that partner, away from where it was; it stays exactly where there is none
-pub record Key (t : List ℕ) : Type 0 where
+-- where the key goes it lands on that partner, away from where it was; it stays exactly where there is none; it refuses nothing
+pub record KeyGoes (t : List ℕ) : Type 0 where
   pub lands : (row col : ℕ) (q : Pos) → keyFrom t row col ≡ There q → Lands t row col q
   pub lands-only : (row col : ℕ) (q : Pos) → Lands t row col q → keyFrom t row col ≡ There q
   pub moves : (row col : ℕ) → keyFrom t row col ≡ There (posAt row col) → ⊥
   pub stays : (row col : ℕ) → keyFrom t row col ≡ None → Stays t row col
   pub stays-only : (row col : ℕ) → Stays t row col → keyFrom t row col ≡ None
+  pub answers : (row col f : ℕ) → keyFrom t row col ≡ Refused f → ⊥

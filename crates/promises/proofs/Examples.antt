@@ -24,6 +24,7 @@ use Rattle.parts.specs.Numbers.{allDigits, value}
 use Rattle.parts.specs.Parts.{parts, trimStart, trimEnd, upTo}
 use Rattle.tokens.specs.Tokens.{tokensIn}
 use Rattle.tokens.specs.Tokens.{any as anyOf}
+use Rattle.keywords.proofs.Worked.{p11}
 use Rattle.signs.specs.Kinds.{sideOf, keyBracket}
 use Rattle.scans.specs.Nearest.{firstFrom, lastBelow}
 use Rattle.partners.specs.Pairs.{count, stretch}
@@ -57,19 +58,23 @@ use Rattle.fold_calls.specs.Terms.{word}
 use Rattle.text_calls.specs.Viewports.{viewport}
 use Rattle.fold_calls.specs.Upright.{upright, vertical}
 use Rattle.row_calls.specs.Wraps.{toldSegment, toldSegments, offset, modeOf, segmented, segmentsLeft}
-use Rattle.promises.specs.Table.{table, given, asked}
+use Rattle.promises.specs.Table.{table, given, asked, Examples}
 use Rattle.promises.specs.Calls.{calls, judged, good}
 
-pub examples : given table ≡ asked table
+computed : given table ≡ asked table
 unfolding table
     letters isLetter whites isWhite zeroWidths doubleWidths widthOf rowRefusal columnAt columnRefusal stopOf visualFrom charFrom
-    fits afterWhite firstSegment segmentsFrom segmentsOf any textRefusal onFirst rows startIn rowOf anyFold foldRefusal visibleFrom
-    allDigits value parts trimStart trimEnd upTo tokensIn anyOf
+    fits afterWhite firstSegment segmentsFrom segmentsOf wrapRefusal countOf roomRefusal any textRefusal onFirst rows startIn rowOf
+    anyFold foldRefusal visibleFrom allDigits value parts trimStart trimEnd upTo tokensIn anyOf
     sideOf keyBracket firstFrom lastBelow count stretch nearestOf placed matchingBracketPos keyTo landing findAhead
     roundFrom paragraphs kindOf kindAt onEmptyRow nextRow stepForward endOfBuffer walk goesOn nextWordStart roundOf counted wordMotion
     positionRefusal lowest moving partnerTo seeking landsOn orSought
-    moved keyword motion partnered sought seek toldColumn tabColumn word
-examples = refl
+    moved keyword motion partnered sought seek toldColumn tabColumn word toldSegments modeOf segmented segmentsLeft
+computed = refl
+
+-- P1 to P12
+pub examples : Examples
+examples = record { table = computed; p11 = p11 }
 
 -- every call gives the right reply of its case, and neither of the two wrong ones
 pub right-alone : judged calls ≡ good calls

@@ -2,6 +2,7 @@
 pub mod Examples
 pub mod Results
 pub mod Landings
+pub mod KeyMoves
 pub mod Searches
 pub mod Trails
 pub mod Writing

@@ -1,38 +1,35 @@
 -- Where a search by number leads to is in the text, and so is a partner. Assumes nothing.
-use mathlib.Core.Path.{_≡_, refl, sym, _∙_}
-use mathlib.Core.List.{List, [], _∷_}
+use mathlib.Core.Path.{_≡_, refl, sym, subst}
+use mathlib.Core.List.{List}
 use mathlib.Core.Bool.{Bool, true, false, cond}
 use Prim.Native.Nat.{ℕ, _≤_}
 use native.Mathlib.Omega.{arith}
 use lib.Dec.{eqb}
 use borrow.Author.Tests.{eqb-true}
 use Rattle.chars.specs.Scalar.{isScalar}
-use Rattle.accept.specs.Accept.{textRefusal}
 use Rattle.text.specs.Text.{rowAt, rowLen}
 use Rattle.scans.specs.declared.Found.{Found as Spotted}
 use Rattle.scans.specs.declared.Found.the-variants.{At, Nothing}
-use Rattle.partners.specs.declared.Pos.{Pos}
 use Rattle.partners.specs.declared.Partner.{Partner}
 use Rattle.partners.specs.declared.Partner.the-variants.{There, None, Refused as Partner·Refused}
 use Rattle.brackets.specs.Matching.{matchingBracketPos}
 use Rattle.scans.specs.Find.{findOnRow}
-use Rattle.brackets.specs.Find.{keyFrom}
-use Rattle.pairing.proofs.Demand.{refuses, unique}
-use Rattle.pairing.proofs.Jump.{key}
+use Rattle.pairing.proofs.Call.{call-accepted}
+use Rattle.pairing.proofs.Demand.{unique}
 use Rattle.scans.proofs.Finds.{find-within}
 use Rattle.positions.specs.Positions.{refusalWith}
-use Rattle.positions.proofs.Lowest.{lowest-none}
 use Rattle.positions.proofs.Checks.{inside}
 use Rattle.positions.proofs.Entered.{sought-none}
 use Rattle.motions.specs.declared.Caret.{Caret}
 use Rattle.motions.specs.declared.Moved.the-variants.{To}
 use Rattle.motions.specs.declared.Sought.{Sought}
-use Rattle.motions.specs.declared.Sought.the-variants.{Refused as Sought·Refused}
-use Rattle.motions.specs.Carets.{here, Inside, caretRefusal, refusalOf}
-use Rattle.motions.specs.Finds.{matchBracket, findCharOnLine, seeking, partnerTo, landsOn}
+use Rattle.motions.specs.declared.Sought.the-variants.{Found, Missing, Refused as Sought·Refused}
+use Rattle.motions.specs.Carets.{here, Inside, refusalOf}
+use Rattle.motions.specs.Finds.{matchBracket, findCharOnLine, seeking, landsOn}
 use Rattle.text_calls.specs.Seeks.{seek}
-use Rattle.promises.specs.Positions.{inMoved, inSought, inPartner, In, AllIn}
+use Rattle.promises.specs.Positions.{inMoved, inSought, inPartner, AllIn}
 use Rattle.promises.proofs.Landings.{either}
+use Rattle.promises.proofs.KeyMoves.{key}
 
 module _ (t : List ℕ) where
   pub stands : (k : Caret) → Inside t k → AllIn t (inMoved (To k))
@@ -50,22 +47,18 @@ module _ (t : List ℕ) where
       go false e = tt
 
   module _ (k : Caret) where
-    clear : refusalOf t k ≡ 0 → textRefusal t ≡ 0
-    clear z = lowest-none (textRefusal t) (caretRefusal t k ∷ []) z .0
-
     -- at the partner of a bracket, or where the caret was
-    partner-sits : (p : Partner) → ((q : Pos) → p ≡ There q → In t (record { row = q .row; col = q .col })) → Inside t k → Sits (partnerTo k p)
-    unfolding partnerTo
-    partner-sits (There q) h w = (h q refl, tt)
-    partner-sits None h w = stands k w
-    partner-sits (Partner·Refused f) h w = tt
-
     key-sits : Sits (matchBracket t k)
-    key-sits =
-        seeking-sits (refusalOf t k) _
-        (λ z. partner-sits (keyFrom t (k .row) (k .col))
-        (λ q e. let p = key t (clear z) .lands (k .row) (k .col) q e .partner .to in record { in-row = p .in-row; in-col = omega (arith, p .in-col) })
-        (inside t (here k) z))
+    key-sits = go (matchBracket t k) refl
+      where
+        go : (m : Sought) → matchBracket t k ≡ m → Sits m
+        go (Found c) e =
+            let p = key t k .lands c e .partner .partner .to in
+            (record { in-row = p .in-row; in-col = omega (arith, p .in-col) }, tt)
+        go (Missing c) e =
+            let a = key t k .missing c e in
+            subst (λ (x : Caret). Sits (Missing x)) (sym (a .same)) (stands k (inside t (here k) (a .accepted)))
+        go (Sought·Refused f) e = tt
 
     -- at a column of the row, or where the caret was
     found-sits : (f : Spotted) → ((i : ℕ) → f ≡ At i → i ≤ rowLen t (k .row)) → Inside t k → Sits (landsOn k f)
@@ -99,8 +92,7 @@ module _ (t : List ℕ) where
     where
       go : (p : Partner) → matchingBracketPos t row col ≡ p → AllIn t (inPartner p)
       go (There q) e =
-          let ok : textRefusal t ≡ 0 = sym (refuses t (record { row = row; col = col })) ∙ rw e in
-          let w = unique t ok .told (record { row = row; col = col }) q e .to in
+          let w = unique t (call-accepted t row col q e) .told (record { row = row; col = col }) q e .to in
           (record { in-row = w .in-row; in-col = omega (arith, w .in-col) }, tt)
       go None e = tt
       go (Partner·Refused f) e = tt

@@ -5,8 +5,6 @@ use Prim.Native.String.{String}
 use mathlib.Core.List.{List, [], _∷_}
 use mathlib.Core.Bool.{Bool, true, false, _&&_}
 use lib.Dec.{eqb}
-use Rattle.lent.specs.declared.Told.{Told}
-use Rattle.lent.specs.declared.Told.the-variants.{Value, Refused}
 use Rattle.lent.specs.Reply.{Reply, answer, refused, told}
 use Rattle.text_calls.specs.Carets.{caretOf}
 use Rattle.row_calls.specs.Characters.{fact}
@@ -17,8 +15,8 @@ use Rattle.row_calls.specs.Tabs.{tabColumns}
 use Rattle.fold_calls.specs.Terms.{words}
 use Rattle.text_calls.specs.Viewports.{viewports}
 use Rattle.fold_calls.specs.Upright.{verticals}
-use Rattle.row_calls.specs.Wraps.{offsets, segmentOf, segmented, segmentsLeft}
-use Rattle.promises.specs.Table.{codes, pair, key, till, with, none, at, found, yes, no}
+use Rattle.row_calls.specs.Wraps.{offsets, segmentOf}
+use Rattle.promises.specs.Asking.{codes, pair, key, till, byWord, with, none, at, found, yes, no}
 
 pub record Case : Type 0 where
   pub call : String
@@ -86,15 +84,6 @@ viewport op top height = viewports op top height 0 (caretOf 0 0 0 0) (codes "a\n
 abbrev pub caretTo : ℕ → ℕ → ℕ → Reply
 caretTo r c sticky = answer (r ∷ c ∷ 1 ∷ sticky ∷ [])
 
--- the count and the segments, in room for two that holds 9s
-abbrev pub counted : Told → List ℕ → Reply
-counted (Value n) segments = answer (n ∷ segments)
-counted (Refused f) segments = refused f
-
-abbrev pub wrapped : ℕ → ℕ → String → Reply
-wrapped mode width line =
-    counted (segmented mode width (9 ∷ 9 ∷ 9 ∷ 9 ∷ []) (codes line)) (segmentsLeft mode width (9 ∷ 9 ∷ 9 ∷ 9 ∷ []) (codes line))
-
 unfoldable pub calls : List Case
 calls =
     case "is_scalar" (told (fact 0 0xd800)) (answer no) (answer yes) (refused 2) ∷
@@ -108,7 +97,7 @@ calls =
     case "char_col_to_visual_col" (tabColumns 1 1 8 (codes "\tx")) (value 8) (value 1) (value 7) ∷
     case "cursor_visual_col" (tabColumns 2 0 8 (codes "\tx")) (value 7) (value 0) (value 8) ∷
     case "leading_visual_width" (tabColumns 3 0 8 (codes "\tx")) (value 8) (value 1) (value 0) ∷
-    case "wrap_segments" (wrapped 2 4 "ab cd") (answer (2 ∷ 0 ∷ 3 ∷ 3 ∷ 5 ∷ [])) (answer (1 ∷ 0 ∷ 5 ∷ 9 ∷ 9 ∷ [])) (answer (2 ∷ 0 ∷ 4 ∷ 4 ∷ 5 ∷ [])) ∷
+    case "wrap_segments" (byWord 4 (codes "ab cd")) (answer (2 ∷ 0 ∷ 3 ∷ 3 ∷ 5 ∷ [])) (answer (1 ∷ 0 ∷ 5 ∷ 9 ∷ 9 ∷ [])) (answer (2 ∷ 0 ∷ 4 ∷ 4 ∷ 5 ∷ [])) ∷
     case "char_col_for_visual_offset" (offsets 0 3 5 1 (codes "ab cd")) (value 4) (value 1) (value 3) ∷
     case "visual_offset_for_char_col" (offsets 1 3 0 4 (codes "ab cd")) (value 1) (value 4) (value 0) ∷
     case "segment_for_col" (segmentOf 3 (0 ∷ 3 ∷ 3 ∷ 5 ∷ [])) (value 1) (value 0) (refused 10) ∷

@@ -12,6 +12,7 @@ use Rattle.lent.specs.declared.Told.{Told}
 use Rattle.lent.specs.declared.Told.the-variants.{Value, Refused}
 use Rattle.lent.specs.Reply.{Reply, told, bit}
 
+-- the number and value of `matches` and `is_keyword_char`: 1 or 0, or a refusal's number
 abbrev pub toldMatched : Matched → Told
 toldMatched (Is b) = Value (bit b)
 toldMatched (Matched·Refused f) = Refused f

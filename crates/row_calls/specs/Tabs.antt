@@ -11,6 +11,7 @@ use Rattle.lent.specs.declared.Told.{Told}
 use Rattle.lent.specs.declared.Told.the-variants.{Value, Refused}
 use Rattle.lent.specs.Reply.{Reply, told}
 
+-- the number and value of the calls that answer with a column: that, or a refusal's number
 unfoldable pub toldColumn : Column → Told
 toldColumn (At n) = Value n
 toldColumn (Column·Refused f) = Refused f

@@ -22,11 +22,12 @@ use Rattle.lent.specs.declared.Told.the-variants.{Value, Refused}
 use Rattle.lent.specs.Reply.{Reply, told}
 use Rattle.row_calls.specs.Tabs.{toldColumn}
 
--- 103: an index that no u32 holds
+-- the number and value of `segment_for_col`: an index, or a refusal's number; 103 of one that no u32 holds
 unfoldable pub toldSegment : Segment → Told
 toldSegment (At n) = cond (leb n 4294967295) (Value n) (Refused 103)
 toldSegment (Segment·Refused f) = Refused f
 
+-- of `wrap_segments`: the count of segments, or a refusal's number
 unfoldable pub toldSegments : Segments → Told
 toldSegments (Count n) = Value n
 toldSegments (Segments·Refused f) = Refused f

@@ -1,25 +1,12 @@
 -- Worked examples of the definitions, as theorems: each holds by computation.
--- From document 01, "Examples": P8, and what a text is refused for. Assumes nothing.
+-- The rows of a text, and what a text is refused for. Assumes nothing.
 use mathlib.Core.Path.{_≡_, refl}
 use mathlib.Core.List.{[], _∷_}
 use Rattle.chars.specs.Scalar.{any}
 use Rattle.accept.specs.Accept.{textRefusal}
 use Rattle.text.specs.Text.{onFirst, rows, contentRowCount}
 use Rattle.text.specs.Offsets.{startIn, rowStart}
-use Rattle.text.specs.declared.Counted.the-variants.{Rows, Refused}
-
--- P8
-pub content-of-empty : contentRowCount [] ≡ Rows 1
-unfolding any textRefusal rows
-content-of-empty = refl
-
-pub content-of-separator : contentRowCount (10 ∷ []) ≡ Rows 1
-unfolding any textRefusal rows onFirst
-content-of-separator = refl
-
-pub content-of-a-two : contentRowCount (97 ∷ 10 ∷ 10 ∷ []) ≡ Rows 2
-unfolding any textRefusal rows onFirst
-content-of-a-two = refl
+use Rattle.text.specs.declared.Counted.the-variants.{Refused}
 
 -- `ab`, empty, `cd`, empty
 pub rows-of-four : rows (97 ∷ 98 ∷ 10 ∷ 10 ∷ 99 ∷ 100 ∷ 10 ∷ []) ≡ (97 ∷ 98 ∷ []) ∷ [] ∷ (99 ∷ 100 ∷ []) ∷ [] ∷ []

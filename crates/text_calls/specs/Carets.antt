@@ -26,7 +26,7 @@ abbrev pub column : Sticky → ℕ
 column Absent = 0
 column (At x) = x
 
--- a caret that moved, or a refusal's number
+-- the number and values of a motion: the caret that moved, or a refusal's number
 unfoldable pub moved : Moved → Reply
 moved (To k) = answer (k .row ∷ k .col ∷ held (k .sticky) ∷ column (k .sticky) ∷ [])
 moved (Refused f) = refused f

@@ -6,7 +6,7 @@ use Rattle.partners.specs.declared.Partner.the-variants.{There, None, Refused}
 use Rattle.brackets.specs.Matching.{matchingBracketPos}
 use Rattle.lent.specs.Reply.{Reply, answer, refused}
 
--- 1 and the partner's row and column; 0, 0 and 0 where there is none; or a refusal's number
+-- the number and values of a partner: 1, its row and its column; 0, 0 and 0 where there is none; or a refusal's number
 unfoldable pub partnered : Partner → Reply
 partnered (There p) = answer (1 ∷ p .row ∷ p .col ∷ [])
 partnered None = answer (0 ∷ 0 ∷ 0 ∷ [])

@@ -8,6 +8,7 @@ use Rattle.lent.specs.declared.Told.{Told}
 use Rattle.lent.specs.declared.Told.the-variants.{Value, Refused as Told·Refused}
 use Rattle.lent.specs.Reply.{Reply, told}
 
+-- the number and value of `content_row_count`: the rows, or a refusal's number
 abbrev pub toldRows : Counted → Told
 toldRows (Rows n) = Value n
 toldRows (Refused f) = Told·Refused f

@@ -10,7 +10,7 @@ use Rattle.motions.specs.Finds.{matchBracket, findCharOnLine}
 use Rattle.lent.specs.Reply.{Reply, answer, refused}
 use Rattle.text_calls.specs.Carets.{held, column}
 
--- 1 or 0, found or missing, and the caret; or a refusal's number
+-- the number and values of a search: 1 or 0, found or missing, and the caret; or a refusal's number
 unfoldable pub sought : Sought → Reply
 sought (Found k) = answer (1 ∷ k .row ∷ k .col ∷ held (k .sticky) ∷ column (k .sticky) ∷ [])
 sought (Missing k) = answer (0 ∷ k .row ∷ k .col ∷ held (k .sticky) ∷ column (k .sticky) ∷ [])

@@ -1,7 +1,6 @@
--- Worked examples of the definitions, as theorems: each holds by computation. Document 01, "Examples": P10, and slips that it names.
--- Assumes nothing.
+-- Worked examples of the definitions, as theorems: each holds by computation. Slips that document 01 names. Assumes nothing.
 use mathlib.Core.Path.{_≡_, refl}
-use mathlib.Core.List.{List, [], _∷_}
+use mathlib.Core.List.{[], _∷_}
 use mathlib.Core.Bool.{true, false, cond}
 use Prim.Native.Nat.{ℕ}
 use lib.Dec.{eqb}
@@ -16,18 +15,6 @@ use Rattle.turns.specs.Rounds.{roundOf, counted, wordMotion}
 -- a space, and words
 abbrev kind : ℕ → ℕ
 kind x = cond (eqb x 32) 0 1
-
--- P10: `a`, empty, empty, `b`
-abbrev four : List ℕ
-four = 97 ∷ 10 ∷ 10 ∷ 10 ∷ 98 ∷ []
-
-pub w-to-empty-row : wordMotion four [] kind false Fwd false 1 (place 1 0) ≡ place 2 0
-unfolding onFirst rows anyFold visibleFrom kindAt nextRow stepForward endOfBuffer walk goesOn nextWordStart nextWordEnd atWordEnd roundOf counted wordMotion
-w-to-empty-row = refl
-
-pub big-w-over-empty-row : wordMotion four [] kind true Fwd false 1 (place 1 0) ≡ place 3 0
-unfolding onFirst rows anyFold visibleFrom kindAt nextRow stepForward endOfBuffer walk goesOn nextWordStart nextWordEnd atWordEnd roundOf counted wordMotion
-big-w-over-empty-row = refl
 
 -- `a`, empty, and the empty last row, the first two in a closed fold: the jump is kept though no word follows
 pub jump-kept : wordMotion (97 ∷ 10 ∷ 10 ∷ []) (0 ∷ 1 ∷ 1 ∷ []) kind false Fwd false 1 (place 0 0) ≡ place 1 0

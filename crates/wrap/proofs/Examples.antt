@@ -1,4 +1,4 @@
--- P5 and P6 of document 01, and the rows that have one segment. Each holds by computation. Assumes nothing.
+-- The rows that have one segment: mode None, width 0, an empty row. Each holds by computation. Assumes nothing.
 use mathlib.Core.Path.{_≡_, refl}
 use mathlib.Core.List.{List, [], _∷_}
 use Prim.Native.Nat.{ℕ}
@@ -18,14 +18,6 @@ wrapped mode width row = segmentsOf widthOf isWhite mode width row
 -- `ab cd`
 abbrev words : List ℕ
 words = 97 ∷ 98 ∷ 32 ∷ 99 ∷ 100 ∷ []
-
-pub p5 : (wrapped Word 4 words ≡ 0 ∷ 3 ∷ 3 ∷ 5 ∷ []) × (wrapped Char 4 words ≡ 0 ∷ 4 ∷ 4 ∷ 5 ∷ [])
-unfolding segmentsOf segmentsFrom firstSegment afterWhite fits whites isWhite zeroWidths doubleWidths widthOf
-p5 = (refl, refl)
-
-pub p6 : wrapped Char 1 (0x3042 ∷ 0x3042 ∷ []) ≡ 0 ∷ 1 ∷ 1 ∷ 2 ∷ []
-unfolding segmentsOf segmentsFrom firstSegment afterWhite fits whites isWhite zeroWidths doubleWidths widthOf
-p6 = refl
 
 -- the one segment
 pub whole : (wrapped None 4 words ≡ 0 ∷ 5 ∷ []) × (wrapped Char 0 words ≡ 0 ∷ 5 ∷ []) × (wrapped Word 4 [] ≡ 0 ∷ 0 ∷ [])

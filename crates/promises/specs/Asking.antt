@@ -1,0 +1,89 @@
+-- The calls of the tables by what they ask, and their replies in short. Definitions only. Assumes nothing.
+use Prim.Native.Nat.{ℕ, zero, suc, _+_}
+use Prim.Native.Char.{code}
+use Prim.Native.String.{String, charAt, len}
+use mathlib.Core.List.{List, [], _∷_}
+use mathlib.Core.Bool.{Bool, true, false}
+use Rattle.lent.specs.declared.Told.{Told}
+use Rattle.lent.specs.declared.Told.the-variants.{Value, Refused}
+use Rattle.lent.specs.Reply.{Reply, answer, refused}
+use Rattle.text_calls.specs.Carets.{caretOf}
+use Rattle.row_calls.specs.Lists.{keywords}
+use Rattle.text_calls.specs.Moves.{motions}
+use Rattle.text_calls.specs.Partners.{partner}
+use Rattle.text_calls.specs.Seeks.{seeks}
+use Rattle.row_calls.specs.Tabs.{tabColumns}
+use Rattle.row_calls.specs.Wraps.{segmented, segmentsLeft}
+use Rattle.fold_calls.specs.Terms.{words}
+
+-- the code points of a quoted text of ASCII characters
+abbrev pub codesFrom : String → ℕ → ℕ → List ℕ
+codesFrom s i zero = []
+codesFrom s i (suc n) = code (charAt s i) ∷ codesFrom s (i + 1) n
+
+abbrev pub codes : String → List ℕ
+codes s = codesFrom s 0 (len s)
+
+-- brackets: a partner, and the % key
+abbrev pub pair : String → ℕ → ℕ → Reply
+pair t r c = partner r c (codes t)
+
+abbrev pub key : String → ℕ → ℕ → Reply
+key t r c = seeks 0 0 (caretOf r c 0 0) (codes t)
+
+-- till x, forward: without and with the adjacent match skipped
+abbrev pub till : Bool → String → Reply
+till false t = seeks 4 120 (caretOf 0 0 0 0) (codes t)
+till true t = seeks 8 120 (caretOf 0 0 0 0) (codes t)
+
+-- the count and the segments, by Char or Word, in room for two that holds 9s
+abbrev pub counted : Told → List ℕ → Reply
+counted (Value n) segments = answer (n ∷ segments)
+counted (Refused f) segments = refused f
+
+abbrev pub wrapped : ℕ → ℕ → List ℕ → Reply
+wrapped mode width line = counted (segmented mode width (9 ∷ 9 ∷ 9 ∷ 9 ∷ []) line) (segmentsLeft mode width (9 ∷ 9 ∷ 9 ∷ 9 ∷ []) line)
+
+abbrev pub byChar : ℕ → List ℕ → Reply
+byChar = wrapped 1
+
+abbrev pub byWord : ℕ → List ℕ → Reply
+byWord = wrapped 2
+
+abbrev pub cursor : ℕ → Reply
+cursor col = tabColumns 2 col 8 (codes "\tx")
+
+abbrev pub cell : ℕ → Reply
+cell col = tabColumns 0 col 8 (codes "\tx")
+
+abbrev pub paragraph : ℕ → Reply
+paragraph n = motions 11 n (caretOf 0 0 0 0) (codes "a\n\nb")
+
+abbrev pub word : Bool → Reply
+word big = words 0 big 1 (caretOf 1 0 0 0) (codes "a\n\n\nb") [] (codes "@,48-57,_")
+
+-- whether a keyword list holds a code
+abbrev pub holds : String → ℕ → Reply
+holds list c = keywords 2 c (codes list)
+
+-- a partner, none; a caret; a search that found, and its caret
+abbrev pub with : ℕ → ℕ → List ℕ
+with r c = 1 ∷ r ∷ c ∷ []
+
+abbrev pub none : List ℕ
+none = 0 ∷ 0 ∷ 0 ∷ []
+
+abbrev pub at : ℕ → ℕ → List ℕ
+at r c = r ∷ c ∷ 0 ∷ 0 ∷ []
+
+abbrev pub found : ℕ → ℕ → List ℕ
+found r c = 1 ∷ at r c
+
+abbrev pub yes : List ℕ
+yes = 1 ∷ []
+
+abbrev pub no : List ℕ
+no = 0 ∷ []
+
+abbrev pub branch : String
+branch = "if (n) {\nx (y)\n}"
