@@ -60,10 +60,25 @@ int main(void) {
     SAYS("find till", tsivareza_seek_u32(TSIVAREZA_FIND + TSIVAREZA_FIND_FORWARD + TSIVAREZA_FIND_TILL, branch, 10, 0, 0, 0, 0, '{', out),
          1, 0, 6, 0, 0);
 
+    REFUSES("white space of a surrogate", tsivareza_character(TSIVAREZA_IS_WHITE, 0xD800, out), 2);
+    REFUSES("a letter above U+10FFFF", tsivareza_character(TSIVAREZA_IS_LETTER, 0x110000, out), 2);
+    REFUSES("the width of a surrogate", tsivareza_character(TSIVAREZA_WIDTH, 0xDFFF, out), 2);
+    REFUSES("no such fact", tsivareza_character(4, 0xD800, out), 100);
+    SAYS("is_scalar of a surrogate", tsivareza_character(TSIVAREZA_IS_SCALAR, 0xD800, out), 0);
     REFUSES("a caret outside", tsivareza_motion_u32(TSIVAREZA_MOVE_TOP, branch, 10, 2, 0, 0, 0, 0, out), 4);
     REFUSES("no such motion", tsivareza_motion_u32(99, branch, 10, 0, 0, 0, 0, 0, out), 100);
-    REFUSES("half a code point", tsivareza_matching_bracket_pos(bytes, 15, room, 4, 0, 0, out), 101);
-    REFUSES("too little room", tsivareza_matching_bracket_pos(bytes, 16, room, 3, 0, 0, out), 102);
+    REFUSES("no such mode of down", tsivareza_vertical_u32(TSIVAREZA_MOVE_DOWN, branch, 10, none, 0, 9, 0, 0, 0, 3, 0, 1, 8, out), 100);
+
+    /* 101, 102 and 100, each before the next and before 4; the room is written to from 100 on. */
+    static const uint32_t kept[] = {7, 7, 7, 7, 7}, filled[] = {'(', '[', ')', ']', 7};
+    for (int i = 0; i < 5; i++) room[i] = 7;
+    REFUSES("half a code point", tsivareza_motion(99, bytes, 15, room, 3, 9, 0, 0, 0, 0, out), 101);
+    REFUSES("too little room", tsivareza_motion(99, bytes, 16, room, 3, 9, 0, 0, 0, 0, out), 102);
+    expect("the room before 100", 0, 0, room, kept, 5);
+    REFUSES("no such motion on bytes", tsivareza_motion(99, bytes, 16, room, 5, 9, 0, 0, 0, 0, out), 100);
+    expect("the room after 100", 0, 0, room, filled, 5);
+    REFUSES("a caret outside, on bytes", tsivareza_motion(TSIVAREZA_MOVE_TOP, bytes, 8, room, 5, 9, 0, 0, 0, 0, out), 4);
+    expect("the room after 4", 0, 0, room, filled, 5);
 
     static uint8_t printed[TSIVAREZA_SESSION_ROOM];
     static const char input[] = "$\n%\n.\n(a)\n", wanted[] = "$ 0 2\n% 0 0\n";

@@ -7,14 +7,21 @@
  *     3  U+000B, C, D, U+0085, U+2028, 9     8  over 128 tokens kept of a keyword list
  *     4  a caret outside the text            9  too little room for the segments
  *     5  wrong folds                        10  segments of odd length
- *   100  no such operation                 102  too little room for the code points
+ *   100  no such operation or mode         102  too little room for the code points
  *   101  bytes that make no whole points   103  an answer that no uint32_t holds
+ * 101 comes first, then 102, then 100, for with one of these there is no call to be made; then the
+ * lowest of 1 to 10 that applies. 103 stands in an answer's place, in tsivareza_segment_for_col alone.
  *
  * A text, row or list goes as code points (the `_u32` forms), or as bytes, four to a code point, the
  * lowest first, with room for the code points: `room_len` counts uint32_t places, and where a call
- * takes several byte strings they share it. A fold is three numbers: first row, last row, 1 where it
- * is closed or else 0. A caret is its row and column; `held` is 0 where it has no sticky column, else
- * `sticky` is that column. Answers with a caret hold row, column, held, sticky.
+ * takes several byte strings they share it. The code points are put at the start of the room before
+ * the call looks at them, one string after the other, and stay there also where it is refused, for
+ * there is no other place to read them in; the rest of the room is left as it was, and after 101 and
+ * 102 all of it. Nothing else that is lent is changed by a refusal.
+ *
+ * A fold is three numbers: first row, last row, 1 where it is closed or else 0. A caret is its row and
+ * column; `held` is 0 where it has no sticky column, else `sticky` is that column. Answers with a caret
+ * hold row, column, held, sticky.
  *
  * Pointers are not null, also where a length is 0, and nothing that is written to overlaps anything
  * else that is lent. */
@@ -28,7 +35,8 @@
 extern "C" {
 #endif
 
-/* Characters: out[0] is 1 or 0, or the width. */
+/* Characters: out[0] is 1 or 0, or the width. IS_SCALAR answers for every number; the others refuse
+ * one that is no scalar value with 2. */
 enum { TSIVAREZA_IS_SCALAR, TSIVAREZA_IS_WHITE, TSIVAREZA_IS_LETTER, TSIVAREZA_WIDTH };
 
 uint32_t tsivareza_character(uint32_t op, uint32_t x, uint32_t out[1]);
@@ -138,7 +146,8 @@ uint32_t tsivareza_word(uint32_t op, const uint8_t *text, size_t text_len, const
                         size_t room_len, uint32_t row, uint32_t col, uint32_t held, uint32_t sticky,
                         uint32_t big, uint32_t count, uint32_t out[4]);
 
-/* Up, down and the screen; mode and width matter to the screen moves alone. */
+/* Up, down and the screen; mode and width matter to the screen moves alone, but a mode above 2 is 100
+ * for up and down too. */
 enum {
     TSIVAREZA_MOVE_UP,
     TSIVAREZA_MOVE_DOWN,

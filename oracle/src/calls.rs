@@ -324,15 +324,29 @@ pub fn is_keyword_char(tested: u32, list: &[u32]) -> Answer<bool> {
     Ok(hjkl_buffer::is_keyword_char(char::from_u32(tested).expect("a scalar value"), &string(list)))
 }
 
-pub fn is_letter(x: u32) -> Option<bool> {
-    Some(char::from_u32(x)?.is_alphabetic())
+pub fn is_scalar(x: u32) -> bool {
+    char::from_u32(x).is_some()
 }
 
-pub fn is_white(x: u32) -> Option<bool> {
-    Some(char::from_u32(x)?.is_whitespace())
+fn tested(x: u32) -> Answer<char> {
+    accept(&Inputs { character: Some(x), ..Inputs::default() })?;
+    Ok(char::from_u32(x).expect("a scalar value"))
 }
 
-pub fn width(x: u32) -> Option<u32> {
+pub fn is_letter(x: u32) -> Answer<bool> {
+    tested(x).map(char::is_alphabetic)
+}
+
+pub fn is_white(x: u32) -> Answer<bool> {
+    tested(x).map(char::is_whitespace)
+}
+
+/// The width of a character, None read as 1.
+pub fn width_of(c: char) -> u32 {
     use unicode_width::UnicodeWidthChar;
-    Some(char::from_u32(x)?.width().unwrap_or(1) as u32)
+    c.width().unwrap_or(1) as u32
+}
+
+pub fn width(x: u32) -> Answer<u32> {
+    tested(x).map(width_of)
 }

@@ -198,10 +198,10 @@ pub static CALLS: [Call; 51] = [
     call!(parse [List] |k| outcome(calls::parse(&k.list), |n| Outcome::Number(n.into()))),
     call!(matches [List, Character] |k| outcome(calls::matches(&k.list, k.character), Outcome::Truth)),
     call!(is_keyword_char [List, Character] |k| outcome(calls::is_keyword_char(k.character, &k.list), Outcome::Truth)),
-    call!(is_scalar [Character] |k| Outcome::Truth(char::from_u32(k.character).is_some())),
-    call!(is_letter [Character] |k| calls::is_letter(k.character).map_or(Outcome::Outside, Outcome::Truth)),
-    call!(is_white [Character] |k| calls::is_white(k.character).map_or(Outcome::Outside, Outcome::Truth)),
-    call!(width [Character] |k| calls::width(k.character).map_or(Outcome::Outside, |n| Outcome::Number(n.into()))),
+    call!(is_scalar [Character] |k| Outcome::Truth(calls::is_scalar(k.character))),
+    call!(is_letter [Character] |k| outcome(calls::is_letter(k.character), Outcome::Truth)),
+    call!(is_white [Character] |k| outcome(calls::is_white(k.character), Outcome::Truth)),
+    call!(width [Character] |k| outcome(calls::width(k.character), |n| Outcome::Number(n.into()))),
 ];
 
 pub fn call(name: &str) -> Result<&'static Call, String> {

@@ -7,11 +7,11 @@ use std::collections::BTreeSet;
 /// The refusals that a call has, by what it takes (document 01, "Refusal numbers").
 fn refusals(case: &Case) -> BTreeSet<u32> {
     let parsed = case.takes(Input::List) && case.call.name != "is_keyword_char";
-    let asked = case.takes(Input::Character) && case.call.takes.len() > 1;
+    let tested = case.takes(Input::Character) && case.call.name != "is_scalar";
     let by_input: [(bool, &[u32]); 9] = [
         (case.takes(Input::Text), &[1, 2, 3]),
         (case.takes(Input::Line), &[1, 2]),
-        (asked, &[2]),
+        (tested, &[2]),
         (case.takes(Input::Caret), &[4]),
         (case.takes(Input::Folds), &[5]),
         (case.takes(Input::Tabstop), &[6]),

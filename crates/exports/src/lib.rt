@@ -2,11 +2,13 @@
 // first (document 01, "What form to use where"). Every call answers 0 and puts its answer into
 // `out`, or answers a number and leaves `out` as it was: the refusal numbers of document 01, and
 // from 100 on those of the boundary.
-//   100  no such operation
+//   100  no such operation or mode
 //   101  bytes that make no whole code points
 //   102  too little room for the code points
 //   103  an answer that no u32 holds
-// A call on bytes decodes into the lent room; its `_u32` form takes code points as they are.
+// 101 comes first, then 102, then 100, then document 01's; 103 stands in an answer's place.
+// A call on bytes decodes into the lent room; its `_u32` form takes code points as they are. The
+// code points stay at the start of the room, also where the call is refused, but for 101 and 102.
 mod characters;
 mod lists;
 mod moves;

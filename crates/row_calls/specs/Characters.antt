@@ -10,11 +10,15 @@ use Rattle.lent.specs.Reply.{bit}
 use Rattle.lent.specs.declared.Told.{Told}
 use Rattle.lent.specs.declared.Told.the-variants.{Value, Refused}
 
+-- what is told of a character that is tested; 2 where it is no scalar value
+abbrev pub tested : ℕ → ℕ → Told
+tested x n = cond (isScalar x) (Value n) (Refused 2)
+
 -- the value of the fact that a number stands for; 100 where it stands for none
 unfoldable pub fact : ℕ → ℕ → Told
 fact op x =
     cond (eqb op 0) (Value (bit (isScalar x)))
-    (cond (eqb op 1) (Value (bit (isWhite x)))
-    (cond (eqb op 2) (Value (bit (isLetter x)))
-    (cond (eqb op 3) (Value (widthOf x))
+    (cond (eqb op 1) (tested x (bit (isWhite x)))
+    (cond (eqb op 2) (tested x (bit (isLetter x)))
+    (cond (eqb op 3) (tested x (widthOf x))
     (Refused 100))))

@@ -12,6 +12,10 @@ fn both<T: PartialEq + std::fmt::Debug>(case: &Case, on_points: T, on_bytes: Opt
     on_points
 }
 
+fn fact(truth: Result<bool, u32>) -> Outcome {
+    truth.map_or_else(Outcome::Refused, Outcome::Truth)
+}
+
 fn number(n: Result<u32, u32>) -> Outcome {
     n.map_or_else(Outcome::Refused, |n| Outcome::Number(n.into()))
 }
@@ -60,9 +64,9 @@ pub fn port(case: &Case, mut room: Option<&mut Room>) -> Outcome {
     };
     match case.call.name {
         "is_scalar" => return Outcome::Truth(lib::is_scalar(x)),
-        "is_white" => return Outcome::Truth(lib::is_white(x)),
-        "is_letter" => return Outcome::Truth(lib::is_letter(x)),
-        "width" => return Outcome::Number(lib::width(x).into()),
+        "is_white" => return fact(lib::is_white(x)),
+        "is_letter" => return fact(lib::is_letter(x)),
+        "width" => return number(lib::width(x)),
         "parse" => return number(keywords(Keywords::Parse)),
         "matches" => return truth(keywords(Keywords::Matches(x))),
         "is_keyword_char" => return truth(keywords(Keywords::IsKeywordChar(x))),

@@ -2,8 +2,10 @@
 //!
 //! A text, row or list goes as code points, or through a [`Room`] as bytes, four to a code point, the
 //! lowest first. A call that is refused gives document 01's number as `Err`, or from 100 on the
-//! boundary's: 100 no such operation, 101 bytes that make no whole code points, 102 too
-//! little room, 103 an answer that no u32 holds.
+//! boundary's: 100 no such operation or mode, 101 bytes that make no whole code points, 102 too
+//! little room, 103 an answer that no u32 holds. 101 comes first, then 102, then 100, for with one of
+//! these there is no call to be made; then the lowest of document 01's that applies. 103 stands in an
+//! answer's place, in [`segment_for_col`] alone. Of what is lent, a refusal changes a [`Room`] alone.
 //!
 //! ```
 //! assert_eq!(tsivareza::matching_bracket_pos(&[0x28, 0x5B, 0x29, 0x5D], 0, 0), Ok(Some((0, 2))));
@@ -51,6 +53,19 @@ pub fn bytes(points: &[u32]) -> Vec<u8> {
 // ones written to overlap no other. The exports ask nothing more.
 
 /// The same calls on bytes, with room for the code points of a text.
+///
+/// A call puts the code points of its bytes at the start of the room, one argument after the other,
+/// before it looks at them, and leaves the rest of the room as it was: also where it is refused, for
+/// there is no other place to read them in. After 101 or 102 all of the room is as it was.
+///
+/// ```
+/// let mut room = tsivareza::Room::new(3);
+/// assert_eq!(room.content_row_count(&tsivareza::bytes(&[0x61, 0xD800])), Err(2));
+/// assert_eq!(room.points(), [0x61, 0xD800, 0]);
+/// assert_eq!(room.content_row_count(&[0x62]), Err(101));
+/// assert_eq!(room.content_row_count(&tsivareza::bytes(&[0x62; 4])), Err(102));
+/// assert_eq!(room.points(), [0x61, 0xD800, 0]);
+/// ```
 pub struct Room(Vec<u32>);
 
 impl Room {
@@ -66,23 +81,48 @@ impl Room {
 
 // ── Characters ──────────────────────────────────────────────────────
 
-fn character(op: u32, x: u32) -> u32 {
-    number(|out| unsafe { raw::tsivareza_character(op, x, out) }).expect("the operation is known")
+fn character(op: u32, x: u32) -> Result<u32, u32> {
+    number(|out| unsafe { raw::tsivareza_character(op, x, out) })
 }
 
+/// Whether x is a scalar value; it is never refused.
+///
+/// ```
+/// assert!(tsivareza::is_scalar(0x61));
+/// assert!(!tsivareza::is_scalar(0xD800));
+/// assert!(!tsivareza::is_scalar(0x110000));
+/// ```
 pub fn is_scalar(x: u32) -> bool {
-    character(0, x) == 1
+    character(0, x) == Ok(1)
 }
 
-pub fn is_white(x: u32) -> bool {
-    character(1, x) == 1
+/// Whether x is white space; `Err(2)` where it is no scalar value.
+///
+/// ```
+/// assert_eq!(tsivareza::is_white(0xA0), Ok(true));
+/// assert_eq!(tsivareza::is_white(0xD800), Err(2));
+/// ```
+pub fn is_white(x: u32) -> Result<bool, u32> {
+    character(1, x).map(|n| n == 1)
 }
 
-pub fn is_letter(x: u32) -> bool {
-    character(2, x) == 1
+/// Whether x is a letter; `Err(2)` where it is no scalar value.
+///
+/// ```
+/// assert_eq!(tsivareza::is_letter(0x7B), Ok(false));
+/// assert_eq!(tsivareza::is_letter(0xDFFF), Err(2));
+/// ```
+pub fn is_letter(x: u32) -> Result<bool, u32> {
+    character(2, x).map(|n| n == 1)
 }
 
-pub fn width(x: u32) -> u32 {
+/// How many cells x is wide, a tab 1; `Err(2)` where it is no scalar value.
+///
+/// ```
+/// assert_eq!(tsivareza::width(0x3042), Ok(2));
+/// assert_eq!(tsivareza::width(0x110000), Err(2));
+/// ```
+pub fn width(x: u32) -> Result<u32, u32> {
     character(3, x)
 }
 

@@ -1,21 +1,37 @@
 //! What the boundary itself refuses, and what it leaves in the lent room.
 
-use tsivareza::{Caret, Room, Word, Words, bytes, content_row_count};
+use tsivareza::{
+    Caret, Columns, Keywords, Motion, Offsets, Room, Seek, Steps, Vertical, Viewport, Word, Words, Wrap, bytes, content_row_count,
+};
+
+/// What a room holds that no text of these tests has.
+const BEFORE: u32 = 0x77;
+
+/// A room for that many code points, no place of which is 0. Segments may be of any length.
+fn used(points: usize) -> Room {
+    let mut room = Room::new(points);
+    _ = room.segment_for_col(&bytes(&vec![BEFORE; points]), 0);
+    assert_eq!(room.points(), vec![BEFORE; points]);
+    room
+}
+
+const START: Caret = Caret { row: 0, col: 0, sticky: None };
 
 #[test]
 fn bytes_that_make_no_whole_code_points() {
-    let mut room = Room::new(4);
-    for n in [1, 2, 3, 5, 7] {
+    let mut room = used(4);
+    for n in [1, 2, 3, 5, 7, 17] {
         assert_eq!(room.content_row_count(&vec![0; n]), Err(101));
     }
-    assert_eq!(room.points(), [0; 4]);
+    assert_eq!(room.points(), [BEFORE; 4]);
 }
 
 #[test]
 fn too_little_room() {
-    let mut room = Room::new(2);
+    let mut room = used(2);
     assert_eq!(room.content_row_count(&bytes(&[1, 2, 3])), Err(102));
-    assert_eq!(room.points(), [0; 2]);
+    assert_eq!(room.content_row_count(&bytes(&[0xD800, 2, 3])), Err(102));
+    assert_eq!(room.points(), [BEFORE; 2]);
     assert_eq!(room.content_row_count(&bytes(&[1, 2])), Ok(1));
     assert_eq!(room.points(), [1, 2]);
 }
@@ -26,22 +42,63 @@ fn code_points_are_little_endian() {
     assert_eq!(room.content_row_count(&[0x42, 0x30, 0, 0, 0x0A, 0, 0, 0]), Ok(1));
     assert_eq!(room.points(), [0x3042, 0x0A, 0]);
     assert_eq!(room.content_row_count(&[0, 0, 0, 0x0A]), Err(2));
+    assert_eq!(room.points(), [0x0A00_0000, 0x0A, 0]);
 }
 
 #[test]
 fn three_slices_share_the_room() {
     let (text, folds, list) = (bytes(&[0x61, 0x20, 0x62]), bytes(&[0, 0, 1]), bytes(&[0x40]));
-    let start = Caret { row: 0, col: 0, sticky: None };
     let word = |room: &mut Room, folds: &[u8], list: &[u8]| {
-        room.word(Word::Fwd, &text, start, Words { folds, list, big: false }, 1)
+        room.word(Word::Fwd, &text, START, Words { folds, list, big: false }, 1)
     };
-    let mut room = Room::new(6);
+    let mut room = used(6);
     assert_eq!(word(&mut room, &folds, &list), Err(102));
     assert_eq!(word(&mut room, &folds[..11], &list[..1]), Err(101));
-    assert_eq!(room.points(), [0; 6]);
-    let mut room = Room::new(8);
+    assert_eq!(room.points(), [BEFORE; 6]);
+    let mut room = used(8);
     assert_eq!(word(&mut room, &folds, &list), Ok(Caret { row: 0, col: 2, sticky: None }));
-    assert_eq!(room.points(), [0x61, 0x20, 0x62, 0, 0, 1, 0x40, 0]);
+    assert_eq!(room.points(), [0x61, 0x20, 0x62, 0, 0, 1, 0x40, BEFORE]);
+    assert_eq!(word(&mut room, &bytes(&[0, 1, 1]), &list), Err(5));
+    assert_eq!(room.points(), [0x61, 0x20, 0x62, 0, 1, 1, 0x40, BEFORE]);
+}
+
+/// A refused call on bytes: the code points stand at the start of the room, the rest is as it was.
+fn refused<T: std::fmt::Debug>(number: u32, parts: &[&[u32]], call: impl FnOnce(&mut Room) -> Result<T, u32>) {
+    let mut points = parts.concat();
+    let mut room = used(points.len() + 3);
+    assert_eq!(call(&mut room).unwrap_err(), number);
+    points.extend([BEFORE; 3]);
+    assert!(room.points() == points, "the room after the refusal {number}");
+}
+
+#[test]
+fn a_refused_call_leaves_the_code_points_in_the_room() {
+    let long = vec![0x61; 1_048_577];
+    refused(1, &[&long], |room| room.content_row_count(&bytes(&long)));
+    refused(1, &[&long], |room| room.columns(Columns::LeadingVisualWidth, &bytes(&long), 8));
+    let bad: &[u32] = &[0x61, 0xD800];
+    refused(2, &[bad], |room| room.matching_bracket_pos(&bytes(bad), 0, 0));
+    refused(2, &[bad], |room| room.offsets(Offsets::VisualOffsetForCharCol { start: 0, col: 0 }, &bytes(bad)));
+    refused(2, &[&[0x40]], |room| room.keywords(Keywords::Matches(0xDFFF), &bytes(&[0x40])));
+    let find = Seek::FindCharOnLine { x: 0x110000, forward: true, till: false, skip_adjacent: false };
+    refused(2, &[&[0x61]], |room| room.seek(find, &bytes(&[0x61]), START));
+    refused(3, &[&[0x0D]], |room| room.motion(Motion::move_left, &bytes(&[0x0D]), START, 1));
+    let outside = Caret { row: 0, col: 2, sticky: Some(5) };
+    refused(4, &[&[0x61]], |room| room.motion(Motion::move_top, &bytes(&[0x61]), outside, 1));
+    refused(4, &[&[0x61]], |room| room.viewport(Viewport::Top { top: 0, offset: 0 }, &bytes(&[0x61]), outside));
+    let down = |folds: &[u32], tabstop| {
+        let folds = bytes(folds);
+        move |room: &mut Room| room.vertical(Vertical::Down, &bytes(&[0x61]), START, Steps { folds: &folds, count: 1, tabstop })
+    };
+    refused(5, &[&[0x61], &[0, 1, 1]], down(&[0, 1, 1], 8));
+    refused(6, &[&[0x61], &[0, 0, 1]], down(&[0, 0, 1], 1_001));
+    refused(7, &[bad], |room| room.keywords(Keywords::IsKeywordChar(0x61), &bytes(bad)));
+    let tokens = [0x61, 0x2C].repeat(129);
+    refused(8, &[&tokens], |room| room.keywords(Keywords::Parse, &bytes(&tokens)));
+    let mut segments = [BEFORE; 3];
+    refused(9, &[&[0x61; 2]], |room| room.wrap_segments(&bytes(&[0x61; 2]), 1, Wrap::Char, &mut segments));
+    assert_eq!(segments, [BEFORE; 3]);
+    refused(10, &[&[0, 1, 1]], |room| room.segment_for_col(&bytes(&[0, 1, 1]), 0));
 }
 
 #[test]
@@ -50,4 +107,16 @@ fn refusals_of_a_text() {
     assert_eq!(content_row_count(&[0xD800, 0x0D]), Err(2));
     assert_eq!(content_row_count(&[0x2028]), Err(3));
     assert_eq!(content_row_count(&[]), Ok(1));
+}
+
+#[test]
+fn a_character_tested_is_a_scalar_value() {
+    for x in [0xD7FF, 0xE000, 0x10FFFF] {
+        assert!(tsivareza::is_scalar(x));
+        assert!(tsivareza::is_white(x).is_ok() && tsivareza::is_letter(x).is_ok() && tsivareza::width(x).is_ok());
+    }
+    for x in [0xD800, 0xDFFF, 0x110000, u32::MAX] {
+        assert!(!tsivareza::is_scalar(x));
+        assert_eq!((tsivareza::is_white(x), tsivareza::is_letter(x), tsivareza::width(x)), (Err(2), Err(2), Err(2)));
+    }
 }

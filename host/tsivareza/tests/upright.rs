@@ -13,12 +13,15 @@ fn text_and_folds_share_the_room() {
         room.vertical(Vertical::Down, &text, at(0, 1, None), Steps { folds, count: 1, tabstop: 8 })
     };
     let mut room = Room::new(5);
+    assert_eq!(room.content_row_count(&bytes(&[7; 5])), Ok(1));
     assert_eq!(down(&mut room, &folds), Err(102));
     assert_eq!(down(&mut room, &folds[..11]), Err(101));
-    assert_eq!(room.points(), [0; 5]);
+    assert_eq!(room.points(), [7; 5]);
     let mut room = Room::new(7);
     assert_eq!(down(&mut room, &folds), Ok(at(1, 0, Some(1))));
     assert_eq!(room.points(), [0x61, 0x0A, 0x62, 0, 1, 0, 0]);
+    assert_eq!(down(&mut room, &bytes(&[0, 2])), Err(5));
+    assert_eq!(room.points(), [0x61, 0x0A, 0x62, 0, 2, 0, 0]);
 }
 
 #[test]

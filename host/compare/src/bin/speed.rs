@@ -59,15 +59,23 @@ fn case(call: &'static Call, n: usize, count: u32) -> Case {
     case
 }
 
-/// A fact about one code point, by the library and by the Rust.
+/// A fact about one code point, by the library and by the Rust; the number of its refusal where it is no scalar value.
 type Fact = fn(u32) -> u32;
+
+fn flag(told: Result<bool, u32>) -> u32 {
+    told.map_or_else(|number| number, u32::from)
+}
+
+fn rust(x: u32, fact: impl Fn(char) -> u32) -> u32 {
+    char::from_u32(x).map_or(2, fact)
+}
 
 fn facts(name: &str) -> Option<(Fact, Fact)> {
     Some(match name {
         "is_scalar" => (|x| tsivareza::is_scalar(x).into(), |x| char::from_u32(x).is_some().into()),
-        "is_letter" => (|x| tsivareza::is_letter(x).into(), |x| calls::is_letter(x).unwrap_or(false).into()),
-        "is_white" => (|x| tsivareza::is_white(x).into(), |x| calls::is_white(x).unwrap_or(false).into()),
-        "width" => (tsivareza::width, |x| calls::width(x).unwrap_or(0).into()),
+        "is_letter" => (|x| flag(tsivareza::is_letter(x)), |x| rust(x, |c| c.is_alphabetic().into())),
+        "is_white" => (|x| flag(tsivareza::is_white(x)), |x| rust(x, |c| c.is_whitespace().into())),
+        "width" => (|x| tsivareza::width(x).unwrap_or(2), |x| rust(x, calls::width_of)),
         _ => return None,
     })
 }

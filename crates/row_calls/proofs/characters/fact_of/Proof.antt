@@ -3,7 +3,7 @@ use mathlib.Core.Path.{ap, _∙_}
 use borrow.Author.Needs.{needs}
 use borrow.Author.Tests.{ne-eqb}
 use Rattle.lent.specs.declared.Told.the-variants.{Value}
-use Rattle.row_calls.specs.Characters.{fact}
+use Rattle.row_calls.specs.Characters.{fact, tested}
 use Rattle.lent.specs.Reply.{bit}
 use Rattle.row_calls.proofs.characters.fact_of.Statement.{statement}
 use Rattle.row_calls.proofs.characters.fact_of.Tie as tie
@@ -14,15 +14,21 @@ returns c = rw (c .before .before .match .keys1) (ap Value (c .bit-of .ensures �
 
 returns-2 : tie.Need-returns-2
 unfolding fact
-returns-2 c = rw (c .before .before .match .keys2) (ap Value (c .bit-of2 .ensures ∙ ap bit (c .before .is-white .ensures)))
+returns-2 c =
+    let b = c .before in let m = b .before .before in
+    rw (m .match .keys2) (c .tested .ensures ∙ ap (tested (m .before .args .x)) (b .bit-of2 .ensures ∙ ap bit (b .before .is-white .ensures)))
 
 returns-3 : tie.Need-returns-3
 unfolding fact
-returns-3 c = rw (c .before .before .match .keys3) (ap Value (c .bit-of3 .ensures ∙ ap bit (c .before .is-letter .ensures)))
+returns-3 c =
+    let b = c .before in let m = b .before .before in
+    rw (m .match .keys3) (c .tested2 .ensures ∙ ap (tested (m .before .args .x)) (b .bit-of3 .ensures ∙ ap bit (b .before .is-letter .ensures)))
 
 returns-4 : tie.Need-returns-4
 unfolding fact
-returns-4 c = rw (c .before .match .keys4) (ap Value (c .width .ensures))
+returns-4 c =
+    let m = c .before .before in
+    rw (m .match .keys4) (c .tested3 .ensures ∙ ap (tested (m .before .args .x)) (c .before .width .ensures))
 
 returns-5 : tie.Need-returns-5
 unfolding fact
@@ -34,6 +40,9 @@ pub fact-of-spec : {M : Type 1} → statement M
 fact-of-spec =
     tie.close
     (tie.spec
+    (λ c κs. search needs)
+    (λ c κs. search needs)
+    (λ c κs. search needs)
     (λ c κs. search needs)
     (λ c κs. search needs)
     (λ c κs. search needs)
