@@ -1,5 +1,6 @@
 -- What is promised of all calls at once.
 pub mod Examples
+pub mod Runs
 pub mod Results
 pub mod Landings
 pub mod KeyMoves

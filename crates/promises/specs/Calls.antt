@@ -1,5 +1,5 @@
--- One case of every public call, by the name that the Rust has for it: its reply, and two replies that its contract rules out.
--- Definitions only; `proofs/Examples.antt` computes it. Assumes nothing.
+-- A case of every public call, by the name that the Rust has for it, and of the session: its reply, and two replies that its contract
+-- rules out. Definitions only; `proofs/Examples.antt` and `proofs/Runs.antt` compute them. Assumes nothing.
 use Prim.Native.Nat.{ℕ}
 use Prim.Native.String.{String}
 use mathlib.Core.List.{List, [], _∷_}
@@ -16,6 +16,7 @@ use Rattle.fold_calls.specs.Terms.{words}
 use Rattle.text_calls.specs.Viewports.{viewports}
 use Rattle.fold_calls.specs.Upright.{verticals}
 use Rattle.row_calls.specs.Wraps.{offsets, segmentOf}
+use Rattle.session.specs.Session.{sessionOf}
 use Rattle.promises.specs.Asking.{codes, pair, key, till, byWord, with, none, at, found, yes, no}
 
 pub record Case : Type 0 where
@@ -90,6 +91,9 @@ calls =
     case "is_white" (told (fact 1 0xa0)) (answer yes) (answer no) (refused 2) ∷
     case "is_letter" (told (fact 2 123)) (answer no) (answer yes) (refused 2) ∷
     case "width" (told (fact 3 0x3042)) (value 2) (value 1) (value 0) ∷
+    case "is_white" (told (fact 1 0xd800)) (refused 2) (answer no) (answer yes) ∷
+    case "is_letter" (told (fact 2 0xdfff)) (refused 2) (answer no) (answer yes) ∷
+    case "width" (told (fact 3 0x110000)) (refused 2) (value 1) (value 0) ∷
     case "parse" (keywords 0 0 (codes "@,48-57,_")) (value 3) (value 1) (refused 8) ∷
     case "matches" (keywords 1 5 (codes "5")) (answer yes) (answer no) (refused 2) ∷
     case "is_keyword_char" (keywords 2 50 (codes "57-48")) (answer no) (answer yes) (refused 7) ∷
@@ -137,4 +141,11 @@ calls =
     case "matching_bracket_pos" (pair "([)]" 0 0) (answer (with 0 2)) (answer none) (answer (with 0 3)) ∷
     case "match_bracket" (key "<(>)" 0 0) (answer (found 0 3)) (missing 0 0) (answer (found 0 2)) ∷
     case "find_char_on_line" (till false "axx") (answer (found 0 0)) (missing 0 0) (answer (found 0 1)) ∷
+    []
+
+-- document 01's printed session: what it prints, that with `j` left out, and what a refused input prints
+unfoldable pub sessions : List Case
+sessions =
+    case "session" (answer (sessionOf (codes "w 1\nj 1\n% 1\n.\nif (n) {\nx (y)\n}\n")))
+    (answer (codes "w 0 3\nj 1 3\n% 1 2\n")) (answer (codes "w 0 3\n% 1 2\n")) (answer (codes "refused\n")) ∷
     []
