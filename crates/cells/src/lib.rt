@@ -3,15 +3,15 @@
 ghost use mathlib.Core.Path.{_≡_};
 ghost use Prim.Native.Nat.{_≤_};
 ghost use lib.ListN.{length};
-ghost use Rattle.chars.specs.Width.{widthOf};
+ghost use Rattle.chars.specs.Width.{widthBy, Widths};
 ghost use Rattle.cells.specs.Cells.{cellsOf, fits};
 ghost use Rattle.cells.specs.Offsets.{cellsIn};
-ghost use Rattle.cells.specs.Lent.{Widths};
 
 // The cells of x: its width, and at least one.
 pub fn cells_of(zeros: &[u32], doubles: &[u32], x: u32) -> u32
     requires { ⌜ Widths (now zeros) (now doubles) ⌝ }
-    ensures { λ r. ⌜ (r ≡ cellsOf widthOf x) × (r ≤ 4) ⌝ }
+    ensures { λ r. ⌜ r ≡ cellsOf (widthBy (now (zeros .entry)) (now (doubles .entry))) x ⌝ }
+    ensures { λ r. ⌜ r ≤ 4 ⌝ }
 {
     let width = chars::width_in(zeros, doubles, x);
     if width == 0 {
@@ -24,7 +24,8 @@ pub fn cells_of(zeros: &[u32], doubles: &[u32], x: u32) -> u32
 // that no sum can pass the largest number.
 pub fn fitting(zeros: &[u32], doubles: &[u32], row: &[u32], room: u32) -> usize
     requires { ⌜ Widths (now zeros) (now doubles) ⌝ }
-    ensures { λ r. ⌜ r ≡ fits widthOf room (now (row .entry)) ⌝ }
+    ensures { λ r. ⌜ r ≡ fits (widthBy (now (zeros .entry)) (now (doubles .entry))) room
+        (now (row .entry)) ⌝ }
     ensures { λ r. ⌜ r ≤ length (now (row .entry)) ⌝ }
 {
     let mut left = room;
@@ -43,7 +44,8 @@ pub fn fitting(zeros: &[u32], doubles: &[u32], row: &[u32], room: u32) -> usize
 // The cells of all characters of a row: at most 4 each, so the sum fits.
 pub fn cells_in(zeros: &[u32], doubles: &[u32], row: &[u32]) -> u32
     requires { ⌜ Widths (now zeros) (now doubles) × (length (now row) ≤ 1048576) ⌝ }
-    ensures { λ r. ⌜ r ≡ cellsIn widthOf (now (row .entry)) ⌝ }
+    ensures { λ r. ⌜ r ≡ cellsIn (widthBy (now (zeros .entry)) (now (doubles .entry)))
+        (now (row .entry)) ⌝ }
 {
     let mut sum: u32 = 0;
     let mut i: usize = 0;

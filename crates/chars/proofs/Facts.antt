@@ -1,15 +1,16 @@
--- Facts that other crates cite: no width is above 4, and the classes of some code points. Assumes nothing.
+-- Facts that other crates cite: no width by any tables is above 4, and the classes of some code points. Assumes nothing.
 use Prim.Native.Nat.{ℕ, _≤_}
 use mathlib.Core.Path.{_≡_, refl}
+use mathlib.Core.List.{List}
 use mathlib.Core.Bool.{Bool, true, false, cond}
 use native.Mathlib.Omega.{arith}
 use Rattle.ranges.specs.Ranges.{inTable}
 use Rattle.chars.specs.White.{whites, isWhite}
-use Rattle.chars.specs.Width.{zeroWidths, doubleWidths, widthOf}
+use Rattle.chars.specs.Width.{widthBy}
 
-pub width-most : (x : ℕ) → widthOf x ≤ 4
-unfolding widthOf
-width-most x = most (inTable x zeroWidths) (inTable x doubleWidths)
+pub width-most : (zeros doubles : List ℕ) (x : ℕ) → widthBy zeros doubles x ≤ 4
+unfolding widthBy
+width-most zeros doubles x = most (inTable x zeros) (inTable x doubles)
   where
     most : (z d : Bool) → cond z 0 (cond d 2 1) ≤ 4
     most true d = omega arith

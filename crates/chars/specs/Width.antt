@@ -1,9 +1,28 @@
--- What the contracts of `src/widths.rt` cite: the width in cells, by the generated tables of the widths other than 1.
--- Document 01, "Character facts". Definitions only; that no width is above 4 is `width-most` in `proofs/Facts.antt`. Assumes nothing.
-use Prim.Native.Nat.{ℕ}
+-- What the contracts of `src/widths.rt` and of every walk over widths cite: the width in cells, by tables of the widths other than 1.
+-- Document 01, "Character facts". Definitions only; that no width is above 4 is `width-most` in `proofs/Facts.antt`, and that the generated
+-- tables are as `Widths` says is `widths-lent` in `proofs/Lent.antt`. Assumes nothing.
+use Prim.Native.Nat.{ℕ, _<_}
+use mathlib.Core.Path.{_≡_}
+use mathlib.Core.List.{List}
 use mathlib.Core.Bool.{cond}
-use Rattle.ranges.specs.Ranges.{inTable}
+use lib.Dec.{T, eqb}
+use Rattle.ranges.specs.Ranges.{inTable, ascending}
 unfoldable pub use Rattle.chars.specs.WidthTables.{zeroWidths, doubleWidths}
 
+-- the width of x by a table of what has no cell and one of what has two; what is in neither has one
+unfoldable pub widthBy : List ℕ → List ℕ → ℕ → ℕ
+widthBy zeros doubles x = cond (inTable x zeros) 0 (cond (inTable x doubles) 2 1)
+
+-- by the generated tables
 unfoldable pub widthOf : ℕ → ℕ
-widthOf x = cond (inTable x zeroWidths) 0 (cond (inTable x doubleWidths) 2 1)
+widthOf = widthBy zeroWidths doubleWidths
+
+-- the width of a low code point: U+0000 has no cell, and any other has one
+abbrev pub lowWidth : ℕ → ℕ
+lowWidth x = cond (eqb x 0) 0 1
+
+-- all that a walk requires of the tables that it is lent: each ascends, and of ASCII they hold U+0000 alone, with no cell
+pub record Widths (zeros doubles : List ℕ) : Type 0 where
+  pub zeros-ascend : T (ascending zeros)
+  pub doubles-ascend : T (ascending doubles)
+  pub low : (x : ℕ) → x < 0x80 → widthBy zeros doubles x ≡ lowWidth x

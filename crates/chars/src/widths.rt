@@ -2,13 +2,11 @@
 use crate::width_tables::DOUBLE_WIDTH;
 use crate::width_tables::ZERO_WIDTH;
 ghost use mathlib.Core.Path.{_≡_};
-ghost use Prim.Native.Nat.{_<_};
-ghost use Rattle.chars.specs.Width.{zeroWidths, doubleWidths, widthOf};
+ghost use Rattle.chars.specs.Width.{widthBy, widthOf, lowWidth, Widths};
 
-// The width of x, below U+0300: 0 for U+0000 and 1 for the others.
+// 0 for U+0000 and 1 for any other: the width of a low code point.
 fn low_width(x: u32) -> u32
-    requires { ⌜ x < 0x300 ⌝ }
-    ensures { λ r. ⌜ r ≡ widthOf x ⌝ }
+    ensures { λ r. ⌜ r ≡ lowWidth x ⌝ }
 {
     if x == 0 {
         return 0;
@@ -16,12 +14,13 @@ fn low_width(x: u32) -> u32
     1
 }
 
-// The width of x, by the tables ZERO_WIDTH and DOUBLE_WIDTH that are lent.
+// The width of x by the tables that are lent: of what has no cell, and of what has two. ASCII is
+// decided without them.
 pub fn width_in(zeros: &[u32], doubles: &[u32], x: u32) -> u32
-    requires { ⌜ (now zeros ≡ zeroWidths) × (now doubles ≡ doubleWidths) ⌝ }
-    ensures { λ r. ⌜ r ≡ widthOf x ⌝ }
+    requires { ⌜ Widths (now zeros) (now doubles) ⌝ }
+    ensures { λ r. ⌜ r ≡ widthBy (now (zeros .entry)) (now (doubles .entry)) x ⌝ }
 {
-    if x < 0x300 {
+    if x < 0x80 {
         return low_width(x);
     }
     if ranges::in_table(zeros, x) {
@@ -33,7 +32,7 @@ pub fn width_in(zeros: &[u32], doubles: &[u32], x: u32) -> u32
     1
 }
 
-// The same for one that is not low: names the tables.
+// The same by the tables of today, which it names.
 fn high_width(x: u32) -> u32
     ensures { λ r. ⌜ r ≡ widthOf x ⌝ }
 {

@@ -9,11 +9,11 @@ use Rattle.columns.specs.Columns.{visualFrom, cursorFrom}
 use Rattle.columns.proofs.Visual.{visual-step, tab-cells}
 
 module _ (w : ℕ → ℕ) (tab : ℕ) (row : List ℕ) (i : ℕ) where
-  pub cursor-past : length row ≤ i → cursorFrom w tab row i ≡ visualFrom w tab 0 row i
-  cursor-past h = rw (List·getD-eq-default row 0 h)
+  pub cursor-past : length row ≤ i → {v : ℕ} → v ≡ visualFrom w tab 0 row i → v ≡ cursorFrom w tab row i
+  cursor-past h k = rw (List·getD-eq-default row 0 h) k
 
-  pub cursor-other : (getD row i 0 ≡ 9 → ⊥) → cursorFrom w tab row i ≡ visualFrom w tab 0 row i
-  cursor-other n = rw (ne-eqb _ 9 n)
+  pub cursor-other : (getD row i 0 ≡ 9 → ⊥) → {v : ℕ} → v ≡ visualFrom w tab 0 row i → v ≡ cursorFrom w tab row i
+  cursor-other n k = rw (ne-eqb _ 9 n) k
 
   pub cursor-tab : getD row i 0 ≡ 9 → {v : ℕ} → v ≡ visualFrom w tab 0 row (i + 1) → v - 1 ≡ cursorFrom w tab row i
   cursor-tab e {v} k = rw (eq-eqb _ 9 e, k)

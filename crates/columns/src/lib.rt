@@ -1,12 +1,16 @@
 // Tab columns of one row: where a character stands on the screen, and which character a screen
-// column holds. From `geom.rs`. Each call checks the row in one pass and walks it in one more.
+// column holds. From `geom.rs`. Each call checks the row in one pass and walks it in one more, by
+// the tables of widths that the walk is lent.
 use row::Column;
 use tabstops::cell_width;
 use tabstops::refused;
 use tabstops::stop_of;
 ghost use mathlib.Core.Path.{_≡_};
-ghost use Rattle.chars.specs.Width.{widthOf};
+ghost use Prim.Native.Nat.{_≤_};
+ghost use lib.ListN.{length};
+ghost use Rattle.chars.specs.Width.{widthBy, Widths};
 ghost use Rattle.columns.specs.Columns.{visualFrom, charFrom, cursorFrom};
+ghost use Rattle.columns.specs.Columns.{visualCol, charCol, cursorCol};
 ghost use Rattle.columns.specs.Calls.{visualColToCharCol, charColToVisualCol};
 ghost use Rattle.columns.specs.Calls.{cursorVisualCol};
 ghost use Rattle.columns.specs.Ready.{Ready};
@@ -14,7 +18,8 @@ ghost use Rattle.columns.specs.Ready.{Ready};
 // The visual column of character `col`, or the row's width where it has no such character.
 fn visual_at(zeros: &[u32], doubles: &[u32], row: &[u32], col: usize, tab: u32) -> u32
     requires { ⌜ Ready (now zeros) (now doubles) (now row) tab ⌝ }
-    ensures { λ r. ⌜ r ≡ visualFrom widthOf tab 0 (now (row .entry)) col ⌝ }
+    ensures { λ r. ⌜ r ≡ visualFrom (widthBy (now (zeros .entry)) (now (doubles .entry)))
+        tab 0 (now (row .entry)) col ⌝ }
 {
     let mut visual: u32 = 0;
     let mut i: usize = 0;
@@ -32,7 +37,8 @@ fn visual_at(zeros: &[u32], doubles: &[u32], row: &[u32], col: usize, tab: u32) 
 // cells never holds one, so it is passed over.
 fn char_at(zeros: &[u32], doubles: &[u32], row: &[u32], target: u32, tab: u32) -> u32
     requires { ⌜ Ready (now zeros) (now doubles) (now row) tab ⌝ }
-    ensures { λ r. ⌜ r ≡ charFrom widthOf tab 0 (now (row .entry)) target ⌝ }
+    ensures { λ r. ⌜ r ≡ charFrom (widthBy (now (zeros .entry)) (now (doubles .entry)))
+        tab 0 (now (row .entry)) target ⌝ }
 {
     let mut visual: u32 = 0;
     let mut i: usize = 0;
@@ -50,7 +56,8 @@ fn char_at(zeros: &[u32], doubles: &[u32], row: &[u32], target: u32, tab: u32) -
 // The visual column in which a cursor on character `col` is drawn.
 fn cursor_at(zeros: &[u32], doubles: &[u32], row: &[u32], col: usize, tab: u32) -> u32
     requires { ⌜ Ready (now zeros) (now doubles) (now row) tab ⌝ }
-    ensures { λ r. ⌜ r ≡ cursorFrom widthOf tab (now (row .entry)) col ⌝ }
+    ensures { λ r. ⌜ r ≡ cursorFrom (widthBy (now (zeros .entry)) (now (doubles .entry)))
+        tab (now (row .entry)) col ⌝ }
 {
     if col >= row.len() {
         return visual_at(zeros, doubles, row, col, tab);
@@ -59,6 +66,39 @@ fn cursor_at(zeros: &[u32], doubles: &[u32], row: &[u32], col: usize, tab: u32) 
         return visual_at(zeros, doubles, row, col + 1, tab) - 1;
     }
     visual_at(zeros, doubles, row, col, tab)
+}
+
+// `visual_col_to_char_col` of a row that was accepted, by the tables that are lent.
+pub fn char_col_in(zeros: &[u32], doubles: &[u32], row: &[u32], visual: u32, tabstop: u32) -> u32
+    requires { ⌜ Widths (now zeros) (now doubles) ⌝ }
+    requires { ⌜ (length (now row) ≤ 1048576) × (tabstop ≤ 1000) ⌝ }
+    ensures { λ r. ⌜ r ≡ charCol (widthBy (now (zeros .entry)) (now (doubles .entry)))
+        tabstop (now (row .entry)) visual ⌝ }
+{
+    if visual == 0 {
+        return 0;
+    }
+    char_at(zeros, doubles, row, visual, stop_of(tabstop))
+}
+
+// `char_col_to_visual_col` of such a row.
+fn visual_col_in(zeros: &[u32], doubles: &[u32], row: &[u32], col: usize, tabstop: u32) -> u32
+    requires { ⌜ Widths (now zeros) (now doubles) ⌝ }
+    requires { ⌜ (length (now row) ≤ 1048576) × (tabstop ≤ 1000) ⌝ }
+    ensures { λ r. ⌜ r ≡ visualCol (widthBy (now (zeros .entry)) (now (doubles .entry)))
+        tabstop (now (row .entry)) col ⌝ }
+{
+    visual_at(zeros, doubles, row, col, stop_of(tabstop))
+}
+
+// `cursor_visual_col` of such a row.
+pub fn cursor_col_in(zeros: &[u32], doubles: &[u32], row: &[u32], col: usize, tabstop: u32) -> u32
+    requires { ⌜ Widths (now zeros) (now doubles) ⌝ }
+    requires { ⌜ (length (now row) ≤ 1048576) × (tabstop ≤ 1000) ⌝ }
+    ensures { λ r. ⌜ r ≡ cursorCol (widthBy (now (zeros .entry)) (now (doubles .entry)))
+        tabstop (now (row .entry)) col ⌝ }
+{
+    cursor_at(zeros, doubles, row, col, stop_of(tabstop))
 }
 
 // The character whose cells hold visual column `visual`, or the row's count past its end.
@@ -70,11 +110,13 @@ pub fn visual_col_to_char_col(row: &[u32], visual: u32, tabstop: u32) -> Column
     if f != 0 {
         return Column::Refused(f);
     }
-    if visual == 0 {
-        return Column::At(0);
-    }
-    let tab = stop_of(tabstop);
-    Column::At(char_at(&chars::ZERO_WIDTH, &chars::DOUBLE_WIDTH, row, visual, tab))
+    Column::At(char_col_in(
+        &chars::ZERO_WIDTH,
+        &chars::DOUBLE_WIDTH,
+        row,
+        visual,
+        tabstop,
+    ))
 }
 
 // The visual column of the first cell of character `col`, or the row's width past its end.
@@ -85,13 +127,12 @@ pub fn char_col_to_visual_col(row: &[u32], col: u32, tabstop: u32) -> Column
     if f != 0 {
         return Column::Refused(f);
     }
-    let tab = stop_of(tabstop);
-    Column::At(visual_at(
+    Column::At(visual_col_in(
         &chars::ZERO_WIDTH,
         &chars::DOUBLE_WIDTH,
         row,
         col as usize,
-        tab,
+        tabstop,
     ))
 }
 
@@ -104,12 +145,11 @@ pub fn cursor_visual_col(row: &[u32], col: u32, tabstop: u32) -> Column
     if f != 0 {
         return Column::Refused(f);
     }
-    let tab = stop_of(tabstop);
-    Column::At(cursor_at(
+    Column::At(cursor_col_in(
         &chars::ZERO_WIDTH,
         &chars::DOUBLE_WIDTH,
         row,
         col as usize,
-        tab,
+        tabstop,
     ))
 }

@@ -3,9 +3,9 @@ use Prim.Native.Nat.{ℕ}
 use mathlib.Core.Path.{_≡_}
 use mathlib.Core.List.{List}
 use Rattle.chars.specs.White.{whites}
-use Rattle.cells.specs.Lent.{Widths}
+use Rattle.chars.specs.Width.{Widths}
 
--- the tables of widths and that of white space
+-- two tables of widths, and that of white space
 pub record Tables (zeros doubles white : List ℕ) : Type 0 where
   pub widths : Widths zeros doubles
   pub whites-are : white ≡ whites

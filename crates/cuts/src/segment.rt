@@ -4,8 +4,7 @@ ghost use mathlib.Core.Path.{_≡_};
 ghost use Prim.Native.Nat.{_+_, _≤_, _<_};
 ghost use lib.ListN.{length, set};
 ghost use Rattle.chars.specs.White.{whites, isWhite};
-ghost use Rattle.chars.specs.Width.{widthOf};
-ghost use Rattle.cells.specs.Lent.{Widths};
+ghost use Rattle.chars.specs.Width.{widthBy, Widths};
 ghost use Rattle.cuts.specs.Segments.{afterWhite, charSegment, firstSegment};
 ghost use Rattle.cuts.specs.Lent.{Tables};
 
@@ -28,7 +27,8 @@ fn after_white(white: &[u32], row: &[u32], n: usize) -> usize
 // alone: without that the segment would be empty, and no walk would get past it.
 fn char_segment(zeros: &[u32], doubles: &[u32], row: &[u32], width: u32) -> usize
     requires { ⌜ Widths (now zeros) (now doubles) × (0 < length (now row)) ⌝ }
-    ensures { λ r. ⌜ r ≡ charSegment widthOf width (now (row .entry)) ⌝ }
+    ensures { λ r. ⌜ r ≡ charSegment (widthBy (now (zeros .entry)) (now (doubles .entry))) width
+        (now (row .entry)) ⌝ }
     ensures { λ r. ⌜ (0 < r) × (r ≤ length (now (row .entry))) ⌝ }
 {
     let n = cells::fitting(zeros, doubles, row, width);
@@ -49,7 +49,8 @@ pub fn first_segment(
     word: bool,
 ) -> usize
     requires { ⌜ Tables (now zeros) (now doubles) (now white) × (0 < length (now row)) ⌝ }
-    ensures { λ r. ⌜ r ≡ firstSegment widthOf isWhite word width (now (row .entry)) ⌝ }
+    ensures { λ r. ⌜ r ≡ firstSegment (widthBy (now (zeros .entry)) (now (doubles .entry))) isWhite
+        word width (now (row .entry)) ⌝ }
     ensures { λ r. ⌜ (0 < r) × (r ≤ length (now (row .entry))) ⌝ }
 {
     let n = char_segment(zeros, doubles, row, width);

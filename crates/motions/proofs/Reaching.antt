@@ -3,6 +3,7 @@ use mathlib.Core.Path.{_≡_}
 use mathlib.Core.List.{List, [], _∷_}
 use mathlib.Core.Bool.{Bool}
 use Prim.Native.Nat.{ℕ}
+use Rattle.chars.specs.Width.{widthOf}
 use Rattle.accept.specs.Accept.{textRefusal}
 use Rattle.text.specs.Text.{rowCount}
 use Rattle.folds.specs.Folds.{foldRefusal}
@@ -27,14 +28,14 @@ module _ (t folds : List ℕ) (tabstop : ℕ) (k : Caret) where
   rows-lands down count =
       moving-lands t (verticalRefusal t folds tabstop k) _ (λ z.
       let i = own z in
-      let r = rows-inside t folds tabstop (k .row) (k .col) (k .sticky) (deltaOf down count) (record { in-row = i .in-row; in-col = i .in-col }) in
+      let r = rows-inside widthOf t folds tabstop (k .row) (k .col) (k .sticky) (deltaOf down count) (record { in-row = i .in-row; in-col = i .in-col }) in
       record { in-row = r .in-row; in-col = r .in-col })
 
   pub screen-lands : (mode : Wrap) (width : ℕ) (down : Bool) (count : ℕ) → Lands t (moveScreenRows t folds tabstop mode width down count k)
   screen-lands mode width down count =
       moving-lands t (verticalRefusal t folds tabstop k) _ (λ z.
       let i = own z in
-      let r = move-inside t folds tabstop (k .row) (k .col) (k .sticky) mode width down count
+      let r = move-inside widthOf t folds tabstop (k .row) (k .col) (k .sticky) mode width down count
       (record { in-row = i .in-row; in-col = i .in-col }) in
       record { in-row = r .in-row; in-col = r .in-col })
 

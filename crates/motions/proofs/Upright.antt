@@ -5,6 +5,7 @@ use mathlib.Core.Bool.{Bool}
 use Prim.Native.Nat.{ℕ, _≤_, _<_, _^_}
 use native.Mathlib.Omega.{arith}
 use borrow.Author.Tests.{lt-ltb, le-ltb}
+use Rattle.chars.specs.Width.{widthOf}
 use Rattle.text.proofs.Parts.{count-le, row-fits}
 use Rattle.wrap.specs.declared.Wrap.{Wrap}
 use Rattle.vertical.specs.declared.Sticky.{Sticky}
@@ -15,7 +16,7 @@ use Rattle.screen.specs.Screen.{moveScreen}
 use Rattle.screen.proofs.Inside.{move-inside}
 use Rattle.positions.specs.declared.Entry.{Entry}
 use Rattle.positions.specs.Positions.{entryFolds}
-use Rattle.positions.proofs.Entered.{folds-clear, folds-good, folds-entered}
+use Rattle.positions.proofs.Entered.{folds-good, folds-entered}
 use Rattle.motions.specs.declared.Caret.{Caret}
 use Rattle.motions.specs.Carets.{here, placed}
 use Rattle.motions.specs.UpDown.{stopRefusal, atTarget, Ready}
@@ -33,7 +34,7 @@ pub upright-ready : (t folds : List ℕ) (tabstop : ℕ) (k : Caret) (e : Entry)
 upright-ready t folds tabstop k e is z h =
     let a = folds-entered t folds (here k) e is z in
     record {
-      row-good = record { good = folds-clear t folds (here k) e is z; brief = a .brief; in-rows = a .here .in-row; stop = h };
+      row-good = record { brief = a .brief; in-rows = a .here .in-row; stop = h };
       here = a .here;
       line = a .line;
       folds-good = folds-good t folds (here k) e is z;
@@ -42,11 +43,11 @@ upright-ready t folds tabstop k e is z h =
 -- the target is in the text, so that its numbers fit a u32
 pub target-fits : {t folds : List ℕ} {tabstop start : ℕ} (k : Caret) → Ready t folds tabstop k start →
     (mode : Wrap) (width : ℕ) (down : Bool) (count : ℕ) (s : Sticky) (p : Target) →
-    p ≡ moveScreen t folds tabstop mode width down count (k .row) (k .col) s → (p .row < 2 ^ 32) × (p .col < 2 ^ 32)
+    p ≡ moveScreen widthOf t folds tabstop mode width down count (k .row) (k .col) s → (p .row < 2 ^ 32) × (p .col < 2 ^ 32)
 target-fits {t} {folds} {tabstop} {start} k h mode width down count s p e =
     let own : Inside t (k .row) (k .col) = record { in-row = h .here .in-row; in-col = omega (arith, h .here .in-col) } in
-    let q = moveScreen t folds tabstop mode width down count (k .row) (k .col) s in
-    let i = move-inside t folds tabstop (k .row) (k .col) s mode width down count own in
+    let q = moveScreen widthOf t folds tabstop mode width down count (k .row) (k .col) s in
+    let i = move-inside widthOf t folds tabstop (k .row) (k .col) s mode width down count own in
     let row = ap (λ (x : Target). x .row) e in
     let col = ap (λ (x : Target). x .col) e in (
       omega (arith, row, i .in-row, count-le t, h .row-good .brief),

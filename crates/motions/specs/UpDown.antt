@@ -1,9 +1,10 @@
--- Up, down and the screen on carets: the refusals of a call, and where the walks of `vertical` and `screen` lead to. Motions.rs, "Vertical motions".
--- Definitions only; the laws are in `proofs/Upright.antt`. Assumes nothing.
+-- Up, down and the screen on carets: the refusals of a call, and where the walks of `vertical` and `screen` lead to by today's tables of widths.
+-- Motions.rs, "Vertical motions". Definitions only; the laws are in `proofs/Upright.antt`. Assumes nothing.
 use Prim.Native.Nat.{ℕ}
 use mathlib.Core.List.{List, [], _∷_}
 use mathlib.Core.Bool.{Bool, cond}
 use lib.Dec.{ltb}
+use Rattle.chars.specs.Width.{widthOf}
 use Rattle.accept.specs.Accept.{textRefusal}
 use Rattle.text.specs.Text.{rowCount}
 use Rattle.folds.specs.Folds.{foldRefusal}
@@ -34,11 +35,11 @@ atTarget p = record { row = p .row; col = p .col; sticky = At (p .want) }
 -- `j` and `k`
 abbrev pub moveRows : List ℕ → List ℕ → ℕ → Bool → ℕ → Caret → Moved
 moveRows t folds tabstop down count k =
-    moving (verticalRefusal t folds tabstop k) (atTarget (moveVertical t folds tabstop (deltaOf down count) (k .row) (k .col) (k .sticky)))
+    moving (verticalRefusal t folds tabstop k) (atTarget (moveVertical widthOf t folds tabstop (deltaOf down count) (k .row) (k .col) (k .sticky)))
 
 -- `gj` and `gk`
 abbrev pub screenCaret : List ℕ → List ℕ → ℕ → Wrap → ℕ → Bool → ℕ → Caret → Caret
-screenCaret t folds tabstop mode width down count k = atTarget (moveScreen t folds tabstop mode width down count (k .row) (k .col) (k .sticky))
+screenCaret t folds tabstop mode width down count k = atTarget (moveScreen widthOf t folds tabstop mode width down count (k .row) (k .col) (k .sticky))
 
 abbrev pub moveScreenRows : List ℕ → List ℕ → ℕ → Wrap → ℕ → Bool → ℕ → Caret → Moved
 moveScreenRows t folds tabstop mode width down count k = moving (verticalRefusal t folds tabstop k) (screenCaret t folds tabstop mode width down count k)

@@ -1,5 +1,5 @@
-// `j`, `k`, `gj` and `gk`: motions.rs, "Vertical motions". The walks are those of `screen`.
-// `j` and `k` are the screen moves of a viewport that doesn't wrap.
+// `j`, `k`, `gj` and `gk`: motions.rs, "Vertical motions". The walks are those of `screen`, which
+// are lent the tables of widths. `j` and `k` are the screen moves of a viewport that doesn't wrap.
 use crate::Caret;
 use crate::Moved;
 use text::Line;
@@ -37,6 +37,8 @@ impl Caret {
         };
         let s = self.sticky;
         let p = screen::wrapped::move_screen(
+            &chars::ZERO_WIDTH,
+            &chars::DOUBLE_WIDTH,
             t,
             folds,
             l,

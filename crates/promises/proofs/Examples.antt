@@ -2,7 +2,7 @@
 use mathlib.Core.Path.{_≡_, refl}
 use Rattle.letters.specs.Letters.{letters, isLetter}
 use Rattle.chars.specs.White.{whites, isWhite}
-use Rattle.chars.specs.Width.{zeroWidths, doubleWidths, widthOf}
+use Rattle.chars.specs.Width.{zeroWidths, doubleWidths, widthBy, widthOf}
 use Rattle.row.specs.Row.{rowRefusal}
 use Rattle.row.specs.Row.{columnOf as columnAt}
 use Rattle.tabstops.specs.Cells.{columnRefusal, stopOf}
@@ -63,7 +63,7 @@ use Rattle.promises.specs.Calls.{calls, judged, good}
 
 computed : given table ≡ asked table
 unfolding table
-    letters isLetter whites isWhite zeroWidths doubleWidths widthOf rowRefusal columnAt columnRefusal stopOf visualFrom charFrom
+    letters isLetter whites isWhite zeroWidths doubleWidths widthBy widthOf rowRefusal columnAt columnRefusal stopOf visualFrom charFrom
     fits afterWhite firstSegment segmentsFrom segmentsOf wrapRefusal countOf roomRefusal any textRefusal onFirst rows startIn rowOf
     anyFold foldRefusal visibleFrom allDigits value parts trimStart trimEnd upTo tokensIn anyOf
     sideOf keyBracket firstFrom lastBelow count stretch nearestOf placed matchingBracketPos keyTo landing findAhead
@@ -79,7 +79,7 @@ examples = record { table = computed; p11 = p11 }
 -- every call gives the right reply of its case, and neither of the two wrong ones
 pub right-alone : judged calls ≡ good calls
 unfolding calls
-    letters isLetter whites isWhite zeroWidths doubleWidths widthOf rowRefusal columnAt columnRefusal stopOf visualFrom charFrom leadingFrom
+    letters isLetter whites isWhite zeroWidths doubleWidths widthBy widthOf rowRefusal columnAt columnRefusal stopOf visualFrom charFrom leadingFrom
     fits afterWhite firstSegment segmentsFrom segmentsOf wrapRefusal cellsIn pairsBefore countOf roomRefusal any textRefusal onFirst rows startIn rowOf
     anyFold foldRefusal visibleFrom prevVisible roundsOf verticalRow landed stepScreen allDigits value parts trimStart trimEnd upTo tokensIn anyOf
     sideOf keyBracket firstFrom lastBelow count stretch nearestOf placed matchingBracketPos keyTo landing findAhead

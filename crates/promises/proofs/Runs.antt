@@ -2,7 +2,7 @@
 use mathlib.Core.Path.{_≡_, refl}
 use Rattle.letters.specs.Letters.{letters, isLetter}
 use Rattle.chars.specs.White.{whites, isWhite}
-use Rattle.chars.specs.Width.{zeroWidths, doubleWidths, widthOf}
+use Rattle.chars.specs.Width.{zeroWidths, doubleWidths, widthBy, widthOf}
 use Rattle.chars.specs.Scalar.{any}
 use Rattle.row.specs.Row.{rowRefusal, columnOf}
 use Rattle.tabstops.specs.Cells.{columnRefusal, stopOf}
@@ -44,7 +44,7 @@ use Rattle.promises.specs.Calls.{sessions, judged, good}
 -- the session prints what document 01 says, and neither of the two wrong outputs
 pub session-alone : judged sessions ≡ good sessions
 unfolding sessions
-    letters isLetter whites isWhite zeroWidths doubleWidths widthOf any rowRefusal columnOf columnRefusal stopOf visualFrom charFrom
+    letters isLetter whites isWhite zeroWidths doubleWidths widthBy widthOf any rowRefusal columnOf columnRefusal stopOf visualFrom charFrom
     textRefusal onFirst rows startIn rowOf anyFold foldRefusal visibleFrom prevVisible
     allDigits value parts trimStart trimEnd upTo tokensIn anyOf
     sideOf keyBracket firstFrom lastBelow count stretch nearestOf placed matchingBracketPos keyTo

@@ -4,7 +4,7 @@ use mathlib.Core.List.{List, [], _∷_}
 use mathlib.Core.Bool.{true, false}
 use Prim.Native.Nat.{ℕ}
 use Rattle.chars.specs.White.{whites, isWhite}
-use Rattle.chars.specs.Width.{zeroWidths, doubleWidths, widthOf}
+use Rattle.chars.specs.Width.{zeroWidths, doubleWidths, widthBy, widthOf}
 use Rattle.tabstops.specs.Cells.{stopOf}
 use Rattle.columns.specs.Columns.{visualFrom, charFrom}
 use Rattle.wrap.specs.declared.Wrap.the-variants.{Char}
@@ -22,9 +22,9 @@ use Rattle.vertical.specs.Moves.{landed}
 use Rattle.screen.specs.Screen.{stepScreen, moveScreen}
 
 -- rows `a`, `bcde`, fold 0 to 1 closed, width 2: `gj` goes on inside the fold's hidden last row
-pub inside-fold : moveScreen (97 ∷ 10 ∷ 98 ∷ 99 ∷ 100 ∷ 101 ∷ []) (0 ∷ 1 ∷ 1 ∷ []) 8 Char 2 true 1 0 0 Absent ≡ record { row = 1; col = 2; want = 0 }
+pub inside-fold : moveScreen widthOf (97 ∷ 10 ∷ 98 ∷ 99 ∷ 100 ∷ 101 ∷ []) (0 ∷ 1 ∷ 1 ∷ []) 8 Char 2 true 1 0 0 Absent ≡ record { row = 1; col = 2; want = 0 }
 unfolding
-    rounds verticalRow landed onFirst rows anyFold visibleFrom prevVisible stopOf visualFrom charFrom zeroWidths doubleWidths widthOf
+    rounds verticalRow landed onFirst rows anyFold visibleFrom prevVisible stopOf visualFrom charFrom zeroWidths doubleWidths widthBy widthOf
     stepScreen segmentsOf segmentsFrom firstSegment fits afterWhite pairsBefore whites isWhite
 inside-fold = refl
 
@@ -33,10 +33,10 @@ abbrev threeRows : List ℕ
 threeRows = 97 ∷ 97 ∷ 97 ∷ 10 ∷ 10 ∷ 98 ∷ 98 ∷ 98 ∷ []
 
 pub no-sum :
-    (moveScreen threeRows [] 8 Char 9 false 2 2 2 Absent ≡ record { row = 0; col = 2; want = 2 }) ×
-    (moveScreen threeRows [] 8 Char 9 false 1 2 2 Absent ≡ record { row = 1; col = 0; want = 2 }) ×
-    (moveScreen threeRows [] 8 Char 9 false 1 1 0 (At 2) ≡ record { row = 0; col = 0; want = 2 })
+    (moveScreen widthOf threeRows [] 8 Char 9 false 2 2 2 Absent ≡ record { row = 0; col = 2; want = 2 }) ×
+    (moveScreen widthOf threeRows [] 8 Char 9 false 1 2 2 Absent ≡ record { row = 1; col = 0; want = 2 }) ×
+    (moveScreen widthOf threeRows [] 8 Char 9 false 1 1 0 (At 2) ≡ record { row = 0; col = 0; want = 2 })
 unfolding
-    rounds verticalRow landed onFirst rows anyFold visibleFrom prevVisible stopOf visualFrom charFrom zeroWidths doubleWidths widthOf
+    rounds verticalRow landed onFirst rows anyFold visibleFrom prevVisible stopOf visualFrom charFrom zeroWidths doubleWidths widthBy widthOf
     stepScreen segmentsOf segmentsFrom firstSegment fits afterWhite pairsBefore whites isWhite
 no-sum = (refl, refl, refl)

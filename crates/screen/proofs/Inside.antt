@@ -8,7 +8,6 @@ use native.Mathlib.Omega.{arith}
 use lib.Dec.{eqb, ltb}
 use borrow.Author.Tests.{eq-eqb, ne-eqb}
 use Rattle.chars.specs.White.{isWhite}
-use Rattle.chars.specs.Width.{widthOf}
 use Rattle.wrap.specs.declared.Wrap.{Wrap}
 use Rattle.wrap.specs.Modes.{isNone, segmentsOf}
 use Rattle.text.specs.Text.{rowCount, rowAt, contentRows}
@@ -70,11 +69,12 @@ jump-inside t folds down p i = go (closedFoldAt folds (rowCount t) (contentRows 
         (ℕ-discrete row (p .row))
 
 -- a whole call
-pub move-inside : (t folds : List ℕ) (tabstop row col : ℕ) (sticky : Sticky) (mode : Wrap) (width : ℕ) (down : Bool) (count : ℕ) → Inside t row col →
-    let p = moveScreen t folds tabstop mode width down count row col sticky in Inside t (p .row) (p .col)
-move-inside t folds tabstop row col sticky mode width down count i = go (eqb width 0 || isNone mode)
+pub move-inside : (w : ℕ → ℕ) (t folds : List ℕ) (tabstop row col : ℕ) (sticky : Sticky) (mode : Wrap) (width : ℕ) (down : Bool) (count : ℕ) →
+    Inside t row col →
+    let p = moveScreen w t folds tabstop mode width down count row col sticky in Inside t (p .row) (p .col)
+move-inside w t folds tabstop row col sticky mode width down count i = go (eqb width 0 || isNone mode)
   where
-    go : (b : Bool) → let p = cond b (moveVertical t folds tabstop (deltaOf down count) row col sticky)
-        (screenTarget t folds tabstop (segmentsOf widthOf isWhite mode width) down count row col sticky) in Inside t (p .row) (p .col)
-    go true = rows-inside t folds tabstop row col sticky (deltaOf down count) i
+    go : (b : Bool) → let p = cond b (moveVertical w t folds tabstop (deltaOf down count) row col sticky)
+        (screenTarget w t folds tabstop (segmentsOf w isWhite mode width) down count row col sticky) in Inside t (p .row) (p .col)
+    go true = rows-inside w t folds tabstop row col sticky (deltaOf down count) i
     go false = screen-inside t folds _ down (max count 1) _ (jump-inside t folds down (record { row = row; col = col }) i)

@@ -20,99 +20,99 @@ use Rattle.screen.specs.Screen.{seatOf, stepScreen, screenFrom}
 use Rattle.screen.specs.Walks.{placeAt, aheadAt, seatAt}
 use Rattle.screen.proofs.ScreenRounds.{ahead-within, ahead-in, same-on, same-off, stuck}
 
-module _ (t : List ℕ) (word : Bool) (width : ℕ) (down : Bool) (r : ℕ) {line : List ℕ} (is : line ≡ rowAt t r) where
+module _ (w : ℕ → ℕ) (t : List ℕ) (word : Bool) (width : ℕ) (down : Bool) (r : ℕ) {line : List ℕ} (is : line ≡ rowAt t r) where
   -- the segment of a spot, by the calls that find it
-  module _ (a : ℕ) {count index : ℕ} {part : Part} (c : count ≡ segmentCount (layOf word width line)) (i : index ≡ aheadOf down count a)
-      (p : part ≡ partFor (layOf word width line) (length line) index) (h : a < segmentCount (layOf word width (rowAt t r))) where
-    counted : count ≡ segmentCount (layOf word width (rowAt t r))
-    counted = c ∙ ap (λ (x : List ℕ). segmentCount (layOf word width x)) is
+  module _ (a : ℕ) {count index : ℕ} {part : Part} (c : count ≡ segmentCount (layOf w word width line)) (i : index ≡ aheadOf down count a)
+      (p : part ≡ partFor (layOf w word width line) (length line) index) (h : a < segmentCount (layOf w word width (rowAt t r))) where
+    counted : count ≡ segmentCount (layOf w word width (rowAt t r))
+    counted = c ∙ ap (λ (x : List ℕ). segmentCount (layOf w word width x)) is
 
     pub spot-inside : a < count
     spot-inside = omega (arith, counted)
 
-    there : aheadOf down (segmentCount (layOf word width (rowAt t r))) a < segmentCount (layOf word width (rowAt t r))
+    there : aheadOf down (segmentCount (layOf w word width (rowAt t r))) a < segmentCount (layOf w word width (rowAt t r))
     there = ahead-within down _ a h
 
-    part-is : part ≡ partAt (layOf word width (rowAt t r)) (aheadOf down (segmentCount (layOf word width (rowAt t r))) a)
+    part-is : part ≡ partAt (layOf w word width (rowAt t r)) (aheadOf down (segmentCount (layOf w word width (rowAt t r))) a)
     part-is =
         p ∙
-        ap (λ (x : List ℕ). partFor (layOf word width x) (length x) index) is ∙
-        ap (partFor (layOf word width (rowAt t r)) (rowLen t r)) (i ∙ ap (λ (n : ℕ). aheadOf down n a) counted) ∙
-        ap (partAt (layOf word width (rowAt t r))) (first-of (aheadOf down (segmentCount (layOf word width (rowAt t r))) a) there)
+        ap (λ (x : List ℕ). partFor (layOf w word width x) (length x) index) is ∙
+        ap (partFor (layOf w word width (rowAt t r)) (rowLen t r)) (i ∙ ap (λ (n : ℕ). aheadOf down n a) counted) ∙
+        ap (partAt (layOf w word width (rowAt t r))) (first-of (aheadOf down (segmentCount (layOf w word width (rowAt t r))) a) there)
       where
-        first-of : (k : ℕ) → k < segmentCount (layOf word width (rowAt t r)) → min k (segmentIndex (layOf word width (rowAt t r)) (rowLen t r)) ≡ k
-        first-of k l = omega (arith, seat-last (laid (modeOf word) width (rowAt t r)) (rowLen t r) (omega arith))
+        first-of : (k : ℕ) → k < segmentCount (layOf w word width (rowAt t r)) → min k (segmentIndex (layOf w word width (rowAt t r)) (rowLen t r)) ≡ k
+        first-of k l = omega (arith, seat-last (laid w (modeOf word) width (rowAt t r)) (rowLen t r) (omega arith))
 
     pub part-starts : part .start ≤ rowLen t r
     part-starts =
         let e = ap (λ (x : Part). x .start) part-is in
-        rw e (start-within (laid (modeOf word) width (rowAt t r)) _ there)
+        rw e (start-within (laid w (modeOf word) width (rowAt t r)) _ there)
 
     pub place-is : (offset col : ℕ) → col ≡ clampTo (part .start) (part .end) offset (length line) →
-        record { row = r; col = col } ≡ placeAt t (layOf word width) down offset r a
+        record { row = r; col = col } ≡ placeAt t (layOf w word width) down offset r a
     place-is offset col e =
         ap (λ (x : ℕ). record { row = r; col = x })
         (e ∙ ap (λ (x : List ℕ). clampTo (part .start) (part .end) offset (length x)) is ∙
         ap (λ (x : Part). clampTo (x .start) (x .end) offset (rowLen t r)) part-is)
 
   -- the segment of a place
-  module _ (col : ℕ) {count : ℕ} {part : Part} (c : count ≡ segmentCount (layOf word width line))
-      (p : part ≡ partFor (layOf word width line) col (length line)) where
-    seat-part : part ≡ partAt (layOf word width (rowAt t r)) (segmentIndex (layOf word width (rowAt t r)) col)
+  module _ (col : ℕ) {count : ℕ} {part : Part} (c : count ≡ segmentCount (layOf w word width line))
+      (p : part ≡ partFor (layOf w word width line) col (length line)) where
+    seat-part : part ≡ partAt (layOf w word width (rowAt t r)) (segmentIndex (layOf w word width (rowAt t r)) col)
     seat-part =
         p ∙
-        ap (λ (x : List ℕ). partFor (layOf word width x) col (length x)) is ∙
-        ap (partAt (layOf word width (rowAt t r)))
-        (omega (arith, seat-within (laid (modeOf word) width (rowAt t r)) col, few-segments word width (rowAt t r)))
+        ap (λ (x : List ℕ). partFor (layOf w word width x) col (length x)) is ∙
+        ap (partAt (layOf w word width (rowAt t r)))
+        (omega (arith, seat-within (laid w (modeOf word) width (rowAt t r)) col, few-segments w word width (rowAt t r)))
 
-    seat-count : count ≡ segmentCount (layOf word width (rowAt t r))
-    seat-count = c ∙ ap (λ (x : List ℕ). segmentCount (layOf word width x)) is
+    seat-count : count ≡ segmentCount (layOf w word width (rowAt t r))
+    seat-count = c ∙ ap (λ (x : List ℕ). segmentCount (layOf w word width x)) is
 
     pub seat-inside : part .index < count
-    seat-inside = omega (arith, seat-count, ap (λ (x : Part). x .index) seat-part, seat-within (laid (modeOf word) width (rowAt t r)) col)
+    seat-inside = omega (arith, seat-count, ap (λ (x : Part). x .index) seat-part, seat-within (laid w (modeOf word) width (rowAt t r)) col)
 
     pub seat-made : (a o : ℕ) → a ≡ aheadOf down count (part .index) → o ≡ col - part .start →
-        record { ahead = a; offset = o } ≡ seatAt t (layOf word width) down (record { row = r; col = col })
+        record { ahead = a; offset = o } ≡ seatAt t (layOf w word width) down (record { row = r; col = col })
     seat-made a o e q =
         let x = e ∙ ap (λ (n : ℕ). aheadOf down n (part .index)) seat-count ∙
-        ap (λ (y : Part). aheadOf down (segmentCount (layOf word width (rowAt t r))) (y .index)) seat-part in
+        ap (λ (y : Part). aheadOf down (segmentCount (layOf w word width (rowAt t r))) (y .index)) seat-part in
         let z = q ∙ ap (λ (y : Part). col - y .start) seat-part in
         λ i. record { ahead = x i; offset = z i }
 
 -- the rounds from a place are those from its spot, and where nothing lies ahead the place stays
-module _ (t folds : List ℕ) (word : Bool) (width : ℕ) (down : Bool) (n : ℕ) (h : 0 < n) (p : Place) {s : Seat}
-    (e : s ≡ seatAt t (layOf word width) down p) where
-  own-ahead : s .ahead ≡ aheadAt t (layOf word width) down p
+module _ (w : ℕ → ℕ) (t folds : List ℕ) (word : Bool) (width : ℕ) (down : Bool) (n : ℕ) (h : 0 < n) (p : Place) {s : Seat}
+    (e : s ≡ seatAt t (layOf w word width) down p) where
+  own-ahead : s .ahead ≡ aheadAt t (layOf w word width) down p
   own-ahead = ap (λ (x : Seat). x .ahead) e
 
-  lays : (row : List ℕ) → Laid (length row) (layOf word width row)
-  lays row = laid (modeOf word) width row
+  lays : (row : List ℕ) → Laid (length row) (layOf w word width row)
+  lays row = laid w (modeOf word) width row
 
-  pub from-inside : s .ahead < segmentCount (layOf word width (rowAt t (p .row)))
-  from-inside = rw own-ahead (ahead-in t folds (layOf word width) down 0 lays p)
+  pub from-inside : s .ahead < segmentCount (layOf w word width (rowAt t (p .row)))
+  from-inside = rw own-ahead (ahead-in t folds (layOf w word width) down 0 lays p)
 
   pub from-near : s .offset ≤ p .col
   from-near = omega (arith, ap (λ (x : Seat). x .offset) e)
 
   kept : ℕ
-  kept = p .col - getD (layOf word width (rowAt t (p .row))) (2 * seatOf t (layOf word width) p) 0
+  kept = p .col - getD (layOf w word width (rowAt t (p .row))) (2 * seatOf t (layOf w word width) p) 0
 
-  module _ {r : Place} (g : r ≡ rounds (stepScreen t folds (layOf word width) down (s .offset)) n
-      (placeAt t (layOf word width) down (s .offset) (p .row) (s .ahead))) where
-    glided : r ≡ rounds (stepScreen t folds (layOf word width) down kept) n
-        (placeAt t (layOf word width) down kept (p .row) (aheadAt t (layOf word width) down p))
+  module _ {r : Place} (g : r ≡ rounds (stepScreen t folds (layOf w word width) down (s .offset)) n
+      (placeAt t (layOf w word width) down (s .offset) (p .row) (s .ahead))) where
+    glided : r ≡ rounds (stepScreen t folds (layOf w word width) down kept) n
+        (placeAt t (layOf w word width) down kept (p .row) (aheadAt t (layOf w word width) down p))
     unfolding kept
     glided =
-        g ∙ ap (λ (x : Seat). rounds (stepScreen t folds (layOf word width) down (x .offset)) n
-        (placeAt t (layOf word width) down (x .offset) (p .row) (x .ahead))) e
+        g ∙ ap (λ (x : Seat). rounds (stepScreen t folds (layOf w word width) down (x .offset)) n
+        (placeAt t (layOf w word width) down (x .offset) (p .row) (x .ahead))) e
 
-    pub from-on : 0 < s .ahead → r ≡ screenFrom t folds (layOf word width) down n p
+    pub from-on : 0 < s .ahead → r ≡ screenFrom t folds (layOf w word width) down n p
     unfolding kept
-    from-on l = glided ∙ sym (same-on t folds (layOf word width) down kept lays p n h (omega (arith, own-ahead)))
+    from-on l = glided ∙ sym (same-on t folds (layOf w word width) down kept lays p n h (omega (arith, own-ahead)))
 
-    pub from-off : (x : ℕ) → s .ahead ≡ 0 → toward folds (rowCount t) down (p .row) ≡ Row x → r ≡ screenFrom t folds (layOf word width) down n p
+    pub from-off : (x : ℕ) → s .ahead ≡ 0 → toward folds (rowCount t) down (p .row) ≡ Row x → r ≡ screenFrom t folds (layOf w word width) down n p
     unfolding kept
-    from-off x z found = glided ∙ sym (same-off t folds (layOf word width) down kept lays p n x h (sym own-ahead ∙ z) found)
+    from-off x z found = glided ∙ sym (same-off t folds (layOf w word width) down kept lays p n x h (sym own-ahead ∙ z) found)
 
-  pub from-stuck : s .ahead ≡ 0 → toward folds (rowCount t) down (p .row) ≡ NoRow → p ≡ screenFrom t folds (layOf word width) down n p
-  from-stuck z none = sym (stuck t folds (layOf word width) down _ n p (sym own-ahead ∙ z) none)
+  pub from-stuck : s .ahead ≡ 0 → toward folds (rowCount t) down (p .row) ≡ NoRow → p ≡ screenFrom t folds (layOf w word width) down n p
+  from-stuck z none = sym (stuck t folds (layOf w word width) down _ n p (sym own-ahead ∙ z) none)

@@ -72,10 +72,11 @@ module _ (t folds : List ℕ) (down : Bool) (p : Place) {rows content : ℕ} {s 
 
 -- the target, by what the calls find
 pub target-made :
-    (t folds : List ℕ) (tabstop : ℕ) (lay : List ℕ → List ℕ) (down : Bool) (count row col : ℕ) (sticky : Sticky) {w n : ℕ} {j p : Place} →
-    w ≡ wantedCol t tabstop row col sticky → n ≡ max count 1 → j ≡ jumped t folds down (record { row = row; col = col }) → p ≡ screenFrom t folds lay down n j →
-    landedAt w p ≡ screenTarget t folds tabstop lay down count row col sticky
-target-made t folds tabstop lay down count row col sticky {w} {n} {j} {p} a b c d =
+    (w : ℕ → ℕ) (t folds : List ℕ) (tabstop : ℕ) (lay : List ℕ → List ℕ) (down : Bool) (count row col : ℕ) (sticky : Sticky) {want n : ℕ} {j p : Place} →
+    want ≡ wantedCol w t tabstop row col sticky → n ≡ max count 1 → j ≡ jumped t folds down (record { row = row; col = col }) →
+    p ≡ screenFrom t folds lay down n j →
+    landedAt want p ≡ screenTarget w t folds tabstop lay down count row col sticky
+target-made w t folds tabstop lay down count row col sticky {want} {n} {j} {p} a b c d =
     ap (λ (x : ℕ). landedAt x p) a ∙
-    ap (landedAt (wantedCol t tabstop row col sticky))
+    ap (landedAt (wantedCol w t tabstop row col sticky))
     (d ∙ ap (λ (x : ℕ). screenFrom t folds lay down x j) b ∙ ap (screenFrom t folds lay down (max count 1)) c)

@@ -1,12 +1,11 @@
 -- `gj` and `gk` under wrap: `move_screen_vertical` and `step_screen` of motions.rs, round by round. `lay` is how a row is broken: start, end, start, end ..
--- Definitions only; the laws are in `proofs/ScreenRounds.antt`. Assumes nothing.
+-- `w` is any width function. -- Definitions only; the laws are in `proofs/ScreenRounds.antt`. Assumes nothing.
 use Prim.Native.Nat.{ℕ, _+_, _-_, _*_, min, max}
 use mathlib.Core.List.{List}
 use mathlib.Core.Bool.{Bool, cond, _||_}
 use lib.Dec.{eqb, ltb}
 use lib.ListN.{getD}
 use Rattle.chars.specs.White.{isWhite}
-use Rattle.chars.specs.Width.{widthOf}
 use Rattle.wrap.specs.declared.Wrap.{Wrap}
 use Rattle.wrap.specs.Modes.{isNone, segmentsOf}
 use Rattle.cells.specs.Offsets.{segmentIndex}
@@ -62,12 +61,12 @@ screenFrom t folds lay down n p = rounds (stepScreen t folds lay down (offsetIn 
 abbrev pub landedAt : ℕ → Place → Target
 landedAt want p = record { row = p .row; col = p .col; want = want }
 
-abbrev pub screenTarget : List ℕ → List ℕ → ℕ → (List ℕ → List ℕ) → Bool → ℕ → ℕ → ℕ → Sticky → Target
-screenTarget t folds tabstop lay down count row col sticky =
-    landedAt (wantedCol t tabstop row col sticky) (screenFrom t folds lay down (max count 1) (jumped t folds down (record { row = row; col = col })))
+abbrev pub screenTarget : (ℕ → ℕ) → List ℕ → List ℕ → ℕ → (List ℕ → List ℕ) → Bool → ℕ → ℕ → ℕ → Sticky → Target
+screenTarget w t folds tabstop lay down count row col sticky =
+    landedAt (wantedCol w t tabstop row col sticky) (screenFrom t folds lay down (max count 1) (jumped t folds down (record { row = row; col = col })))
 
 -- with mode None or width 0 the move is that of `j` and `k`
-abbrev pub moveScreen : List ℕ → List ℕ → ℕ → Wrap → ℕ → Bool → ℕ → ℕ → ℕ → Sticky → Target
-moveScreen t folds tabstop mode width down count row col sticky =
-    cond (eqb width 0 || isNone mode) (moveVertical t folds tabstop (deltaOf down count) row col sticky)
-    (screenTarget t folds tabstop (segmentsOf widthOf isWhite mode width) down count row col sticky)
+abbrev pub moveScreen : (ℕ → ℕ) → List ℕ → List ℕ → ℕ → Wrap → ℕ → Bool → ℕ → ℕ → ℕ → Sticky → Target
+moveScreen w t folds tabstop mode width down count row col sticky =
+    cond (eqb width 0 || isNone mode) (moveVertical w t folds tabstop (deltaOf down count) row col sticky)
+    (screenTarget w t folds tabstop (segmentsOf w isWhite mode width) down count row col sticky)

@@ -11,6 +11,7 @@ use visible::rows;
 ghost use mathlib.Core.Path.{_≡_};
 ghost use Prim.Native.Nat.{_≤_, _<_};
 ghost use lib.ListN.{length};
+ghost use Rattle.chars.specs.Width.{widthBy};
 ghost use Rattle.cuts.specs.Lent.{Tables};
 ghost use Rattle.segments.specs.Parts.{layOf};
 ghost use Rattle.text.specs.Offsets.{IsLine};
@@ -33,10 +34,11 @@ fn walk(
     n: usize,
 ) -> Spot
     requires { ⌜ Ready (now zeros) (now doubles) (now white) (now t) (now folds) rows width ×
-        IsSpot (now t) (layOf word width) from ⌝ }
-    ensures { λ r. ⌜ Leads (now (t .entry)) (now (folds .entry)) (layOf word width) down n from
-        r ⌝ }
-    ensures { λ r. ⌜ IsSpot (now (t .entry)) (layOf word width) r ⌝ }
+        IsSpot (now t) (layOf (widthBy (now zeros) (now doubles)) word width) from ⌝ }
+    ensures { λ r. ⌜ Leads (now (t .entry)) (now (folds .entry))
+        (layOf (widthBy (now (zeros .entry)) (now (doubles .entry))) word width) down n from r ⌝ }
+    ensures { λ r. ⌜ IsSpot (now (t .entry))
+        (layOf (widthBy (now (zeros .entry)) (now (doubles .entry))) word width) r ⌝ }
 {
     let mut row = from.row;
     let mut start = from.start;
@@ -86,9 +88,10 @@ fn land(
 ) -> Place
     requires { ⌜ Tables (now zeros) (now doubles) (now white) × (0 < width) ×
         (length (now t) ≤ 1048576) × (offset ≤ 1048576) ⌝ }
-    requires { ⌜ IsSpot (now t) (layOf word width) s ⌝ }
-    ensures { λ r. ⌜ r ≡ placeAt (now (t .entry)) (layOf word width) down offset (s .row) (s .ahead)
-        ⌝ }
+    requires { ⌜ IsSpot (now t) (layOf (widthBy (now zeros) (now doubles)) word width) s ⌝ }
+    ensures { λ r. ⌜ r ≡ placeAt (now (t .entry))
+        (layOf (widthBy (now (zeros .entry)) (now (doubles .entry))) word width) down offset
+        (s .row) (s .ahead) ⌝ }
 {
     let l = Line {
         row: s.row,
@@ -122,10 +125,13 @@ fn glide(
 ) -> Place
     requires { ⌜ Ready (now zeros) (now doubles) (now white) (now t) (now folds) rows width ×
         (offset ≤ 1048576) ⌝ }
-    requires { ⌜ IsSpot (now t) (layOf word width) from ⌝ }
+    requires { ⌜ IsSpot (now t) (layOf (widthBy (now zeros) (now doubles)) word width) from ⌝ }
     ensures { λ r. ⌜ r ≡ rounds
-        (stepScreen (now (t .entry)) (now (folds .entry)) (layOf word width) down offset) n
-        (placeAt (now (t .entry)) (layOf word width) down offset (from .row) (from .ahead)) ⌝ }
+        (stepScreen (now (t .entry)) (now (folds .entry))
+        (layOf (widthBy (now (zeros .entry)) (now (doubles .entry))) word width) down offset) n
+        (placeAt (now (t .entry))
+        (layOf (widthBy (now (zeros .entry)) (now (doubles .entry))) word width) down offset
+        (from .row) (from .ahead)) ⌝ }
 {
     let s = walk(
         zeros,
@@ -156,7 +162,8 @@ fn seat(
     col: usize,
 ) -> Seat
     requires { ⌜ Tables (now zeros) (now doubles) (now white) × (0 < width) × IsLine (now t) l ⌝ }
-    ensures { λ r. ⌜ r ≡ seatAt (now (t .entry)) (layOf word width) down
+    ensures { λ r. ⌜ r ≡ seatAt (now (t .entry))
+        (layOf (widthBy (now (zeros .entry)) (now (doubles .entry))) word width) down
         (record { row = l .row; col = col }) ⌝ }
 {
     let row = text::offsets::row(t, l);
@@ -188,7 +195,8 @@ pub fn screen_from(
     requires { ⌜ Ready (now zeros) (now doubles) (now white) (now t) (now folds) rows width ×
         (0 < n) ⌝ }
     requires { ⌜ (col ≤ 1048576) × IsLine (now t) l ⌝ }
-    ensures { λ r. ⌜ r ≡ screenFrom (now (t .entry)) (now (folds .entry)) (layOf word width) down n
+    ensures { λ r. ⌜ r ≡ screenFrom (now (t .entry)) (now (folds .entry))
+        (layOf (widthBy (now (zeros .entry)) (now (doubles .entry))) word width) down n
         (record { row = l .row; col = col }) ⌝ }
 {
     let s = seat(zeros, doubles, white, t, width, word, down, l, col);

@@ -1,5 +1,5 @@
-// `gj` and `gk`: the target of `move_screen_vertical` of motions.rs. The text, the place, the
-// folds and the tabstop were accepted.
+// `gj` and `gk`: the target of `move_screen_vertical` of motions.rs, by the tables of widths that
+// are lent. The text, the place, the folds and the tabstop were accepted.
 use crate::out_of_folds;
 use crate::walks;
 use text::Line;
@@ -10,12 +10,15 @@ use vertical::moves;
 use wrap::Wrap;
 ghost use mathlib.Core.Path.{_≡_};
 ghost use Prim.Native.Nat.{_<_};
+ghost use Rattle.chars.specs.Width.{widthBy, Widths};
 ghost use Rattle.vertical.specs.Moves.{Accepted};
 ghost use Rattle.screen.specs.Screen.{screenTarget, moveScreen};
 ghost use Rattle.segments.specs.Parts.{layOf};
 
 // The target where rows are broken: by words, or by characters.
 fn move_broken(
+    zeros: &[u32],
+    doubles: &[u32],
     t: &[u32],
     folds: &[u32],
     l: Line,
@@ -27,11 +30,14 @@ fn move_broken(
     width: u32,
     word: bool,
 ) -> Target
-    requires { ⌜ Accepted (now t) (now folds) l col tabstop × (0 < width) ⌝ }
-    ensures { λ r. ⌜ r ≡ screenTarget (now (t .entry)) (now (folds .entry)) tabstop
-        (layOf word width) down count (l .row) col sticky ⌝ }
+    requires { ⌜ Widths (now zeros) (now doubles) × (0 < width) ⌝ }
+    requires { ⌜ Accepted (now t) (now folds) l col tabstop ⌝ }
+    ensures { λ r. ⌜ r ≡ screenTarget (widthBy (now (zeros .entry)) (now (doubles .entry)))
+        (now (t .entry)) (now (folds .entry)) tabstop
+        (layOf (widthBy (now (zeros .entry)) (now (doubles .entry))) word width) down count
+        (l .row) col sticky ⌝ }
 {
-    let want = moves::wanted(t, folds, l, col, sticky, tabstop);
+    let want = moves::wanted(zeros, doubles, t, folds, l, col, sticky, tabstop);
     let rows = text::row_count(t);
     let j = out_of_folds::jump(t, folds, rows, down, l, col);
     let m = Line {
@@ -40,8 +46,8 @@ fn move_broken(
     };
     let n = most(count as usize, 1);
     let p = walks::screen_from(
-        &chars::ZERO_WIDTH,
-        &chars::DOUBLE_WIDTH,
+        zeros,
+        doubles,
         &chars::WHITE,
         t,
         folds,
@@ -63,6 +69,8 @@ fn move_broken(
 // `gj` and `gk`: so many segments down or up, count 0 as 1; with mode None or width 0 as `j` and
 // `k`.
 pub fn move_screen(
+    zeros: &[u32],
+    doubles: &[u32],
     t: &[u32],
     folds: &[u32],
     l: Line,
@@ -74,17 +82,66 @@ pub fn move_screen(
     mode: Wrap,
     width: u16,
 ) -> Target
+    requires { ⌜ Widths (now zeros) (now doubles) ⌝ }
     requires { ⌜ Accepted (now t) (now folds) l col tabstop ⌝ }
-    ensures { λ r. ⌜ r ≡ moveScreen (now (t .entry)) (now (folds .entry)) tabstop mode width down
-        count (l .row) col sticky ⌝ }
+    ensures { λ r. ⌜ r ≡ moveScreen (widthBy (now (zeros .entry)) (now (doubles .entry)))
+        (now (t .entry)) (now (folds .entry)) tabstop mode width down count (l .row) col sticky ⌝ }
 {
     let cells = width as u32;
     if cells == 0 {
-        return moves::move_rows(t, folds, l, col, sticky, down, count, tabstop);
+        return moves::move_rows(
+            zeros,
+            doubles,
+            t,
+            folds,
+            l,
+            col,
+            sticky,
+            down,
+            count,
+            tabstop,
+        );
     }
     match mode {
-        Wrap::None => moves::move_rows(t, folds, l, col, sticky, down, count, tabstop),
-        Wrap::Char => move_broken(t, folds, l, col, sticky, down, count, tabstop, cells, false),
-        Wrap::Word => move_broken(t, folds, l, col, sticky, down, count, tabstop, cells, true),
+        Wrap::None => moves::move_rows(
+            zeros,
+            doubles,
+            t,
+            folds,
+            l,
+            col,
+            sticky,
+            down,
+            count,
+            tabstop,
+        ),
+        Wrap::Char => move_broken(
+            zeros,
+            doubles,
+            t,
+            folds,
+            l,
+            col,
+            sticky,
+            down,
+            count,
+            tabstop,
+            cells,
+            false,
+        ),
+        Wrap::Word => move_broken(
+            zeros,
+            doubles,
+            t,
+            folds,
+            l,
+            col,
+            sticky,
+            down,
+            count,
+            tabstop,
+            cells,
+            true,
+        ),
     }
 }

@@ -9,7 +9,6 @@ use lib.Dec.{leb}
 use lib.ListN.{length, getD}
 use borrow.Author.Tests.{lt-ltb, le-ltb}
 use Rattle.chars.specs.White.{isWhite}
-use Rattle.chars.specs.Width.{widthOf}
 use Rattle.wrap.specs.declared.Wrap.{Wrap}
 use Rattle.wrap.specs.Modes.{segmentsOf}
 use Rattle.cells.specs.Offsets.{pairsBefore, segmentIndex}
@@ -31,14 +30,14 @@ tiles-long z [] h t = absurd (omega arith)
 tiles-long z (s ∷ []) h t = absurd t
 tiles-long z (s ∷ e ∷ rest) h t = omega arith
 
-pub laid : (mode : Wrap) (width : ℕ) (row : List ℕ) → Laid (length row) (segmentsOf widthOf isWhite mode width row)
-laid mode width [] =
-    let e = wrap-empty widthOf isWhite mode width in
+pub laid : (w : ℕ → ℕ) (mode : Wrap) (width : ℕ) (row : List ℕ) → Laid (length row) (segmentsOf w isWhite mode width row)
+laid w mode width [] =
+    let e = wrap-empty w isWhite mode width in
     rw e (record { pairs = refl; some = omega arith; tiles = λ h. absurd (omega arith); void = λ h. refl })
-laid mode width (x ∷ row) =
-    let segs = segmentsOf widthOf isWhite mode width (x ∷ row) in
-    let t = wrap-tiles widthOf isWhite mode width (x ∷ row) (omega arith) in
-    let p = wrap-even widthOf isWhite mode width (x ∷ row) (omega arith) in
+laid w mode width (x ∷ row) =
+    let segs = segmentsOf w isWhite mode width (x ∷ row) in
+    let t = wrap-tiles w isWhite mode width (x ∷ row) (omega arith) in
+    let p = wrap-even w isWhite mode width (x ∷ row) (omega arith) in
     record { pairs = p; some = omega (arith, tiles-long (length (x ∷ row)) segs (omega arith) t); tiles = λ h. t; void = λ h. absurd (omega arith) }
 
 -- segment k stands between a and z, is not empty, and begins where all columns before it are in segments before it

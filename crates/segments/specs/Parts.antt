@@ -6,7 +6,6 @@ use mathlib.Core.Bool.{Bool, cond}
 use lib.Dec.{ltb}
 use lib.ListN.{length, getD}
 use Rattle.chars.specs.White.{isWhite}
-use Rattle.chars.specs.Width.{widthOf}
 use Rattle.wrap.specs.declared.Wrap.{Wrap}
 use Rattle.wrap.specs.declared.Wrap.the-variants.{Char, Word}
 use Rattle.wrap.specs.Modes.{segmentsOf}
@@ -31,9 +30,9 @@ offsetIn segs row col = col - getD segs (2 * segmentIndex segs col) 0
 abbrev pub modeOf : Bool → Wrap
 modeOf word = cond word Word Char
 
--- how a row is broken
-abbrev pub layOf : Bool → ℕ → List ℕ → List ℕ
-layOf word width row = segmentsOf widthOf isWhite (modeOf word) width row
+-- how a row is broken, by a width function w
+abbrev pub layOf : (ℕ → ℕ) → Bool → ℕ → List ℕ → List ℕ
+layOf w word width row = segmentsOf w isWhite (modeOf word) width row
 
 -- segment j with its start and end
 abbrev pub partAt : List ℕ → ℕ → Part

@@ -8,6 +8,7 @@ ghost use mathlib.Core.Bool.{cond};
 ghost use Prim.Native.Nat.{_+_, _-_, _≤_, _<_};
 ghost use lib.Dec.{ltb};
 ghost use lib.ListN.{length};
+ghost use Rattle.chars.specs.Width.{widthBy};
 ghost use Rattle.cuts.specs.Lent.{Tables};
 ghost use Rattle.segments.specs.Parts.{segmentCount, aheadOf, clampTo};
 ghost use Rattle.segments.specs.Parts.{layOf, partFor};
@@ -32,7 +33,9 @@ pub fn find_segment(
     index: usize,
 ) -> Part
     requires { ⌜ Tables (now zeros) (now doubles) (now white) × (0 < width) ⌝ }
-    ensures { λ r. ⌜ r ≡ partFor (layOf word width (now (row .entry))) col index ⌝ }
+    ensures { λ r. ⌜ r ≡ partFor
+        (layOf (widthBy (now (zeros .entry)) (now (doubles .entry))) word width (now (row .entry)))
+        col index ⌝ }
     ensures { λ r. ⌜ r .index ≤ length (now (row .entry)) ⌝ }
 {
     let mut k: usize = 0;
@@ -81,7 +84,10 @@ pub fn segment_count(
     word: bool,
 ) -> usize
     requires { ⌜ Tables (now zeros) (now doubles) (now white) × (0 < width) ⌝ }
-    ensures { λ r. ⌜ (r ≡ segmentCount (layOf word width (now (row .entry)))) × (0 < r) ⌝ }
+    ensures { λ r. ⌜ r ≡ segmentCount
+        (layOf (widthBy (now (zeros .entry)) (now (doubles .entry))) word width (now (row .entry)))
+        ⌝ }
+    ensures { λ r. ⌜ 0 < r ⌝ }
 {
     let n = row.len();
     let last = find_segment(zeros, doubles, white, row, width, word, n, n);

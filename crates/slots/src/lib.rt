@@ -1,15 +1,14 @@
-// Where a column or a cell stands in a segment of a row, and the segment of a column. From `wrap.rs`.
-// The segments are the caller's: any numbers.
+// Where a column or a cell stands in a segment of a row, and the segment of a column. From
+// `wrap.rs`. The segments are the caller's: any numbers.
 use row::Column;
 ghost use mathlib.Core.Path.{_≡_};
 ghost use Prim.Native.Nat.{min};
 ghost use mathlib.Core.Bool.{_&&_};
 ghost use lib.Dec.{leb, ltb};
-ghost use Rattle.chars.specs.Width.{widthOf};
+ghost use Rattle.chars.specs.Width.{widthBy, Widths};
 ghost use Rattle.cells.specs.Offsets.{part, charAtOffset, segmentIndex};
 ghost use Rattle.slots.specs.Calls.{charColForVisualOffset, visualOffsetForCharCol};
 ghost use Rattle.slots.specs.Calls.{segmentForCol};
-ghost use Rattle.cells.specs.Lent.{Widths};
 
 // The index of a segment, or the number that the call is refused for.
 pub enum Segment {
@@ -35,9 +34,11 @@ fn part_of(row: &[u32], start: u32, end: u32) -> &[u32]
     &row[from..to]
 }
 
+// The character of a segment that holds a cell, by the tables that are lent.
 fn char_in(zeros: &[u32], doubles: &[u32], row: &[u32], start: u32, end: u32, offset: u32) -> u32
     requires { ⌜ Widths (now zeros) (now doubles) ⌝ }
-    ensures { λ r. ⌜ r ≡ charAtOffset widthOf (now (row .entry)) start end offset ⌝ }
+    ensures { λ r. ⌜ r ≡ charAtOffset (widthBy (now (zeros .entry)) (now (doubles .entry)))
+        (now (row .entry)) start end offset ⌝ }
 {
     let inside = part_of(row, start, end);
     let k = cells::fitting(zeros, doubles, inside, offset);

@@ -21,6 +21,9 @@ unfolding stopOf
 stop-most zero n h k = h
 stop-most (suc t) n h k = rw (ne-eqb (suc t) 0 (λ e. omega arith)) k
 
+pub stop-near : (tabstop : ℕ) {tab : ℕ} → tabstop ≤ 1000 → tab ≡ stopOf tabstop → (0 < tab) × (tab ≤ 1000)
+stop-near tabstop h e = rw e (stop-pos tabstop, stop-most tabstop 1000 (omega arith) h)
+
 module _ (w : ℕ → ℕ) (tab : ℕ) where
   pub cells-tab : (v x : ℕ) → x ≡ 9 → cellsAt w tab v x ≡ tab - v % tab
   cells-tab v x e = rw (eq-eqb x 9 e)
@@ -44,8 +47,8 @@ module _ (row : List ℕ) (tabstop : ℕ) {f : ℕ} (given : f ≡ columnRefusal
       go (yes e) = e
       go (no n) = omega (arith, row-first row tabstop n)
 
-  tabstop-accepted : tabstop ≤ 1000
-  tabstop-accepted = go (decLe tabstop 1000)
+  pub near : tabstop ≤ 1000
+  near = go (decLe tabstop 1000)
     where
       go : Dec (tabstop ≤ 1000) → tabstop ≤ 1000
       go (yes h) = h
@@ -55,4 +58,4 @@ module _ (row : List ℕ) (tabstop : ℕ) {f : ℕ} (given : f ≡ columnRefusal
   brief = accepted-brief row row-accepted
 
   pub stops : {tab : ℕ} → tab ≡ stopOf tabstop → (0 < tab) × (tab ≤ 1000)
-  stops e = rw e (stop-pos tabstop, stop-most tabstop 1000 (omega arith) tabstop-accepted)
+  stops e = stop-near tabstop near e

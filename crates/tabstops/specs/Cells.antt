@@ -1,11 +1,10 @@
 -- What the contracts of `src/lib.rt` cite: the refusals of a row with a tabstop, and the cells of a character, over any width function w.
 -- From `geom.rs` and document 01, "Character facts". Definitions only; the laws are in `proofs/Accepted.antt`. Assumes nothing.
 use Prim.Native.Nat.{ℕ, _-_, _%_, _≤_, _<_}
-use mathlib.Core.Path.{_≡_}
 use mathlib.Core.List.{List}
 use mathlib.Core.Bool.{cond}
 use lib.Dec.{eqb, ltb}
-use Rattle.chars.specs.Width.{zeroWidths, doubleWidths}
+use Rattle.chars.specs.Width.{Widths}
 use Rattle.row.specs.Row.{rowRefusal}
 
 -- 1 and 2 of the row, 6: a tabstop above 1,000; 0: accepted
@@ -22,7 +21,6 @@ cellsAt w tab v x = cond (eqb x 9) (tab - v % tab) (w x)
 
 -- the tables of widths, and a tabstop from 1 to 1,000
 pub record Tables (zeros doubles : List ℕ) (tab : ℕ) : Type 0 where
-  pub none : zeros ≡ zeroWidths
-  pub two : doubles ≡ doubleWidths
+  pub widths : Widths zeros doubles
   pub stops : 0 < tab
   pub near : tab ≤ 1000

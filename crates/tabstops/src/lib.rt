@@ -5,7 +5,7 @@ use row::Column;
 ghost use mathlib.Core.Path.{_≡_};
 ghost use Prim.Native.Nat.{_-_, _%_, _≤_, _<_};
 ghost use lib.ListN.{length};
-ghost use Rattle.chars.specs.Width.{widthOf};
+ghost use Rattle.chars.specs.Width.{widthBy};
 ghost use Rattle.tabstops.specs.Cells.{columnRefusal, stopOf, cellsAt, Tables};
 ghost use Rattle.tabstops.specs.Indents.{leadingFrom, leadingVisualWidth};
 
@@ -41,10 +41,12 @@ fn tab_width(visual: u32, tab: u32) -> u32
     tab - visual % tab
 }
 
-// The cells of x where it is painted from visual column `visual` on.
+// The cells of x where it is painted from visual column `visual` on, by the tables that are lent.
 pub fn cell_width(zeros: &[u32], doubles: &[u32], x: u32, visual: u32, tab: u32) -> u32
     requires { ⌜ Tables (now zeros) (now doubles) tab ⌝ }
-    ensures { λ r. ⌜ (r ≡ cellsAt widthOf tab visual x) × (r ≤ 1000) ⌝ }
+    ensures { λ r. ⌜ r ≡ cellsAt (widthBy (now (zeros .entry)) (now (doubles .entry))) tab visual x
+        ⌝ }
+    ensures { λ r. ⌜ r ≤ 1000 ⌝ }
 {
     if x == 9 {
         return tab_width(visual, tab);

@@ -51,15 +51,15 @@ module _ (folds : List ℕ) (rows : ℕ) where
       (shown-within row h)
 
 -- `j` and `k`
-pub landed-inside : (t : List ℕ) (tabstop want row col target : ℕ) → Inside t row col → target < rowCount t →
-    Inside t (landed t tabstop want row col target .row) (landed t tabstop want row col target .col)
+pub landed-inside : (w : ℕ → ℕ) (t : List ℕ) (tabstop want row col target : ℕ) → Inside t row col → target < rowCount t →
+    Inside t (landed w t tabstop want row col target .row) (landed w t tabstop want row col target .col)
 unfolding landed
-landed-inside t tabstop want row col target i h = go (ℕ-discrete target row)
+landed-inside w t tabstop want row col target i h = go (ℕ-discrete target row)
   where
-    go : Dec (target ≡ row) → Inside t (landed t tabstop want row col target .row) (landed t tabstop want row col target .col)
+    go : Dec (target ≡ row) → Inside t (landed w t tabstop want row col target .row) (landed w t tabstop want row col target .col)
     go (yes e) = record { in-row = h; in-col = rw (eq-eqb target row e) (omega (arith, i .in-col, ap (rowLen t) e)) }
     go (no n) = record { in-row = h; in-col = rw (ne-eqb target row n) (omega arith) }
 
-pub rows-inside : (t folds : List ℕ) (tabstop row col : ℕ) (sticky : Sticky) (z : ℤ) → Inside t row col →
-    let p = moveVertical t folds tabstop z row col sticky in Inside t (p .row) (p .col)
-rows-inside t folds tabstop row col sticky z i = landed-inside t tabstop _ row col _ i (vertical-within folds (rowCount t) z row (i .in-row))
+pub rows-inside : (w : ℕ → ℕ) (t folds : List ℕ) (tabstop row col : ℕ) (sticky : Sticky) (z : ℤ) → Inside t row col →
+    let p = moveVertical w t folds tabstop z row col sticky in Inside t (p .row) (p .col)
+rows-inside w t folds tabstop row col sticky z i = landed-inside w t tabstop _ row col _ i (vertical-within folds (rowCount t) z row (i .in-row))

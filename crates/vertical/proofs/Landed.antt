@@ -11,11 +11,11 @@ use Rattle.visible.specs.Visible.{verticalRow}
 pub reached : (folds : List ℕ) (row : ℕ) {m n : ℕ} {y z : ℤ} → m ≡ n → y ≡ z → verticalRow folds m y row ≡ verticalRow folds n z row
 reached folds row {m} {n} {y} {z} e q = ap (λ (k : ℕ). verticalRow folds k y row) e ∙ ap (λ (x : ℤ). verticalRow folds n x row) q
 
-module _ (t : List ℕ) (tabstop row col : ℕ) {want w target r : ℕ} (e : w ≡ want) (q : r ≡ target) where
-  pub stays-is : r ≡ row → record { row = row; col = col; want = w } ≡ landed t tabstop want row col target
+module _ (w : ℕ → ℕ) (t : List ℕ) (tabstop row col : ℕ) {want v target r : ℕ} (e : v ≡ want) (q : r ≡ target) where
+  pub stays-is : r ≡ row → record { row = row; col = col; want = v } ≡ landed w t tabstop want row col target
   unfolding landed
   stays-is h = rw (← e, ← q, h, eq-eqb row row refl)
 
-  pub lands-is : {c : ℕ} → (r ≡ row → ⊥) → c ≡ aimedCol t tabstop w r → record { row = r; col = c; want = w } ≡ landed t tabstop want row col target
+  pub lands-is : {c : ℕ} → (r ≡ row → ⊥) → c ≡ aimedCol w t tabstop v r → record { row = r; col = c; want = v } ≡ landed w t tabstop want row col target
   unfolding landed
   lands-is n s = rw (← e, ← q, ne-eqb r row n, s)

@@ -1,6 +1,5 @@
 -- Laws of the vertical walks, which the proofs of this crate and of the crates above it cite.
 pub mod Accepted
-pub mod Columns
 pub mod Landed
 pub mod Inside
 pub mod Edges

@@ -1,4 +1,5 @@
--- `j` and `k`: where `move_vertical` of motions.rs leads to. Definitions only; the laws are in `proofs/Moves.antt`. Assumes nothing.
+-- `j` and `k`: where `move_vertical` of motions.rs leads to, over any width function w. Definitions only; the laws are in `proofs/Landed.antt` and
+-- `proofs/Inside.antt`. Assumes nothing.
 use Prim.Native.Nat.{ℕ, _+_, _-_, _≤_, _<_, min}
 use mathlib.Core.Path.{_≡_}
 use mathlib.Core.List.{List}
@@ -6,9 +7,7 @@ use mathlib.Core.Bool.{cond}
 use lib.Dec.{eqb}
 use lib.IntN.{ℤ}
 use lib.ListN.{length}
-use Rattle.chars.specs.Width.{widthOf}
 use Rattle.columns.specs.Columns.{cursorCol, charCol}
-use Rattle.accept.specs.Accept.{textRefusal}
 use Rattle.text.specs.Text.{rowCount, rowAt, rowLen}
 use Rattle.text.specs.Offsets.{Stands, IsLine}
 use Rattle.folds.specs.Folds.{foldRefusal}
@@ -19,29 +18,28 @@ use Rattle.vertical.specs.declared.Target.{Target}
 use Rattle.visible.specs.Visible.{verticalRow}
 
 -- the visual column to aim for: the sticky one, or else where the cursor is drawn
-abbrev pub wantedCol : List ℕ → ℕ → ℕ → ℕ → Sticky → ℕ
-wantedCol t tabstop row col Absent = cursorCol widthOf tabstop (rowAt t row) col
-wantedCol t tabstop row col (At want) = want
+abbrev pub wantedCol : (ℕ → ℕ) → List ℕ → ℕ → ℕ → ℕ → Sticky → ℕ
+wantedCol w t tabstop row col Absent = cursorCol w tabstop (rowAt t row) col
+wantedCol w t tabstop row col (At want) = want
 
 abbrev pub lastCol : List ℕ → ℕ → ℕ
 lastCol t row = rowLen t row - 1
 
 -- the character of a row at a visual column, and no further than the row's last
-abbrev pub aimedCol : List ℕ → ℕ → ℕ → ℕ → ℕ
-aimedCol t tabstop want row = min (charCol widthOf tabstop (rowAt t row) want) (lastCol t row)
+abbrev pub aimedCol : (ℕ → ℕ) → List ℕ → ℕ → ℕ → ℕ → ℕ
+aimedCol w t tabstop want row = min (charCol w tabstop (rowAt t row) want) (lastCol t row)
 
 -- the place with its sticky column: it is set even where the row stays, and then so does the column
-unfoldable pub landed : List ℕ → ℕ → ℕ → ℕ → ℕ → ℕ → Target
-landed t tabstop want row col target =
-    record { row = target; col = cond (eqb target row) col (aimedCol t tabstop want target); want = want }
+unfoldable pub landed : (ℕ → ℕ) → List ℕ → ℕ → ℕ → ℕ → ℕ → ℕ → Target
+landed w t tabstop want row col target =
+    record { row = target; col = cond (eqb target row) col (aimedCol w t tabstop want target); want = want }
 
-abbrev pub moveVertical : List ℕ → List ℕ → ℕ → ℤ → ℕ → ℕ → Sticky → Target
-moveVertical t folds tabstop delta row col sticky =
-    landed t tabstop (wantedCol t tabstop row col sticky) row col (verticalRow folds (rowCount t) delta row)
+abbrev pub moveVertical : (ℕ → ℕ) → List ℕ → List ℕ → ℕ → ℤ → ℕ → ℕ → Sticky → Target
+moveVertical w t folds tabstop delta row col sticky =
+    landed w t tabstop (wantedCol w t tabstop row col sticky) row col (verticalRow folds (rowCount t) delta row)
 
 -- what the checks of a call have shown of a row and a tabstop, and of all that a vertical motion takes
 pub record AcceptedRow (t : List ℕ) (row tabstop : ℕ) : Type 0 where
-  pub good : textRefusal t ≡ 0
   pub brief : length t ≤ 1048576
   pub in-rows : row < rowCount t
   pub stop : tabstop ≤ 1000

@@ -1,8 +1,7 @@
-// `j` and `k`: the target of `move_vertical` of motions.rs. The text, the place, the folds and the
-// tabstop were accepted.
+// `j` and `k`: the target of `move_vertical` of motions.rs, by the tables of widths that are lent.
+// The text, the place, the folds and the tabstop were accepted.
 use crate::Sticky;
 use crate::Target;
-use row::Column;
 use text::Line;
 use text::least;
 use text::minus;
@@ -11,59 +10,52 @@ ghost use mathlib.Core.Path.{_≡_};
 ghost use lib.IntN.{negℤ};
 ghost use mir.Syntax.{w64};
 ghost use mir.Val.{SFits};
-ghost use Rattle.chars.specs.Width.{widthOf};
-ghost use Rattle.tabstops.specs.Cells.{columnRefusal};
-ghost use Rattle.columns.specs.Columns.{cursorCol, charCol};
+ghost use Rattle.chars.specs.Width.{widthBy, Widths};
 ghost use Rattle.visible.specs.Visible.{deltaOf};
 ghost use Rattle.vertical.specs.Moves.{Accepted, AcceptedRow, wantedCol, aimedCol};
 ghost use Rattle.vertical.specs.Moves.{moveVertical};
 
-// The visual column of a cursor in an accepted row. The call below checks the row again and can't
-// refuse it.
-fn cursor_col(row: &[u32], col: u32, tabstop: u32) -> u32
-    requires { ⌜ columnRefusal (now row) tabstop ≡ 0 ⌝ }
-    ensures { λ r. ⌜ r ≡ cursorCol widthOf tabstop (now (row .entry)) col ⌝ }
-{
-    match columns::cursor_visual_col(row, col, tabstop) {
-        Column::At(c) => c,
-        Column::Refused(f) => f,
-    }
-}
-
-// The character at a visual column of an accepted row.
-fn char_col(row: &[u32], visual: u32, tabstop: u32) -> u32
-    requires { ⌜ columnRefusal (now row) tabstop ≡ 0 ⌝ }
-    ensures { λ r. ⌜ r ≡ charCol widthOf tabstop (now (row .entry)) visual ⌝ }
-{
-    match columns::visual_col_to_char_col(row, visual, tabstop) {
-        Column::At(c) => c,
-        Column::Refused(f) => f,
-    }
-}
-
 // The visual column to aim for: the sticky one, or else the cursor's own.
-pub fn wanted(t: &[u32], folds: &[u32], l: Line, col: usize, sticky: Sticky, tabstop: u32) -> u32
+pub fn wanted(
+    zeros: &[u32],
+    doubles: &[u32],
+    t: &[u32],
+    folds: &[u32],
+    l: Line,
+    col: usize,
+    sticky: Sticky,
+    tabstop: u32,
+) -> u32
+    requires { ⌜ Widths (now zeros) (now doubles) ⌝ }
     requires { ⌜ Accepted (now t) (now folds) l col tabstop ⌝ }
-    ensures { λ r. ⌜ r ≡ wantedCol (now (t .entry)) tabstop (l .row) col sticky ⌝ }
+    ensures { λ r. ⌜ r ≡ wantedCol (widthBy (now (zeros .entry)) (now (doubles .entry)))
+        (now (t .entry)) tabstop (l .row) col sticky ⌝ }
 {
     match sticky {
         Sticky::At(c) => c,
-        Sticky::Absent => cursor_col(text::offsets::row(t, l), col as u32, tabstop),
+        Sticky::Absent => {
+            let line = text::offsets::row(t, l);
+            columns::cursor_col_in(zeros, doubles, line, col, tabstop)
+        }
     }
 }
 
 // The column of a row that holds a visual column, or the row's last one.
-fn aimed(t: &[u32], row: usize, want: u32, tabstop: u32) -> usize
-    requires { ⌜ AcceptedRow (now t) row tabstop ⌝ }
-    ensures { λ r. ⌜ r ≡ aimedCol (now (t .entry)) tabstop want row ⌝ }
+fn aimed(zeros: &[u32], doubles: &[u32], t: &[u32], row: usize, want: u32, tabstop: u32) -> usize
+    requires { ⌜ Widths (now zeros) (now doubles) × AcceptedRow (now t) row tabstop ⌝ }
+    ensures { λ r. ⌜ r ≡ aimedCol (widthBy (now (zeros .entry)) (now (doubles .entry)))
+        (now (t .entry)) tabstop want row ⌝ }
 {
     let l = text::offsets::line_at(t, row);
     let line = text::offsets::row(t, l);
-    least(char_col(line, want, tabstop) as usize, minus(line.len(), 1))
+    let c = columns::char_col_in(zeros, doubles, line, want, tabstop);
+    least(c as usize, minus(line.len(), 1))
 }
 
 // So many visible rows down, or up where delta is below 0. Where the row stays, so does the column.
 fn move_vertical(
+    zeros: &[u32],
+    doubles: &[u32],
     t: &[u32],
     folds: &[u32],
     l: Line,
@@ -72,11 +64,12 @@ fn move_vertical(
     delta: i64,
     tabstop: u32,
 ) -> Target
+    requires { ⌜ Widths (now zeros) (now doubles) ⌝ }
     requires { ⌜ Accepted (now t) (now folds) l col tabstop × SFits w64 (negℤ delta) ⌝ }
-    ensures { λ r. ⌜ r ≡ moveVertical (now (t .entry)) (now (folds .entry)) tabstop delta (l .row)
-        col sticky ⌝ }
+    ensures { λ r. ⌜ r ≡ moveVertical (widthBy (now (zeros .entry)) (now (doubles .entry)))
+        (now (t .entry)) (now (folds .entry)) tabstop delta (l .row) col sticky ⌝ }
 {
-    let want = wanted(t, folds, l, col, sticky, tabstop);
+    let want = wanted(zeros, doubles, t, folds, l, col, sticky, tabstop);
     let from = l.row;
     let row = rows::vertical_row(folds, text::row_count(t), from, delta);
     if row == from {
@@ -86,7 +79,7 @@ fn move_vertical(
             want: want,
         };
     }
-    let c = aimed(t, row, want, tabstop);
+    let c = aimed(zeros, doubles, t, row, want, tabstop);
     Target {
         row: row,
         col: c,
@@ -96,6 +89,8 @@ fn move_vertical(
 
 // `j` and `k`: so many visible rows down or up, count 0 as 1.
 pub fn move_rows(
+    zeros: &[u32],
+    doubles: &[u32],
     t: &[u32],
     folds: &[u32],
     l: Line,
@@ -105,11 +100,14 @@ pub fn move_rows(
     count: u32,
     tabstop: u32,
 ) -> Target
+    requires { ⌜ Widths (now zeros) (now doubles) ⌝ }
     requires { ⌜ Accepted (now t) (now folds) l col tabstop ⌝ }
-    ensures { λ r. ⌜ r ≡ moveVertical (now (t .entry)) (now (folds .entry)) tabstop
-        (deltaOf down count) (l .row) col sticky ⌝ }
+    ensures { λ r. ⌜ r ≡ moveVertical (widthBy (now (zeros .entry)) (now (doubles .entry)))
+        (now (t .entry)) (now (folds .entry)) tabstop (deltaOf down count) (l .row) col sticky ⌝ }
 {
     move_vertical(
+        zeros,
+        doubles,
         t,
         folds,
         l,

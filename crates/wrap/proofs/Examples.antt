@@ -3,7 +3,7 @@ use mathlib.Core.Path.{_≡_, refl}
 use mathlib.Core.List.{List, [], _∷_}
 use Prim.Native.Nat.{ℕ}
 use Rattle.chars.specs.White.{whites, isWhite}
-use Rattle.chars.specs.Width.{zeroWidths, doubleWidths, widthOf}
+use Rattle.chars.specs.Width.{zeroWidths, doubleWidths, widthBy, widthOf}
 use Rattle.wrap.specs.declared.Wrap.{Wrap}
 use Rattle.wrap.specs.declared.Wrap.the-variants.{None, Char, Word}
 use Rattle.cells.specs.Cells.{fits}
@@ -21,5 +21,5 @@ words = 97 ∷ 98 ∷ 32 ∷ 99 ∷ 100 ∷ []
 
 -- the one segment
 pub whole : (wrapped None 4 words ≡ 0 ∷ 5 ∷ []) × (wrapped Char 0 words ≡ 0 ∷ 5 ∷ []) × (wrapped Word 4 [] ≡ 0 ∷ 0 ∷ [])
-unfolding segmentsOf segmentsFrom firstSegment afterWhite fits whites isWhite zeroWidths doubleWidths widthOf
+unfolding segmentsOf segmentsFrom firstSegment afterWhite fits whites isWhite zeroWidths doubleWidths widthBy widthOf
 whole = (refl, refl, refl)

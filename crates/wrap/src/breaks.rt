@@ -7,6 +7,7 @@ use crate::Wrap;
 ghost use mathlib.Core.Path.{_≡_};
 ghost use Prim.Native.Nat.{_*_, _≤_};
 ghost use lib.ListN.{length};
+ghost use Rattle.chars.specs.Width.{widthBy, widthOf};
 ghost use Rattle.wrap.specs.Modes.{isNone, isWord, isWhole};
 ghost use Rattle.wrap.specs.Calls.{rowSegments, Written, Broken, Whole, Wraps};
 ghost use Rattle.cuts.specs.Lent.{Tables};
@@ -21,7 +22,8 @@ fn count_segments(
     word: bool,
 ) -> usize
     requires { ⌜ Tables (now zeros) (now doubles) (now white) ⌝ }
-    ensures { λ r. ⌜ length (rowSegments word width (now (row .entry))) ≡ 2 * r ⌝ }
+    ensures { λ r. ⌜ length (rowSegments (widthBy (now (zeros .entry)) (now (doubles .entry))) word
+        width (now (row .entry))) ≡ 2 * r ⌝ }
     ensures { λ r. ⌜ r ≤ length (now (row .entry)) ⌝ }
 {
     let mut n: usize = 0;
@@ -45,8 +47,10 @@ fn write_segments(
     out: &mut [u32],
 )
     requires { ⌜ Tables (now zeros) (now doubles) (now white) × (length (now row) ≤ 1048576) ⌝ }
-    requires { ⌜ length (rowSegments word width (now row)) ≤ length (now out) ⌝ }
-    ensures { λ _. ⌜ Written word width (now (row .entry)) (now (out .entry)) (now (out .exit)) ⌝ }
+    requires { ⌜ length (rowSegments (widthBy (now zeros) (now doubles)) word width (now row))
+        ≤ length (now out) ⌝ }
+    ensures { λ _. ⌜ Written (widthBy (now (zeros .entry)) (now (doubles .entry))) word width
+        (now (row .entry)) (now (out .entry)) (now (out .exit)) ⌝ }
 {
     let mut at: usize = 0;
     let mut start: usize = 0;
@@ -71,7 +75,8 @@ fn fit_segments(
     out: &mut [u32],
 ) -> Segments
     requires { ⌜ Tables (now zeros) (now doubles) (now white) × (length (now row) ≤ 1048576) ⌝ }
-    ensures { λ r. ⌜ Broken word width (now (row .entry)) (now (out .entry)) r (now (out .exit)) ⌝ }
+    ensures { λ r. ⌜ Broken (widthBy (now (zeros .entry)) (now (doubles .entry))) word width
+        (now (row .entry)) (now (out .entry)) r (now (out .exit)) ⌝ }
 {
     let n = count_segments(zeros, doubles, white, row, width, word);
     if out.len() < 2 * n {
@@ -84,7 +89,8 @@ fn fit_segments(
 // The same by the tables of today.
 fn broken(row: &[u32], width: u32, word: bool, out: &mut [u32]) -> Segments
     requires { ⌜ length (now row) ≤ 1048576 ⌝ }
-    ensures { λ r. ⌜ Broken word width (now (row .entry)) (now (out .entry)) r (now (out .exit)) ⌝ }
+    ensures { λ r. ⌜ Broken widthOf word width (now (row .entry)) (now (out .entry)) r
+        (now (out .exit)) ⌝ }
 {
     fit_segments(
         &chars::ZERO_WIDTH,

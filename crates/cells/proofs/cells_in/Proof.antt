@@ -4,13 +4,13 @@ use borrow.Author.Needs.{needs}
 use Prim.Native.Nat.{_-_}
 use lib.ListN.{length}
 use native.Mathlib.Omega.{arith}
-use Rattle.chars.specs.Width.{widthOf}
+use Rattle.chars.specs.Width.{widthBy}
 use Rattle.cells.proofs.Fits.{CellsTo, cells-next, cells-end}
 use Rattle.cells.proofs.cells_in.Statement.{statement}
 use Rattle.cells.proofs.cells_in.Tie as tie
 
 abbrev Inv-loop : tie.InvT-loop
-Inv-loop zeros doubles row sum₀ i₀ sum i = CellsTo widthOf row i sum
+Inv-loop zeros doubles row sum₀ i₀ sum i = CellsTo (widthBy zeros doubles) row i sum
 
 abbrev μ-loop : tie.MeasureT-loop
 μ-loop zeros doubles row sum₀ i₀ sum i = length row - i

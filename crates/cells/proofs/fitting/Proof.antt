@@ -4,13 +4,13 @@ use borrow.Author.Needs.{needs}
 use Prim.Native.Nat.{_-_}
 use lib.ListN.{length}
 use native.Mathlib.Omega.{arith}
-use Rattle.chars.specs.Width.{widthOf}
+use Rattle.chars.specs.Width.{widthBy}
 use Rattle.cells.proofs.Fits.{FitsTo, fits-next, fits-here, fits-end}
 use Rattle.cells.proofs.fitting.Statement.{statement}
 use Rattle.cells.proofs.fitting.Tie as tie
 
 abbrev Inv-loop : tie.InvT-loop
-Inv-loop zeros doubles row room left₀ i₀ left i = FitsTo widthOf room row i left
+Inv-loop zeros doubles row room left₀ i₀ left i = FitsTo (widthBy zeros doubles) room row i left
 
 abbrev μ-loop : tie.MeasureT-loop
 μ-loop zeros doubles row room left₀ i₀ left i = length row - i

@@ -3,13 +3,13 @@
 use borrow.Author.Needs.{needs}
 use Prim.Native.Nat.{_-_}
 use lib.ListN.{length}
-use Rattle.chars.specs.Width.{widthOf}
+use Rattle.chars.specs.Width.{widthBy}
 use Rattle.columns.proofs.Chars.{CharTo, char-start, char-next, char-stop, char-end}
 use Rattle.columns.proofs.char_at.Statement.{statement}
 use Rattle.columns.proofs.char_at.Tie as tie
 
 abbrev Inv-loop : tie.InvT-loop
-Inv-loop zeros doubles row target tab visual₀ i₀ visual i = CharTo widthOf tab row target i visual
+Inv-loop zeros doubles row target tab visual₀ i₀ visual i = CharTo (widthBy zeros doubles) tab row target i visual
 
 abbrev μ-loop : tie.MeasureT-loop
 μ-loop zeros doubles row target tab visual₀ i₀ visual i = length row - i

@@ -4,13 +4,13 @@ use borrow.Author.Needs.{needs}
 use Prim.Native.Nat.{_-_, _≤_}
 use lib.ListN.{length}
 use native.Mathlib.Omega.{arith}
-use Rattle.chars.specs.Width.{widthOf}
+use Rattle.chars.specs.Width.{widthBy}
 use Rattle.columns.proofs.Visual.{VisualTo, visual-start, visual-on, visual-stop, visual-end}
 use Rattle.columns.proofs.visual_at.Statement.{statement}
 use Rattle.columns.proofs.visual_at.Tie as tie
 
 abbrev Inv-loop : tie.InvT-loop
-Inv-loop zeros doubles row col tab visual₀ i₀ visual i = VisualTo widthOf tab row i visual × (i ≤ col)
+Inv-loop zeros doubles row col tab visual₀ i₀ visual i = VisualTo (widthBy zeros doubles) tab row i visual × (i ≤ col)
 
 abbrev μ-loop : tie.MeasureT-loop
 μ-loop zeros doubles row col tab visual₀ i₀ visual i = length row - i

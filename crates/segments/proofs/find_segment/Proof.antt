@@ -4,18 +4,19 @@ use Prim.Native.Nat.{_-_}
 use native.Mathlib.Omega.{arith}
 use borrow.Author.Needs.{needs}
 use lib.ListN.{length}
+use Rattle.chars.specs.Width.{widthBy}
 use Rattle.segments.proofs.Finding.{Seeking, seek-start, seek-void, seek-on, found-index, found-col, found-last}
 use Rattle.segments.proofs.find_segment.Statement.{statement}
 use Rattle.segments.proofs.find_segment.Tie as tie
 
 abbrev Inv-loop : tie.InvT-loop
-Inv-loop zeros doubles white row width word col index k₀ start₀ k start = Seeking word width row col index k start
+Inv-loop zeros doubles white row width word col index k₀ start₀ k start = Seeking (widthBy zeros doubles) word width row col index k start
 
 abbrev μ-loop : tie.MeasureT-loop
 μ-loop zeros doubles white row width word col index k₀ start₀ k start = length row - start
 
 loop-holds : tie.Need-loop-holds Inv-loop μ-loop
-loop-holds c = seek-start _ _ _ _ _
+loop-holds c = seek-start _ _ _ _ _ _
 
 returns : tie.Need-returns Inv-loop μ-loop
 returns c =

@@ -1,7 +1,7 @@
 -- `slots::char_in` meets its contract. Assumes nothing.
 use borrow.Author.Needs.{needs}
 use native.Mathlib.Omega.{arith}
-use Rattle.chars.specs.Width.{widthOf}
+use Rattle.chars.specs.Width.{widthBy}
 use Rattle.slots.proofs.Places.{offset-inside, offset-past}
 use Rattle.slots.proofs.char_in.Statement.{statement}
 use Rattle.slots.proofs.char_in.Tie as tie
@@ -10,19 +10,25 @@ cast-result : tie.Need-cast-result
 cast-result c =
     let a = c .before .before .before .before .before .before .args in
     let k = c .before in
-    omega (arith, offset-inside widthOf (a .row .now) (a .start) (a .end) (a .offset) (k .before .part-of .ensures) (k .fitting .ensures .0) (c .if1 .taken) .1)
+    let w = widthBy (a .zeros .now) (a .doubles .now) in
+    omega (arith, offset-inside w (a .row .now) (a .start) (a .end) (a .offset) (k .before .part-of .ensures) (k .fitting .ensures .0) (c .if1 .taken) .1)
 
 add-result : tie.Need-add-result
 add-result c =
     let a = c .before .before .before .before .before .before .args in
     let k = c .before in
-    omega (arith, offset-inside widthOf (a .row .now) (a .start) (a .end) (a .offset) (k .before .part-of .ensures) (k .fitting .ensures .0) (c .if1 .taken) .1)
+    let w = widthBy (a .zeros .now) (a .doubles .now) in
+    omega (arith, offset-inside w (a .row .now) (a .start) (a .end) (a .offset) (k .before .part-of .ensures) (k .fitting .ensures .0) (c .if1 .taken) .1)
 
 returns : tie.Need-returns
-returns c = offset-inside widthOf _ _ _ _ (c .before .before .part-of .ensures) (c .before .fitting .ensures .0) (c .if1 .taken) .0
+returns c =
+    let a = c .before .before .before .before .before .before .args in
+    offset-inside (widthBy (a .zeros .now) (a .doubles .now)) _ _ _ _ (c .before .before .part-of .ensures) (c .before .fitting .ensures .0) (c .if1 .taken) .0
 
 returns-2 : tie.Need-returns-2
-returns-2 c = offset-past widthOf _ _ _ _ (c .before .before .part-of .ensures) (c .before .fitting .ensures .0) (c .if1 .left)
+returns-2 c =
+    let a = c .before .before .before .before .before .before .args in
+    offset-past (widthBy (a .zeros .now) (a .doubles .now)) _ _ _ _ (c .before .before .part-of .ensures) (c .before .fitting .ensures .0) (c .if1 .left)
 
 pub char-in-spec : {M : Type 1} → statement M
 char-in-spec =

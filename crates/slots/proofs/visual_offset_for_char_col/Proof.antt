@@ -1,8 +1,10 @@
 -- `slots::visual_offset_for_char_col` meets its contract: a part of a row is no longer than the row. Assumes nothing.
 use borrow.Author.Needs.{needs}
-use mathlib.Core.Path.{refl, sym, ap, _∙_}
+use mathlib.Core.Path.{refl, sym, _∙_}
 use native.Mathlib.Omega.{arith}
-use Rattle.chars.specs.Width.{zeroWidths, doubleWidths, widthOf}
+use Prim.Native.Nat.{ℕ}
+use Rattle.chars.specs.Width.{zeroWidths, doubleWidths}
+use Rattle.chars.proofs.Lent.{by-width, widths-lent}
 use Rattle.row.proofs.Answers.{answer-refused, answer-at, accepted-brief}
 use Rattle.slots.proofs.Places.{part-most}
 use Rattle.cells.specs.Offsets.{cellsIn}
@@ -19,12 +21,14 @@ cells-in-requires c κs =
     let a = c .before .before .before .before .before .before .args in
     let brief = accepted-brief (a .row .now) (sym (s .before .before .row-refusal .ensures) ∙ s .before .if1 .left) in
     let most = part-most (a .row .now) (a .start) (a .col) .1 in
-    (record { none = refl; two = refl }, rw (s .part-of .ensures) (omega arith))
+    (widths-lent refl refl, rw (s .part-of .ensures) (omega arith))
 
 returns-2 : tie.Need-returns-2
+unfolding zeroWidths doubleWidths
 returns-2 c =
     let s = c .before .before .before in
-    answer-at (s .before .before .row-refusal .ensures) (s .before .if1 .left) (c .cells-in .ensures ∙ ap (cellsIn widthOf) (s .part-of .ensures))
+    answer-at (s .before .before .row-refusal .ensures) (s .before .if1 .left)
+    (rw (← s .part-of .ensures) (by-width refl refl (λ (w : ℕ → ℕ). cellsIn w (s .part-of .result .now)) (c .cells-in .ensures)))
 
 pub visual-offset-for-char-col-spec : {M : Type 1} → statement M
 visual-offset-for-char-col-spec =

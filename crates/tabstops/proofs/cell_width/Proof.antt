@@ -2,20 +2,23 @@
 use borrow.Author.Needs.{needs}
 use mathlib.Core.Path.{sym, _∙_}
 use native.Mathlib.Omega.{arith}
+use Rattle.chars.specs.Width.{widthBy}
 use Rattle.chars.proofs.Facts.{width-most}
-use Rattle.chars.specs.Width.{widthOf}
 use Rattle.tabstops.proofs.Accepted.{cells-tab, cells-other}
 use Rattle.tabstops.proofs.cell_width.Statement.{statement}
 use Rattle.tabstops.proofs.cell_width.Tie as tie
 
 returns : tie.Need-returns
-returns c = (c .tab-width .ensures .0 ∙ sym (cells-tab widthOf _ _ _ (c .before .if1 .taken)), c .tab-width .ensures .1)
+returns c =
+    let a = c .before .before .before .before .args in
+    (c .tab-width .ensures .0 ∙ sym (cells-tab (widthBy (a .zeros .now) (a .doubles .now)) _ _ _ (c .before .if1 .taken)), c .tab-width .ensures .1)
 
 returns-2 : tie.Need-returns-2
 returns-2 c =
-    let x = c .before .before .before .before .args .x in
+    let a = c .before .before .before .before .args in
+    let w = widthBy (a .zeros .now) (a .doubles .now) in
     let is = c .width-in .ensures in
-    (is ∙ sym (cells-other widthOf _ _ _ (c .before .if1 .left)), rw is (omega (arith, width-most x)))
+    (is ∙ sym (cells-other w _ _ _ (c .before .if1 .left)), rw is (omega (arith, width-most (a .zeros .now) (a .doubles .now) (a .x))))
 
 pub cell-width-spec : {M : Type 1} → statement M
 cell-width-spec = tie.close (tie.spec (λ c κs. search needs) returns (λ c κs. search needs) returns-2)

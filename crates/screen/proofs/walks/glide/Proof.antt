@@ -1,13 +1,17 @@
 -- `walks::glide` meets its contract. Assumes nothing.
-use mathlib.Core.Path.{sym, _∙_}
 use borrow.Author.Needs.{needs}
+use Rattle.chars.specs.Width.{widthBy}
+use Rattle.segments.specs.Parts.{layOf}
+use Rattle.screen.proofs.Walking.{leads-place}
 use Rattle.screen.proofs.walks.glide.Statement.{statement}
 use Rattle.screen.proofs.walks.glide.Tie as tie
 
 returns : tie.Need-returns
 returns c =
-    let w = c .before in
-    c .land .ensures ∙ sym (w .walk .ensures .0 (w .before .before .before .before .before .before .args .offset))
+    let k = c .before in
+    let a = k .before .before .before .before .before .before .args in
+    let lay = layOf (widthBy (a .zeros .now) (a .doubles .now)) (a .word) (a .width) in
+    leads-place (a .t .now) (a .folds .now) lay (a .down) (a .offset) (a .n) (a .from) (k .walk .result) (c .land .ensures) (k .walk .ensures .0)
 
 pub glide-spec : {M : Type 1} → statement M
 glide-spec = tie.close (tie.spec (λ c κs. search needs) (λ c κs. search needs) returns)

@@ -4,6 +4,7 @@ use mathlib.Core.List.{List}
 use Prim.Native.Nat.{ℕ}
 use native.Mathlib.Omega.{arith}
 use borrow.Author.Needs.{needs}
+use Rattle.chars.specs.Width.{widthBy}
 use Rattle.text.proofs.Parts.{row-fits}
 use Rattle.segments.specs.Parts.{segmentCount, layOf}
 use Rattle.screen.proofs.Landing.{part-starts, place-is}
@@ -14,7 +15,8 @@ ahead-of-requires : tie.Need-ahead-of-requires
 ahead-of-requires c κs =
     let s = c .before .before .before .before .before .before in
     let a = s .args in
-    omega (arith, c .segment-count .ensures .0, ap (λ (x : List ℕ). segmentCount (layOf (a .word) (a .width) x)) (c .before .row .ensures), s .pre .1 .inside)
+    let w = widthBy (a .zeros .now) (a .doubles .now) in
+    omega (arith, c .segment-count .ensures .0, ap (λ (x : List ℕ). segmentCount (layOf w (a .word) (a .width) x)) (c .before .row .ensures), s .pre .1 .inside)
 
 clamp-to-segment-requires : tie.Need-clamp-to-segment-requires
 clamp-to-segment-requires c κs =
@@ -23,7 +25,8 @@ clamp-to-segment-requires c κs =
     let o = n .before in
     let s = o .before .before .before .before .before in
     let a = s .args in
-    let b = part-starts (a .t .now) (a .word) (a .width) (a .down) (a .s .row) (o .row .ensures) (a .s .ahead) (n .segment-count .ensures .0)
+    let w = widthBy (a .zeros .now) (a .doubles .now) in
+    let b = part-starts w (a .t .now) (a .word) (a .width) (a .down) (a .s .row) (o .row .ensures) (a .s .ahead) (n .segment-count .ensures .0)
     (i .ahead-of .ensures) (c .find-segment .ensures .0) (s .pre .1 .inside) in
     omega (arith, b, row-fits (a .t .now) (a .s .row) (s .pre .1 .line .in-row), s .pre .0 .2, s .pre .0 .3)
 
@@ -35,7 +38,8 @@ returns c =
     let o = n .before in
     let s = o .before .before .before .before .before in
     let a = s .args in
-    place-is (a .t .now) (a .word) (a .width) (a .down) (a .s .row) (o .row .ensures) (a .s .ahead) (n .segment-count .ensures .0) (i .ahead-of .ensures)
+    let w = widthBy (a .zeros .now) (a .doubles .now) in
+    place-is w (a .t .now) (a .word) (a .width) (a .down) (a .s .row) (o .row .ensures) (a .s .ahead) (n .segment-count .ensures .0) (i .ahead-of .ensures)
     (f .find-segment .ensures .0) (s .pre .1 .inside)
     (a .offset) _ (c .clamp-to-segment .ensures)
 

@@ -3,6 +3,7 @@ use mathlib.Core.Path.{sym, ap, _∙_}
 use Prim.Native.Nat.{ℕ}
 use native.Mathlib.Omega.{arith}
 use borrow.Author.Needs.{needs}
+use Rattle.chars.specs.Width.{widthBy}
 use Rattle.visible.specs.Visible.{toward}
 use Rattle.screen.proofs.Landing.{from-inside, from-near, from-on, from-off, from-stuck}
 use Rattle.screen.proofs.walks.screen_from.Statement.{statement}
@@ -13,9 +14,10 @@ glide-requires c κs =
     let s = c .before .before in
     let z = s .before .before .before .before .before .before in
     let a = z .args in
-    let inside = from-inside (a .t .now) (a .folds .now) (a .word) (a .width) (a .down) (a .n) (z .pre .0 .1) (record { row = a .l .row; col = a .col })
+    let w = widthBy (a .zeros .now) (a .doubles .now) in
+    let inside = from-inside w (a .t .now) (a .folds .now) (a .word) (a .width) (a .down) (a .n) (z .pre .0 .1) (record { row = a .l .row; col = a .col })
     (s .seat .ensures) in
-    let near = from-near (a .t .now) (a .folds .now) (a .word) (a .width) (a .down) (a .n) (z .pre .0 .1) (record { row = a .l .row; col = a .col })
+    let near = from-near w (a .t .now) (a .folds .now) (a .word) (a .width) (a .down) (a .n) (z .pre .0 .1) (record { row = a .l .row; col = a .col })
     (s .seat .ensures) in
     ((z .pre .0 .0, omega (arith, near, z .pre .1 .0)), record { line = z .pre .1 .1; inside = inside })
 
@@ -25,7 +27,8 @@ returns c =
     let s = i .before .before in
     let z = s .before .before .before .before .before .before in
     let a = z .args in
-    from-on (a .t .now) (a .folds .now) (a .word) (a .width) (a .down) (a .n) (z .pre .0 .1) (record { row = a .l .row; col = a .col }) (s .seat .ensures)
+    let w = widthBy (a .zeros .now) (a .doubles .now) in
+    from-on w (a .t .now) (a .folds .now) (a .word) (a .width) (a .down) (a .n) (z .pre .0 .1) (record { row = a .l .row; col = a .col }) (s .seat .ensures)
     (c .glide .ensures) (i .if1 .taken)
 
 visible-row-requires : tie.Need-visible-row-requires
@@ -38,9 +41,10 @@ glide-requires-2 c κs =
     let s = c .before .before .before .before .before .before in
     let z = s .before .before .before .before .before .before in
     let a = z .args in
-    let inside = from-inside (a .t .now) (a .folds .now) (a .word) (a .width) (a .down) (a .n) (z .pre .0 .1) (record { row = a .l .row; col = a .col })
+    let w = widthBy (a .zeros .now) (a .doubles .now) in
+    let inside = from-inside w (a .t .now) (a .folds .now) (a .word) (a .width) (a .down) (a .n) (z .pre .0 .1) (record { row = a .l .row; col = a .col })
     (s .seat .ensures) in
-    let near = from-near (a .t .now) (a .folds .now) (a .word) (a .width) (a .down) (a .n) (z .pre .0 .1) (record { row = a .l .row; col = a .col })
+    let near = from-near w (a .t .now) (a .folds .now) (a .word) (a .width) (a .down) (a .n) (z .pre .0 .1) (record { row = a .l .row; col = a .col })
     (s .seat .ensures) in
     ((z .pre .0 .0, omega (arith, near, z .pre .1 .0)), record { line = z .pre .1 .1; inside = inside })
 
@@ -51,9 +55,10 @@ returns-2 c =
     let s = i .before .before in
     let z = s .before .before .before .before .before .before in
     let a = z .args in
+    let w = widthBy (a .zeros .now) (a .doubles .now) in
     let found = ap (λ (k : ℕ). toward (a .folds .now) k (a .down) (a .l .row)) (sym (z .pre .0 .0 .all-rows)) ∙ sym (v .visible-row .ensures) ∙
     c .before .before .x .given .1 in
-    from-off (a .t .now) (a .folds .now) (a .word) (a .width) (a .down) (a .n) (z .pre .0 .1) (record { row = a .l .row; col = a .col }) (s .seat .ensures)
+    from-off w (a .t .now) (a .folds .now) (a .word) (a .width) (a .down) (a .n) (z .pre .0 .1) (record { row = a .l .row; col = a .col }) (s .seat .ensures)
     (c .glide2 .ensures) _ (omega (arith, i .if1 .left)) found
 
 returns-3 : tie.Need-returns-3
@@ -63,9 +68,10 @@ returns-3 c =
     let s = i .before .before in
     let z = s .before .before .before .before .before .before in
     let a = z .args in
+    let w = widthBy (a .zeros .now) (a .doubles .now) in
     let none = ap (λ (k : ℕ). toward (a .folds .now) k (a .down) (a .l .row)) (sym (z .pre .0 .0 .all-rows)) ∙ sym (v .visible-row .ensures) ∙
     c .enum-told .given .1 in
-    from-stuck (a .t .now) (a .folds .now) (a .word) (a .width) (a .down) (a .n) (z .pre .0 .1) (record { row = a .l .row; col = a .col })
+    from-stuck w (a .t .now) (a .folds .now) (a .word) (a .width) (a .down) (a .n) (z .pre .0 .1) (record { row = a .l .row; col = a .col })
     (s .seat .ensures) (omega (arith, i .if1 .left)) none
 
 pub screen-from-spec : {M : Type 1} → statement M

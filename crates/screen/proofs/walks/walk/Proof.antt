@@ -5,6 +5,7 @@ use Prim.Native.Nat.{ℕ}
 use mathlib.Core.List.{List}
 use native.Mathlib.Omega.{arith}
 use borrow.Author.Needs.{needs}
+use Rattle.chars.specs.Width.{widthBy}
 use Rattle.text.proofs.Parts.{count-le}
 use Rattle.text.proofs.Stands.{line-there, stands-own}
 use Rattle.text.specs.declared.Line.{Line}
@@ -17,7 +18,7 @@ use Rattle.screen.proofs.walks.walk.Tie as tie
 
 abbrev Inv-loop : tie.InvT-loop
 Inv-loop zeros doubles white t folds rows width word down n row₀ start₀ ahead₀ left₀ free₀ row start ahead left free =
-    Walking t folds word width down n row₀ ahead₀ row start ahead left × Free folds rows down row free
+    Walking (widthBy zeros doubles) t folds word width down n row₀ ahead₀ row start ahead left × Free folds rows down row free
 
 abbrev μ-loop : tie.MeasureT-loop
 μ-loop zeros doubles white t folds rows width word down n row₀ start₀ ahead₀ left₀ free₀ row start ahead left free = left
@@ -89,13 +90,14 @@ loop-again c =
     let s = l .before .before .before .before .before .before .before in
     let a = s .args in
     let all = s .pre .0 .all-rows in
+    let w = widthBy (a .zeros .now) (a .doubles .now) in
     let is = k .before .before .seen .given .1 in
     let seen = sym (v .hop .ensures .found) ∙ is in
     let found = ap (λ (n : ℕ). toward (a .folds .now) n (a .down) (l .loop .row)) (sym all) ∙ seen in
     let there : k .line-to .result .row ≡ k .before .before .seen .given .0 .0 = ap (λ (x : Line). x .row) (k .line-to .ensures) in (
       walking-cross (l .loop .inv .0) _ (c .segment-count .result) (k .line-to .result) (v .before .loop-test .taken) found
           (omega (arith, all, toward-within (a .folds .now) (a .rows) (a .down) (l .loop .row) _ (omega (arith, all, l .loop .inv .0 .line .in-row)) seen))
-          (k .line-to .ensures) (c .segment-count .ensures .0 ∙ ap (λ (x : List ℕ). segmentCount (layOf (a .word) (a .width) x)) (r .row .ensures))
+          (k .line-to .ensures) (c .segment-count .ensures .0 ∙ ap (λ (x : List ℕ). segmentCount (layOf w (a .word) (a .width) x)) (r .row .ensures))
           (c .segment-count .ensures .1),
       rw there (v .hop .ensures .onward _ is),
     )

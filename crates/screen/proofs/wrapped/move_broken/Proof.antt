@@ -3,7 +3,7 @@ use mathlib.Core.Path.{refl}
 use native.Mathlib.Omega.{arith}
 use borrow.Author.Needs.{needs}
 use Rattle.chars.specs.White.{whites}
-use Rattle.chars.specs.Width.{zeroWidths, doubleWidths}
+use Rattle.chars.specs.Width.{widthBy}
 use Rattle.text.proofs.Parts.{row-fits}
 use Rattle.segments.specs.Parts.{layOf}
 use Rattle.screen.proofs.Spans.{target-made}
@@ -12,8 +12,8 @@ use Rattle.screen.proofs.wrapped.move_broken.Tie as tie
 
 jump-requires : tie.Need-jump-requires
 jump-requires c κs =
-    let s = c .before .before .before .before in
-    let p = s .pre .0 in (
+    let s = c .before .before .before .before .before .before in
+    let p = s .pre .1 in (
       c .row-count .ensures,
       rw (c .row-count .ensures) (p .folds-good),
       p .line,
@@ -21,17 +21,17 @@ jump-requires c κs =
     )
 
 screen-from-requires : tie.Need-screen-from-requires
-unfolding zeroWidths doubleWidths whites
+unfolding whites
 screen-from-requires c κs =
-    let m = c .before .before .before in
+    let m = c .before in
     let j = m .before in
     let k = j .before in
-    let s = k .before .before .before .before in
-    let p = s .pre .0 in (
+    let s = k .before .before .before .before .before .before in
+    let p = s .pre .1 in (
       (
         record {
-          tables = record { widths = record { none = refl; two = refl }; whites-are = refl };
-          wide = s .pre .1;
+          tables = record { widths = s .pre .0 .0; whites-are = refl };
+          wide = s .pre .0 .1;
           brief = p .row-good .brief;
           all-rows = k .row-count .ensures;
           folds-good = rw (k .row-count .ensures) (p .folds-good);
@@ -43,15 +43,16 @@ screen-from-requires c κs =
 
 returns : tie.Need-returns
 returns c =
-    let m = c .before .before .before .before in
+    let m = c .before .before in
     let j = m .before in
-    let w = j .before .before in
-    let a = w .before .before .before .args in
-    target-made (a .t .now) (a .folds .now) (a .tabstop) (layOf (a .word) (a .width)) (a .down) (a .count) (a .l .row) (a .col) (a .sticky)
-    (w .wanted .ensures) (m .most .ensures) (j .jump .ensures .0) (c .screen-from .ensures)
+    let d = j .before .before in
+    let a = d .before .before .before .before .before .args in
+    let w = widthBy (a .zeros .now) (a .doubles .now) in
+    target-made w (a .t .now) (a .folds .now) (a .tabstop) (layOf w (a .word) (a .width)) (a .down) (a .count) (a .l .row) (a .col) (a .sticky)
+    (d .wanted .ensures) (m .most .ensures) (j .jump .ensures .0) (c .screen-from .ensures)
 
 pub move-broken-spec : {M : Type 1} → statement M
 move-broken-spec =
     tie.close
-    (tie.spec (λ c κs. search needs) (λ c κs. search needs) jump-requires (λ c κs. search needs) (λ c. search needs) (λ c. search needs) (λ c. search needs)
+    (tie.spec (λ c κs. search needs) (λ c κs. search needs) jump-requires (λ c κs. search needs) (λ c. search needs)
     screen-from-requires returns)

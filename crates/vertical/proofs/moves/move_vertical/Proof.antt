@@ -4,48 +4,46 @@ use mathlib.Core.Path.{_∙_}
 use native.Mathlib.Omega.{arith}
 use borrow.Author.Needs.{needs}
 use mir.Facts.{toZ-ofZ}
+use Rattle.chars.specs.Width.{widthBy}
 use Rattle.text.proofs.Parts.{count-le}
-use Rattle.vertical.proofs.Accepted.{row-there}
 use Rattle.vertical.proofs.Landed.{reached, stays-is, lands-is}
 use Rattle.vertical.proofs.moves.move_vertical.Statement.{statement}
 use Rattle.vertical.proofs.moves.move_vertical.Tie as tie
 
 vertical-row-requires : tie.Need-vertical-row-requires
 vertical-row-requires c κs =
-    let s = c .before .before .before .before in
-    let p = s .pre .0 in
+    let s = c .before .before .before .before .before .before in
+    let p = s .pre .1 .0 in
     let n = c .row-count .ensures in (
       rw n (p .folds-good),
       omega (arith, p .row-good .in-rows),
       omega (arith, count-le (s .args .t .now), p .row-good .brief),
-      rw (toZ-ofZ (s .fits .delta)) (s .pre .1),
+      rw (toZ-ofZ (s .fits .delta)) (s .pre .1 .1),
     )
 
 returns : tie.Need-returns
 returns c =
     let v = c .before in
     let n = v .before in
-    let w = n .before in
-    let s = w .before .before .before in
+    let d = n .before in
+    let s = d .before .before .before .before .before in
     let a = s .args in
+    let w = widthBy (a .zeros .now) (a .doubles .now) in
     let to = v .vertical-row .ensures .0 ∙ reached (a .folds .now) (a .l .row) (n .row-count .ensures) (toZ-ofZ (s .fits .delta)) in
-    stays-is (a .t .now) (a .tabstop) (a .l .row) (a .col) (w .wanted .ensures) to (c .if1 .taken)
-
-aimed-requires : tie.Need-aimed-requires
-aimed-requires c κs =
-    let v = c .before in
-    row-there (v .before .before .before .before .before .pre .0 .row-good) (v .vertical-row .result)
-    (omega (arith, v .vertical-row .ensures .1, v .before .row-count .ensures))
+    stays-is w (a .t .now) (a .tabstop) (a .l .row) (a .col) (d .wanted .ensures) to (c .if1 .taken)
 
 returns-2 : tie.Need-returns-2
 returns-2 c =
     let v = c .before .before in
     let n = v .before in
-    let w = n .before in
-    let s = w .before .before .before in
+    let d = n .before in
+    let s = d .before .before .before .before .before in
     let a = s .args in
+    let w = widthBy (a .zeros .now) (a .doubles .now) in
     let to = v .vertical-row .ensures .0 ∙ reached (a .folds .now) (a .l .row) (n .row-count .ensures) (toZ-ofZ (s .fits .delta)) in
-    lands-is (a .t .now) (a .tabstop) (a .l .row) (a .col) (w .wanted .ensures) to (c .before .if1 .left) (c .aimed .ensures)
+    lands-is w (a .t .now) (a .tabstop) (a .l .row) (a .col) (d .wanted .ensures) to (c .before .if1 .left) (c .aimed .ensures)
 
 pub move-vertical-spec : {M : Type 1} → statement M
-move-vertical-spec = tie.close (tie.spec (λ c κs. search needs) (λ c κs. search needs) vertical-row-requires returns aimed-requires returns-2)
+move-vertical-spec =
+    tie.close
+    (tie.spec (λ c κs. search needs) (λ c κs. search needs) vertical-row-requires returns (λ c κs. search needs) returns-2)

@@ -6,13 +6,13 @@ use lib.ListN.{length}
 use mathlib.Core.Path.{refl, sym}
 use native.Mathlib.Omega.{arith}
 use Rattle.chars.specs.White.{isWhite}
-use Rattle.chars.specs.Width.{widthOf}
+use Rattle.chars.specs.Width.{widthBy}
 use Rattle.wrap.proofs.Walk.{SegmentsTo, walk-start, walk-next, walk-count, walk-end}
 use Rattle.wrap.proofs.breaks.count_segments.Statement.{statement}
 use Rattle.wrap.proofs.breaks.count_segments.Tie as tie
 
 abbrev Inv-loop : tie.InvT-loop
-Inv-loop zeros doubles white row width word n₀ start₀ n start = SegmentsTo widthOf isWhite word width row (2 * n) start × (n ≤ start)
+Inv-loop zeros doubles white row width word n₀ start₀ n start = SegmentsTo (widthBy zeros doubles) isWhite word width row (2 * n) start × (n ≤ start)
 
 abbrev μ-loop : tie.MeasureT-loop
 μ-loop zeros doubles white row width word n₀ start₀ n start = length row - start

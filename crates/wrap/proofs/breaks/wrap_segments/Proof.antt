@@ -30,7 +30,7 @@ returns-3 c =
     let s = c .before .before .before .before .before in
     let a = s .before .before .before .before .before .before .args in
     let parts = segments-broken widthOf isWhite _ _ _ (sym (s .before .is-whole .ensures) ∙ s .if2 .left) in
-    let word = ap (λ (b : Bool). rowSegments b (a .width) (a .row .now)) (sym (c .before .before .before .before .is-word .ensures)) in
+    let word = ap (λ (b : Bool). rowSegments widthOf b (a .width) (a .row .now)) (sym (c .before .before .before .before .is-word .ensures)) in
     wrapped-is _ _ _ (s .before .before .before .row-refusal .ensures) (s .before .before .if1 .left)
     (parts ∙ word) (c .before .before .broken .ensures)
 

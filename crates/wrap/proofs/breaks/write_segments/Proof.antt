@@ -5,7 +5,7 @@ use Prim.Native.Nat.{_-_}
 use lib.ListN.{length}
 use native.Mathlib.Omega.{arith}
 use Rattle.chars.specs.White.{isWhite}
-use Rattle.chars.specs.Width.{widthOf}
+use Rattle.chars.specs.Width.{widthBy}
 use Rattle.wrap.proofs.Room.{FilledTo, filled-start, filled-two, filled-end}
 use Rattle.wrap.proofs.Walk.{SegmentsTo, walk-start, walk-next, walk-end}
 use Rattle.wrap.specs.Calls.{rowSegments}
@@ -14,7 +14,7 @@ use Rattle.wrap.proofs.breaks.write_segments.Tie as tie
 
 abbrev Inv-loop : tie.InvT-loop
 Inv-loop zeros doubles white row width word out₀ at₀ start₀ out at start =
-    SegmentsTo widthOf isWhite word width row at start × FilledTo (rowSegments word width row) out₀ at out
+    SegmentsTo (widthBy zeros doubles) isWhite word width row at start × FilledTo (rowSegments (widthBy zeros doubles) word width row) out₀ at out
 
 abbrev μ-loop : tie.MeasureT-loop
 μ-loop zeros doubles white row width word out₀ at₀ start₀ out at start = length row - start

@@ -1,0 +1,12 @@
+-- `chars::width` meets its contract: below U+0300 the tables hold U+0000 alone. Assumes nothing.
+use mathlib.Core.Path.{sym, _∙_}
+use borrow.Author.Needs.{needs}
+use Rattle.chars.proofs.Lent.{width-low}
+use Rattle.chars.proofs.widths.width.Statement.{statement}
+use Rattle.chars.proofs.widths.width.Tie as tie
+
+returns : tie.Need-returns
+returns c = c .low-width .ensures ∙ sym (width-low _ (c .before .if1 .taken))
+
+pub width-spec : {M : Type 1} → statement M
+width-spec = tie.close (tie.spec (λ c κs. search needs) returns (λ c κs. search needs) (λ c. search needs))
