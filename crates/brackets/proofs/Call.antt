@@ -3,7 +3,7 @@
 use mathlib.Core.Path.{_≡_, sym, _∙_, ap, subst}
 use mathlib.Core.Bool.{and-false}
 use mathlib.Core.List.{List}
-use Prim.Native.Nat.{ℕ, _+_, _-_, _<_, min}
+use Prim.Native.Nat.{ℕ, _+_, _≤_, _<_}
 use native.Mathlib.Decide.{decLt}
 use native.Mathlib.Omega.{arith}
 use lib.ListN.{getD}
@@ -14,7 +14,7 @@ use Rattle.text.specs.Offsets.{rowStart, lineAt, IsLine}
 use Rattle.text.specs.declared.Line.{Line}
 use Rattle.accept.proofs.Accepted.{accepted-short}
 use Rattle.text.proofs.Parts.{row-fits}
-use Rattle.text.proofs.Stands.{row-missed, row-found, stands-in}
+use Rattle.text.proofs.Stands.{line-there, stands-in}
 use Rattle.scans.specs.declared.Found.{Found}
 use Rattle.scans.specs.declared.Found.the-variants.{At, Nothing}
 use Rattle.partners.specs.declared.Partner.{Partner}
@@ -62,30 +62,33 @@ module _ (t : List ℕ) (ok : textRefusal t ≡ 0) {l : Line} (line : IsLine t l
   line-answer =
       call-inside t (l .row) col ok (record { in-row = line .in-row; in-col = h }) ∙ ap (λ (s : ℕ). placed t (partnerOf t (s + col))) (sym (line .begins))
 
--- the row that the call finds: no such row, or the row asked for, and what `offset_of` finds in it
-module _ (t : List ℕ) (n col : ℕ) {l : Line} (e : l ≡ lineAt t (min n (rowCount t - 1))) where
-  pub no-row : (l .row ≡ n → ⊥) → Inside t n col → ⊥
-  no-row h i = omega (arith, row-missed t l n e h, i .in-row)
+-- no such row
+pub no-row : (t : List ℕ) (n col : ℕ) → rowCount t ≤ n → Inside t n col → ⊥
+no-row t n col h i = omega (arith, i .in-row)
 
-  module _ (h : l .row ≡ n) where
-    pub row-line : IsLine t l
-    row-line = row-found t l n e h .1
+-- the row that the call finds, and what `offset_of` finds in it
+module _ (t : List ℕ) (n col : ℕ) {l : Line} (h : n < rowCount t) (e : l ≡ lineAt t n) where
+  pub row-there : IsLine t l
+  row-there = line-there t l n e h
 
-    module _ {f : Found} (g : f ≡ columnOf t (l .row) col) where
-      pub no-col : f ≡ Nothing → Inside t n col → ⊥
-      no-col s i = omega (arith, column-none t (l .row) col (sym g ∙ s), ap (rowLen t) h, i .in-col)
+  own : l .row ≡ n
+  own = ap (λ (x : Line). x .row) e
 
-      module _ (ok : textRefusal t ≡ 0) {at : ℕ} (s : f ≡ At at) where
-        there : (col < rowLen t (l .row)) × (l .start + col ≡ at)
-        there = let c = column-told t (l .row) col at (sym g ∙ s) in (c .0, omega (arith, c .1, row-line .begins))
+  module _ {f : Found} (g : f ≡ columnOf t (l .row) col) where
+    pub no-col : f ≡ Nothing → Inside t n col → ⊥
+    no-col s i = omega (arith, column-none t (l .row) col (sym g ∙ s), ap (rowLen t) own, i .in-col)
 
-        pub place-starts : Starts t l at
-        place-starts = subst (Starts t l) (there .1) (line-starts t ok row-line col (there .0))
+    module _ (ok : textRefusal t ≡ 0) {at : ℕ} (s : f ≡ At at) where
+      there : (col < rowLen t (l .row)) × (l .start + col ≡ at)
+      there = let c = column-told t (l .row) col at (sym g ∙ s) in (c .0, omega (arith, c .1, row-there .begins))
 
-        pub place-answer : {r : Partner} → r ≡ placed t (partnerOf t at) → r ≡ matchingBracketPos t n col
-        place-answer a =
-            let same = line-answer t ok row-line col (there .0) ∙ ap (λ (b : ℕ). placed t (partnerOf t b)) (there .1) in
-            a ∙ sym same ∙ ap (λ (k : ℕ). matchingBracketPos t k col) h
+      pub place-starts : Starts t l at
+      place-starts = subst (Starts t l) (there .1) (line-starts t ok row-there col (there .0))
+
+      pub place-answer : {r : Partner} → r ≡ placed t (partnerOf t at) → r ≡ matchingBracketPos t n col
+      place-answer a =
+          let same = line-answer t ok row-there col (there .0) ∙ ap (λ (b : ℕ). placed t (partnerOf t b)) (there .1) in
+          a ∙ sym same ∙ ap (λ (k : ℕ). matchingBracketPos t k col) own
 
 -- what `match_bracket_from` finds in the row, and what it makes of it
 module _ (t : List ℕ) (ok : textRefusal t ≡ 0) {l : Line} (line : IsLine t l) (col : ℕ) {x : List ℕ} {f : Found}

@@ -43,10 +43,11 @@ pub fn matching_bracket_pos(t: &[u32], row: u32, col: u32) -> Partner
         return Partner::Refused(f);
     }
     let wanted = row as usize;
-    let l = text::offsets::line_at(t, wanted);
-    if l.row != wanted {
+    let rows = text::row_count(t);
+    if wanted >= rows {
         return Partner::None;
     }
+    let l = text::offsets::row_line(t, rows, wanted);
     let f = offset_of(t, l.row, l.start, col as usize);
     match f {
         Found::At(at) => walks::partner(t, l, at),

@@ -1,6 +1,7 @@
 // By paragraphs: the moves of `{` and `}`.
 use lines::Paragraph;
 use lines::paragraphs::find_paragraph;
+use positions::Entry;
 use positions::Position;
 use text::Line;
 use text::minus;
@@ -12,13 +13,13 @@ ghost use Rattle.lines.specs.declared.Paragraph.the-variants.{At};
 ghost use Rattle.positions.specs.Positions.{Accepted};
 ghost use Rattle.jumps.specs.Paragraphs.{downAt, paragraphPrev, paragraphNext};
 
-pub fn paragraph_prev(t: &[u32], p: Position, start: usize, count: u32) -> Position
-    requires { ⌜ Accepted (now t) p start ⌝ }
+pub fn paragraph_prev(t: &[u32], p: Position, e: Entry, count: u32) -> Position
+    requires { ⌜ Accepted (now t) p e ⌝ }
     ensures { λ r. ⌜ r ≡ paragraphPrev (now (t .entry)) count p ⌝ }
 {
     let from = Line {
         row: p.row,
-        start: start,
+        start: e.start,
     };
     let last = text::content_rows(t) - 1;
     match find_paragraph(t, false, last, from, most(count as usize, 1)) {
@@ -44,13 +45,13 @@ fn down_at(t: &[u32], p: Position, last: usize, l: Line) -> Position
     Position { row: row, col: 0 }
 }
 
-pub fn paragraph_next(t: &[u32], p: Position, start: usize, count: u32) -> Position
-    requires { ⌜ Accepted (now t) p start ⌝ }
+pub fn paragraph_next(t: &[u32], p: Position, e: Entry, count: u32) -> Position
+    requires { ⌜ Accepted (now t) p e ⌝ }
     ensures { λ r. ⌜ r ≡ paragraphNext (now (t .entry)) count p ⌝ }
 {
     let from = Line {
         row: p.row,
-        start: start,
+        start: e.start,
     };
     let last = text::content_rows(t) - 1;
     match find_paragraph(t, true, last, from, most(count as usize, 1)) {

@@ -1,6 +1,7 @@
 // Column 0 of rows that begin with a mark: the moves of `[[`, `]]`, `[]` and `][`.
 use lines::sections::section_down;
 use lines::sections::section_up;
+use positions::Entry;
 use positions::Position;
 use text::Line;
 use text::most;
@@ -9,26 +10,26 @@ ghost use Prim.Native.Nat.{_<_};
 ghost use Rattle.positions.specs.Positions.{Accepted};
 ghost use Rattle.jumps.specs.Sections.{sectionBack, sectionOn};
 
-pub fn section_back(t: &[u32], p: Position, start: usize, x: u32, count: u32) -> Position
-    requires { ⌜ Accepted (now t) p start × (10 < x) ⌝ }
+pub fn section_back(t: &[u32], p: Position, e: Entry, x: u32, count: u32) -> Position
+    requires { ⌜ Accepted (now t) p e × (10 < x) ⌝ }
     ensures { λ r. ⌜ r ≡ sectionBack (now (t .entry)) x count p ⌝ }
 {
     let l = Line {
         row: p.row,
-        start: start,
+        start: e.start,
     };
     let row = section_up(t, l, x, most(count as usize, 1));
     Position { row: row, col: 0 }
 }
 
-pub fn section_on(t: &[u32], p: Position, start: usize, x: u32, count: u32) -> Position
-    requires { ⌜ Accepted (now t) p start × (10 < x) ⌝ }
+pub fn section_on(t: &[u32], p: Position, e: Entry, x: u32, count: u32) -> Position
+    requires { ⌜ Accepted (now t) p e × (10 < x) ⌝ }
     ensures { λ r. ⌜ r ≡ sectionOn (now (t .entry)) x count p ⌝ }
 {
     let l = Line {
         row: p.row,
-        start: start,
+        start: e.start,
     };
-    let row = section_down(t, l, x, most(count as usize, 1));
+    let row = section_down(t, l, e.content - 1, x, most(count as usize, 1));
     Position { row: row, col: 0 }
 }

@@ -1,20 +1,18 @@
 -- Rows that begin with a mark, by the code point at their start, and the steps of a walk from row to row in search of them.
 -- Assumes nothing.
-use mathlib.Core.Path.{_≡_, refl, ap, sym, _∙_}
+use mathlib.Core.Path.{_≡_, refl, sym, _∙_}
 use mathlib.Core.List.{List}
 use mathlib.Core.Bool.{false, cond}
-use Prim.Native.Nat.{ℕ, zero, suc, _+_, _-_, _≤_, _<_, min}
+use Prim.Native.Nat.{ℕ, zero, suc, _+_, _-_, _≤_, _<_}
 use native.Mathlib.Decide.{decLt}
 use native.Mathlib.Omega.{arith}
 use lib.Dec.{eqb}
 use lib.ListN.{length, getD}
 use borrow.Author.Tests.{ne-eqb, lt-ltb, le-ltb}
 use Rattle.text.specs.Text.{rowCount, rowLen, contentRows}
-use Rattle.text.specs.Offsets.{At, IsLine, lineAt}
-use Rattle.text.specs.declared.Line.{Line}
+use Rattle.text.specs.Offsets.{At}
 use Rattle.text.proofs.At.{on-char, on-end, point-at}
-use Rattle.text.proofs.Stands.{line-there}
-use Rattle.text.proofs.Content.{content-near, content-yes, content-no}
+use Rattle.text.proofs.Content.{content-near}
 use Rattle.lines.specs.Sections.{begins, sectionUp, sectionDown}
 
 -- the code point at a row's start tells how it begins
@@ -60,33 +58,21 @@ down-done t x n row zero e = refl
 down-done t x zero row (suc rest) e = refl
 down-done t x (suc n) row (suc rest) e = absurd (omega arith)
 
-pub down-step : (t : List ℕ) (x n row rest q : ℕ) → 0 < n → 0 < rest → q ≡ row + 1 →
-    sectionDown t x n row rest ≡ sectionDown t x (cond (begins t x q) (n - 1) n) q (rest - 1)
+one-down : (t : List ℕ) (x n row rest less q : ℕ) → 0 < n → rest ≡ less + 1 → q ≡ row + 1 →
+    sectionDown t x n row rest ≡ sectionDown t x (cond (begins t x q) (n - 1) n) q less
 unfolding sectionDown
-down-step t x zero row rest q p h e = absurd (omega arith)
-down-step t x (suc n) row zero q p h e = absurd (omega arith)
-down-step t x (suc n) row (suc rest) q p h e =
+one-down t x zero row rest less q p h e = absurd (omega arith)
+one-down t x (suc n) row zero less q p h e = absurd (omega arith)
+one-down t x (suc n) row (suc rest) less q p h e =
     let one : suc n - 1 ≡ n = omega arith in
-    let less : suc rest - 1 ≡ rest = omega arith in
-    rw (e, one, less)
+    let same : rest ≡ less = omega arith in
+    rw (e, one, same)
 
--- the row below: there is none, or none with content, or it is one
-module _ (t : List ℕ) (row : ℕ) (l : Line) (h : row < rowCount t) (e : l ≡ lineAt t (min (row + 1) (rowCount t - 1))) where
-  found : l .row ≡ min (row + 1) (rowCount t - 1)
-  found = ap (λ (x : Line). x .row) e
+-- before the last row with content, `last`
+pub down-step : (t : List ℕ) (x n row last q : ℕ) → 0 < n → row < last → q ≡ row + 1 →
+    sectionDown t x n row (last - row) ≡ sectionDown t x (cond (begins t x q) (n - 1) n) q (last - q)
+down-step t x n row last q p h e = one-down t x n row (last - row) (last - q) q p (omega arith) e
 
-  pub below-none : l .row ≡ row → contentRows t - 1 - row ≡ 0
-  below-none s = omega (arith, found, content-near t)
-
-  pub below-is : (l .row ≡ row → ⊥) → IsLine t l × (l .row ≡ row + 1)
-  below-is s = (line-there t l (min (row + 1) (rowCount t - 1)) e (omega arith), omega (arith, found))
-
-  pub below-void : (l .row ≡ row → ⊥) → length t ≤ l .start → contentRows t - 1 - row ≡ 0
-  below-void s v =
-      let b = below-is s in
-      omega (arith, content-no t (l .row) (omega arith) (b .0 .in-row) (omega (arith, b .0 .begins)))
-
-  pub below-content : (l .row ≡ row → ⊥) → l .start < length t → (0 < contentRows t - 1 - row) × (contentRows t - 1 - row - 1 ≡ contentRows t - 1 - l .row)
-  below-content s v =
-      let b = below-is s in
-      omega (arith, content-yes t (l .row) (omega arith) (b .0 .in-row) (omega (arith, b .0 .begins)))
+-- and then there is a row below
+pub has-next : (t : List ℕ) (row last : ℕ) → last ≡ contentRows t - 1 → row < last → row + 1 < rowCount t
+has-next t row last e h = omega (arith, content-near t)

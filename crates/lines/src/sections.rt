@@ -2,6 +2,8 @@
 // motions.rs. A walk goes from row start to row start, so that it reads the text once, whatever the
 // count.
 use text::Line;
+use text::offsets::next_line;
+use text::offsets::prev_line;
 ghost use mathlib.Core.Path.{_≡_};
 ghost use Prim.Native.Nat.{_-_, _≤_};
 ghost use lib.ListN.{length};
@@ -34,7 +36,11 @@ pub fn section_up(t: &[u32], from: Line, x: u32, n: usize) -> usize
         if left == 0 {
             return row;
         }
-        let l = text::offsets::up(t, row, start, 1);
+        let here = Line {
+            row: row,
+            start: start,
+        };
+        let l = prev_line(t, here);
         if begins(t, l, x) {
             row = l.row;
             start = l.start;
@@ -47,27 +53,24 @@ pub fn section_up(t: &[u32], from: Line, x: u32, n: usize) -> usize
     row
 }
 
-// The row of the n-th section down from `from`, or the last row with content.
-pub fn section_down(t: &[u32], from: Line, x: u32, n: usize) -> usize
-    requires { ⌜ IsLine (now t) from × (x ≡ 10 → ⊥) ⌝ }
+// The row of the n-th section down from `from`, or `last`, the last row with content.
+pub fn section_down(t: &[u32], from: Line, last: usize, x: u32, n: usize) -> usize
+    requires { ⌜ IsLine (now t) from × (last ≡ lastRow (now t)) × (x ≡ 10 → ⊥) ⌝ }
     ensures { λ r. ⌜ (r ≡ sectionDown (now (t .entry)) x n (from .row)
         (lastRow (now (t .entry)) - from .row)) × (r ≤ length (now (t .entry))) ⌝ }
 {
     let mut row = from.row;
     let mut start = from.start;
     let mut left = n;
-    while left > 0 {
+    while row < last {
+        if left == 0 {
+            return row;
+        }
         let here = Line {
             row: row,
             start: start,
         };
-        let l = text::offsets::down(t, here, 1);
-        if l.row == row {
-            return row;
-        }
-        if l.start >= t.len() {
-            return row;
-        }
+        let l = next_line(t, here);
         if begins(t, l, x) {
             row = l.row;
             start = l.start;

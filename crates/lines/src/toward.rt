@@ -18,7 +18,7 @@ pub fn beside(t: &[u32], forward: bool, l: text::Line) -> text::Line
     ensures { λ r. ⌜ r ≡ lineAt (now (t .entry)) (onward forward (l .row)) ⌝ }
 {
     if forward {
-        return text::offsets::down(t, l, 1);
+        return text::offsets::next_line(t, l);
     }
-    text::offsets::up(t, l.row, l.start, 1)
+    text::offsets::prev_line(t, l)
 }

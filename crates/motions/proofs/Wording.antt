@@ -5,22 +5,32 @@ use Prim.Native.Nat.{ℕ, _+_, _-_, _≤_, _<_, _^_}
 use native.Mathlib.Omega.{arith}
 use lib.ListN.{length}
 use Rattle.text.specs.Offsets.{rowStart, Stands}
+use Rattle.text.specs.Text.{rowCount}
 use Rattle.text.proofs.Parts.{count-le}
+use Rattle.folds.specs.Folds.{foldRefusal}
+use Rattle.positions.specs.declared.Entry.{Entry}
 use Rattle.positions.specs.Positions.{Accepted}
 use Rattle.places.specs.declared.Spot.{Spot}
 use Rattle.places.specs.Places.{Place, place}
 use Rattle.places.specs.Spots.{placeOf, IsSpot}
+use Rattle.turns.specs.Turns.{Folded}
 use Rattle.motions.specs.declared.Caret.{Caret}
 use Rattle.motions.specs.Carets.{here, placed}
 use Rattle.motions.specs.WordMoves.{atPlace}
 
 -- the spot of an accepted caret
-module _ (t : List ℕ) (k : Caret) (start : ℕ) (h : Accepted t (here k) start) where
-  pub spot-of : IsSpot t (record { row = k .row; at = start + k .col })
-  spot-of = subst (λ (s : ℕ). Stands t (k .row) s (start + k .col)) (h .here .begins) (h .here)
+module _ (t : List ℕ) (k : Caret) (e : Entry) (h : Accepted t (here k) e) where
+  spot-of : IsSpot t (record { row = k .row; at = e .start + k .col })
+  spot-of = subst (λ (s : ℕ). Stands t (k .row) s (e .start + k .col)) (h .here .begins) (h .here)
 
-  pub place-of : placeOf t (record { row = k .row; at = start + k .col }) ≡ place (k .row) (k .col)
+  pub place-of : placeOf t (record { row = k .row; at = e .start + k .col }) ≡ place (k .row) (k .col)
   place-of = ap (place (k .row)) (omega (arith, h .here .begins))
+
+-- what a word motion from it requires
+pub word-ready : (t folds : List ℕ) (k : Caret) (e : Entry) → Accepted t (here k) e → foldRefusal folds (rowCount t) ≡ 0 →
+    Folded t folds (e .rows) (e .content) (record { row = k .row; at = e .start + k .col })
+word-ready t folds k e h good =
+    record { good = rw (h .all-rows) good; all-rows = h .all-rows; content-rows = h .content-rows; spot = spot-of t k e h }
 
 -- the numbers of a spot fit a u32
 pub spot-fits : {t : List ℕ} {r : Spot} (start : ℕ) → length t ≤ 1048576 → IsSpot t r → (r .row < 2 ^ 32) × (r .at - start < 2 ^ 32)

@@ -27,7 +27,7 @@ impl Caret {
             row: self.row as usize,
             col: self.col as usize,
         };
-        let q = ways::across::jump(t, p, e.start, j, count);
+        let q = ways::across::jump(t, p, e, j, count);
         Moved::To(self.placed(q.row, q.col))
     }
 

@@ -38,7 +38,18 @@ impl Caret {
             row: self.row as usize,
             at: at,
         };
-        let r = words::word_motion(t, folds, p.spec, big, m, stop, count, from);
+        let r = words::word_motion(
+            t,
+            folds,
+            p.spec,
+            big,
+            e.rows,
+            e.content,
+            m,
+            stop,
+            count,
+            from,
+        );
         let l = text::offsets::up(t, r.row, r.at, 0);
         Moved::To(self.placed(r.row, r.at - l.start))
     }

@@ -5,8 +5,8 @@ use mathlib.Core.List.{List, [], _∷_}
 use mathlib.Core.Bool.{Bool, true, false, cond, _&&_}
 use Prim.Native.Nat.{ℕ, _+_, _≤_, _<_}
 use native.Mathlib.Omega.{arith}
-use lib.Dec.{ltb, leb}
-use borrow.Author.Tests.{eq-eqb, ne-eqb, ltb-true, leb-true, lt-ltb, le-ltb, le-leb, lt-leb}
+use lib.Dec.{eqb, ltb, leb}
+use borrow.Author.Tests.{eq-eqb, ne-eqb, eqb-true, ltb-true, leb-true, lt-ltb, le-ltb, le-leb, lt-leb}
 use Rattle.chars.specs.Scalar.{isScalar}
 use Rattle.accept.specs.Accept.{textRefusal}
 use Rattle.text.specs.Text.{rowCount, rowLen}
@@ -17,8 +17,8 @@ use Rattle.text.proofs.Parts.{row-fits}
 use Rattle.text.proofs.Stands.{line-at, stands-in}
 use Rattle.positions.specs.declared.Position.{Position}
 use Rattle.positions.specs.declared.Entry.{Entry}
-use Rattle.positions.specs.Positions.{positionRefusal, lowest, refusalAt, entryOf, orSought, entryWith, refusalFolds, entryFolds}
-use Rattle.positions.specs.Positions.{Accepted, Inside}
+use Rattle.positions.specs.Positions.{positionRefusal, lowest, refusalAt, orSought, refusalWith, refusalFolds}
+use Rattle.positions.specs.Positions.{refusedBy, foundAt, entryBy, entryOf, entryWith, entryFolds, Accepted, Inside}
 use Rattle.positions.proofs.Lowest.{lowest-none, lowest-kept, lowest-last}
 
 -- where no check refuses
@@ -35,7 +35,7 @@ module _ (t : List ℕ) (k : Position) where
   pub inside : refusalAt t k ≡ 0 → Inside t k
   inside e = inside-at (lowest-none (positionRefusal t k) [] (lowest-none (textRefusal t) (positionRefusal t k ∷ []) e .1) .0)
 
-  pub accepted : refusalAt t k ≡ 0 → Accepted t k (rowStart t (k .row))
+  pub accepted : refusalAt t k ≡ 0 → Accepted t k (foundAt t k)
   accepted e =
       let p = lowest-none (textRefusal t) (positionRefusal t k ∷ []) e in
       let i = inside e in
@@ -45,58 +45,80 @@ module _ (t : List ℕ) (k : Position) where
         here = stands-in l (rowStart t (k .row) + k .col) (omega arith) (omega arith);
         line = l;
         room = omega (arith, accepted-short t (p .0), row-fits t (k .row) (i .in-row));
+        all-rows = refl;
+        content-rows = refl;
       }
 
-  -- the answers of `enter`
-  pub entry-text : (f : ℕ) → f ≡ textRefusal t → (f ≡ 0 → ⊥) → record { refusal = f; start = 0 } ≡ entryOf t k
-  unfolding entryOf lowest
-  entry-text f e n = rw (← e, ne-eqb f 0 n, ne-eqb f 0 n)
+  -- the refusal of a call, check by check
+  pub refusal-text : (f : ℕ) → f ≡ textRefusal t → (f ≡ 0 → ⊥) → refusalAt t k ≡ f
+  unfolding lowest
+  refusal-text f e n = rw (← e, ne-eqb f 0 n)
 
   module _ (e : textRefusal t ≡ 0) where
-    pub entry-row : rowCount t ≤ k .row → record { refusal = 4; start = 0 } ≡ entryOf t k
-    unfolding entryOf lowest positionRefusal
-    entry-row h = rw (e, le-ltb _ _ h)
+    pub refusal-row : rowCount t ≤ k .row → refusalAt t k ≡ 4
+    unfolding lowest positionRefusal
+    refusal-row h = rw (e, le-ltb _ _ h)
 
-    pub entry-col : k .row < rowCount t → rowLen t (k .row) < k .col → record { refusal = 4; start = 0 } ≡ entryOf t k
-    unfolding entryOf lowest positionRefusal
-    entry-col h l = rw (e, lt-ltb _ _ h, lt-leb _ _ l)
+    pub refusal-col : k .row < rowCount t → rowLen t (k .row) < k .col → refusalAt t k ≡ 4
+    unfolding lowest positionRefusal
+    refusal-col h l = rw (e, lt-ltb _ _ h, lt-leb _ _ l)
 
-    pub entry-in : k .row < rowCount t → k .col ≤ rowLen t (k .row) → (s : ℕ) → s ≡ rowStart t (k .row) → record { refusal = 0; start = s } ≡ entryOf t k
-    unfolding entryOf lowest positionRefusal
-    entry-in h l s d = rw (e, lt-ltb _ _ h, le-leb _ _ l) (λ i. record { refusal = 0; start = d i })
+    pub refusal-none : k .row < rowCount t → k .col ≤ rowLen t (k .row) → refusalAt t k ≡ 0
+    unfolding lowest positionRefusal
+    refusal-none h l = rw (e, lt-ltb _ _ h, le-leb _ _ l)
+
+-- an answer of the checks, by the refusal f of the call
+module _ (t : List ℕ) (k : Position) (f : ℕ) (e : Entry) where
+  pub by-refused : (g : ℕ) → e ≡ refusedBy g → f ≡ g → (g ≡ 0 → ⊥) → e ≡ entryBy f t k
+  unfolding entryBy
+  by-refused g is q n = rw (q, ne-eqb g 0 n) is
+
+  pub by-none : e ≡ foundAt t k → f ≡ 0 → e ≡ entryBy f t k
+  unfolding entryBy
+  by-none is z = rw (eq-eqb f 0 z) is
+
+  module _ (is : e ≡ entryBy f t k) where
+    pub by-number : e .refusal ≡ f
+    unfolding entryBy
+    by-number = go (eqb f 0) refl is
+      where
+        go : (b : Bool) → eqb f 0 ≡ b → e ≡ cond b (foundAt t k) (refusedBy f) → e .refusal ≡ f
+        go true p q = ap (λ (x : Entry). x .refusal) q ∙ sym (eqb-true f 0 p)
+        go false p q = ap (λ (x : Entry). x .refusal) q
+
+    pub by-entered : e .refusal ≡ 0 → refusalAt t k ≡ 0 → Accepted t k e
+    unfolding entryBy
+    by-entered z none =
+        let found : e ≡ foundAt t k = is ∙ rw (eq-eqb f 0 (sym by-number ∙ z)) in
+        rw found (accepted t k none)
 
 -- what a motion goes by, once it has called `enter`
 module _ (t : List ℕ) (k : Position) (e : Entry) (is : e ≡ entryOf t k) where
   pub entry-number : e .refusal ≡ refusalAt t k
-  unfolding entryOf
-  entry-number = ap (λ (x : Entry). x .refusal) is
+  entry-number = by-number t k (refusalAt t k) e is
 
   pub entry-clear : e .refusal ≡ 0 → textRefusal t ≡ 0
   entry-clear z = lowest-none (textRefusal t) (positionRefusal t k ∷ []) (sym entry-number ∙ z) .0
 
-  pub entered : e .refusal ≡ 0 → Accepted t k (e .start)
-  unfolding entryOf
-  entered z =
-      let none : refusalAt t k ≡ 0 = sym (ap (λ (x : Entry). x .refusal) is) ∙ z in
-      let s : e .start ≡ rowStart t (k .row) = ap (λ (x : Entry). x .start) is ∙ rw (eq-eqb (refusalAt t k) 0 none) in
-      rw s (accepted t k none)
+  pub entered : e .refusal ≡ 0 → Accepted t k e
+  entered z = by-entered t k (refusalAt t k) e is z (sym entry-number ∙ z)
 
   -- the answers of `enter_with`, which calls it
   module _ (x : ℕ) where
     pub with-long : e .refusal ≡ 1 → e ≡ entryWith t k x
-    unfolding entryOf entryWith orSought
+    unfolding orSought
     with-long z =
         let one : refusalAt t k ≡ 1 = sym entry-number ∙ z in
-        is ∙ rw one
+        is ∙ ap (λ (f : ℕ). entryBy f t k) (rw one)
 
     module _ (n : e .refusal ≡ 1 → ⊥) where
-      pub with-char : isScalar x ≡ false → record { refusal = 2; start = 0 } ≡ entryWith t k x
-      unfolding entryWith orSought
-      with-char s = rw (ne-eqb (refusalAt t k) 1 (λ o. n (entry-number ∙ o)), s)
+      pub sought-wrong : isScalar x ≡ false → refusalWith t k x ≡ 2
+      unfolding orSought
+      sought-wrong s = rw (ne-eqb (refusalAt t k) 1 (λ o. n (entry-number ∙ o)), s)
 
       pub with-rest : isScalar x ≡ true → e ≡ entryWith t k x
-      unfolding entryOf entryWith orSought
-      with-rest s = is ∙ rw (ne-eqb (refusalAt t k) 1 (λ o. n (entry-number ∙ o)), s)
+      unfolding orSought
+      with-rest s = is ∙ ap (λ (f : ℕ). entryBy f t k) (rw (ne-eqb (refusalAt t k) 1 (λ o. n (entry-number ∙ o)), s))
 
   -- the answers of `enter_folds`
   module _ (folds : List ℕ) where
@@ -104,21 +126,15 @@ module _ (t : List ℕ) (k : Position) (e : Entry) (is : e ≡ entryOf t k) wher
     two = textRefusal t ∷ positionRefusal t k ∷ []
 
     pub folds-first : (e .refusal ≡ 0 → ⊥) → e ≡ entryFolds t folds k
-    unfolding entryOf entryFolds two
-    folds-first n = is ∙ rw (lowest-kept two (foldRefusal folds (rowCount t)) (λ z. n (entry-number ∙ z)))
+    unfolding two
+    folds-first n =
+        is ∙ ap (λ (f : ℕ). entryBy f t k) (sym (lowest-kept two (foldRefusal folds (rowCount t)) (λ z. n (entry-number ∙ z))))
 
-    module _ (z : e .refusal ≡ 0) {rows f : ℕ} (count : rows ≡ rowCount t) (told : f ≡ foldRefusal folds rows) where
-      third : refusalFolds t folds k ≡ f
+    module _ (z : e .refusal ≡ 0) {f : ℕ} (told : f ≡ foldRefusal folds (e .rows)) where
+      pub folds-last : refusalFolds t folds k ≡ f
       unfolding two
-      third = lowest-last two (foldRefusal folds (rowCount t)) (sym entry-number ∙ z) ∙ sym (told ∙ ap (foldRefusal folds) count)
-
-      pub folds-wrong : (f ≡ 0 → ⊥) → record { refusal = f; start = 0 } ≡ entryFolds t folds k
-      unfolding entryFolds
-      folds-wrong n = rw (third, ne-eqb f 0 n)
+      folds-last =
+          lowest-last two (foldRefusal folds (rowCount t)) (sym entry-number ∙ z) ∙ sym (told ∙ ap (foldRefusal folds) (entered z .all-rows))
 
       pub folds-right : f ≡ 0 → e ≡ entryFolds t folds k
-      unfolding entryOf entryFolds
-      folds-right w =
-          let none : refusalFolds t folds k ≡ 0 = third ∙ w in
-          let first : refusalAt t k ≡ 0 = sym entry-number ∙ z in
-          is ∙ rw (first, none)
+      folds-right w = is ∙ ap (λ (g : ℕ). entryBy g t k) (sym entry-number ∙ z ∙ sym (folds-last ∙ w))

@@ -1,22 +1,21 @@
 -- What a call goes by once its checks with a character sought, or with folds, have not refused it. Assumes nothing.
-use mathlib.Core.Path.{_≡_, ap, sym, _∙_}
+use mathlib.Core.Path.{_≡_, sym, _∙_}
 use mathlib.Core.List.{List, [], _∷_}
 use mathlib.Core.Bool.{Bool, true, false, cond}
-use Prim.Native.Nat.{ℕ}
+use Prim.Native.Nat.{ℕ, _+_, _≤_, _<_}
 use native.Mathlib.Omega.{arith}
 use lib.Dec.{eqb}
-use borrow.Author.Tests.{eq-eqb}
 use Rattle.chars.specs.Scalar.{isScalar}
 use Rattle.accept.specs.Accept.{textRefusal}
 use Rattle.text.specs.Text.{rowCount}
-use Rattle.text.specs.Offsets.{rowStart}
+use Rattle.text.proofs.Content.{content-near}
 use Rattle.folds.specs.Folds.{foldRefusal}
 use Rattle.positions.specs.declared.Position.{Position}
 use Rattle.positions.specs.declared.Entry.{Entry}
 use Rattle.positions.specs.Positions.{positionRefusal, lowest, refusalAt, orSought, refusalWith, entryWith, refusalFolds, entryFolds}
 use Rattle.positions.specs.Positions.{Accepted}
 use Rattle.positions.proofs.Lowest.{lowest-none, both}
-use Rattle.positions.proofs.Checks.{accepted}
+use Rattle.positions.proofs.Checks.{by-number, by-entered}
 
 -- with the character sought, none refuses only where none does without it
 pub sought-none : (f : ℕ) (b : Bool) → orSought f b ≡ 0 → f ≡ 0
@@ -31,21 +30,15 @@ sought-none f b z = go (eqb f 1) b z
 -- what a search goes by, once it has called `enter_with`
 module _ (t : List ℕ) (k : Position) (x : ℕ) (e : Entry) (is : e ≡ entryWith t k x) where
   pub with-number : e .refusal ≡ refusalWith t k x
-  unfolding entryWith
-  with-number = ap (λ (y : Entry). y .refusal) is
+  with-number = by-number t k (refusalWith t k x) e is
 
-  pub with-entered : e .refusal ≡ 0 → Accepted t k (e .start)
-  unfolding entryWith
-  with-entered z =
-      let none : refusalWith t k x ≡ 0 = sym with-number ∙ z in
-      let s : e .start ≡ rowStart t (k .row) = ap (λ (y : Entry). y .start) is ∙ rw (eq-eqb (refusalWith t k x) 0 none) in
-      rw s (accepted t k (sought-none (refusalAt t k) (isScalar x) none))
+  pub with-entered : e .refusal ≡ 0 → Accepted t k e
+  with-entered z = by-entered t k (refusalWith t k x) e is z (sought-none (refusalAt t k) (isScalar x) (sym with-number ∙ z))
 
 -- what a motion goes by, once it has called `enter_folds`
 module _ (t folds : List ℕ) (k : Position) (e : Entry) (is : e ≡ entryFolds t folds k) where
   pub folds-number : e .refusal ≡ refusalFolds t folds k
-  unfolding entryFolds
-  folds-number = ap (λ (y : Entry). y .refusal) is
+  folds-number = by-number t k (refusalFolds t folds k) e is
 
   module _ (z : e .refusal ≡ 0) where
     none : refusalFolds t folds k ≡ 0
@@ -60,8 +53,11 @@ module _ (t folds : List ℕ) (k : Position) (e : Entry) (is : e ≡ entryFolds 
     pub folds-good : foldRefusal folds (rowCount t) ≡ 0
     folds-good = lowest-none _ [] (lowest-none (positionRefusal t k) _ after-text .1) .0
 
-    pub folds-entered : Accepted t k (e .start)
-    unfolding entryFolds
+    pub folds-entered : Accepted t k e
     folds-entered =
-        let s : e .start ≡ rowStart t (k .row) = ap (λ (y : Entry). y .start) is ∙ rw (eq-eqb (refusalFolds t folds k) 0 none) in
-        rw s (accepted t k (both (textRefusal t) (positionRefusal t k) folds-clear (lowest-none (positionRefusal t k) _ after-text .0)))
+        by-entered t k (refusalFolds t folds k) e is z
+        (both (textRefusal t) (positionRefusal t k) folds-clear (lowest-none (positionRefusal t k) _ after-text .0))
+
+-- the rows with content are all rows, or all but the last
+pub accepted-rows : {t : List ℕ} {k : Position} {e : Entry} → Accepted t k e → (0 < e .content) × (e .content ≤ e .rows) × (e .rows ≤ e .content + 1)
+accepted-rows {t} a = omega (arith, content-near t, a .all-rows, a .content-rows)

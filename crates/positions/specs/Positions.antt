@@ -1,13 +1,14 @@
 -- Positions: when a text and a position in it are refused, and what is known where they are not.
 -- From document 01, "Text, rows, carets" and "Refusal numbers". Definitions only; the laws are in `proofs/Checks.antt`. Assumes nothing.
 use Prim.Native.Nat.{ℕ, _+_, _≤_, _<_}
+use mathlib.Core.Path.{_≡_}
 use mathlib.Core.List.{List, [], _∷_}
 use mathlib.Core.Bool.{Bool, cond, _&&_}
 use lib.ListN.{length}
 use lib.Dec.{eqb, ltb, leb}
 use Rattle.chars.specs.Scalar.{isScalar}
 use Rattle.accept.specs.Accept.{textRefusal}
-use Rattle.text.specs.Text.{rowCount, rowLen}
+use Rattle.text.specs.Text.{rowCount, rowLen, contentRows}
 use Rattle.text.specs.Offsets.{rowStart, Stands}
 use Rattle.folds.specs.Folds.{foldRefusal}
 use Rattle.positions.specs.declared.Position.{Position}
@@ -35,9 +36,18 @@ lowest (f ∷ rest) = cond (eqb f 0) (lowest rest) f
 abbrev pub refusalAt : List ℕ → Position → ℕ
 refusalAt t p = lowest (textRefusal t ∷ positionRefusal t p ∷ [])
 
--- what the checks of a call find out: its refusal, and where the position's row starts
-unfoldable pub entryOf : List ℕ → Position → Entry
-entryOf t p = record { refusal = refusalAt t p; start = cond (eqb (refusalAt t p) 0) (rowStart t (p .row)) 0 }
+-- what the checks of a call with refusal f find out: that, or where the position's row starts and how many rows there are
+abbrev pub refusedBy : ℕ → Entry
+refusedBy f = record { refusal = f; start = 0; rows = 0; content = 0 }
+
+abbrev pub foundAt : List ℕ → Position → Entry
+foundAt t p = record { refusal = 0; start = rowStart t (p .row); rows = rowCount t; content = contentRows t }
+
+unfoldable pub entryBy : ℕ → List ℕ → Position → Entry
+entryBy f t p = cond (eqb f 0) (foundAt t p) (refusedBy f)
+
+abbrev pub entryOf : List ℕ → Position → Entry
+entryOf t p = entryBy (refusalAt t p) t p
 
 -- a call's refusal f with the character sought: that is refused with 2, after a text that is too long and before all else
 unfoldable pub orSought : ℕ → Bool → ℕ
@@ -46,22 +56,24 @@ orSought f scalar = cond (eqb f 1) 1 (cond scalar f 2)
 abbrev pub refusalWith : List ℕ → Position → ℕ → ℕ
 refusalWith t p x = orSought (refusalAt t p) (isScalar x)
 
-unfoldable pub entryWith : List ℕ → Position → ℕ → Entry
-entryWith t p x = record { refusal = refusalWith t p x; start = cond (eqb (refusalWith t p x) 0) (rowStart t (p .row)) 0 }
+abbrev pub entryWith : List ℕ → Position → ℕ → Entry
+entryWith t p x = entryBy (refusalWith t p x) t p
 
 -- with folds: text, position, folds
 abbrev pub refusalFolds : List ℕ → List ℕ → Position → ℕ
 refusalFolds t folds p = lowest (textRefusal t ∷ positionRefusal t p ∷ foldRefusal folds (rowCount t) ∷ [])
 
-unfoldable pub entryFolds : List ℕ → List ℕ → Position → Entry
-entryFolds t folds p = record { refusal = refusalFolds t folds p; start = cond (eqb (refusalFolds t folds p) 0) (rowStart t (p .row)) 0 }
+abbrev pub entryFolds : List ℕ → List ℕ → Position → Entry
+entryFolds t folds p = entryBy (refusalFolds t folds p) t p
 
--- a text and a position that no check refuses
-pub record Accepted (t : List ℕ) (p : Position) (start : ℕ) : Type 0 where
+-- a text and a position that no check refuses, and what the checks have found out of them
+pub record Accepted (t : List ℕ) (p : Position) (e : Entry) : Type 0 where
   pub brief : length t ≤ 1048576
-  pub here : Stands t (p .row) start (start + p .col)
-  pub line : Stands t (p .row) start start
+  pub here : Stands t (p .row) (e .start) (e .start + p .col)
+  pub line : Stands t (p .row) (e .start) (e .start)
   pub room : rowLen t (p .row) ≤ 1048576
+  pub all-rows : e .rows ≡ rowCount t
+  pub content-rows : e .content ≡ contentRows t
 
 -- a position in the text, as a statement
 pub record Inside (t : List ℕ) (p : Position) : Type 0 where

@@ -1,7 +1,7 @@
 // Positions of a text: the checks of one, which every motion begins with.
 // From document 01, "Text, rows, carets" and "Refusal numbers".
 ghost use mathlib.Core.Path.{_≡_};
-ghost use Rattle.positions.specs.Positions.{entryOf, entryWith, entryFolds};
+ghost use Rattle.positions.specs.Positions.{refusedBy, entryOf, entryWith, entryFolds};
 
 // A row, and a column in it, which may be the row's character count.
 pub struct Position {
@@ -9,40 +9,50 @@ pub struct Position {
     pub col: usize,
 }
 
-// What the checks of a call find out: its refusal, and where the position's row starts.
+// What the checks of a call find out: its refusal, where the position's row starts, and how many rows
+// the text has and how many have content. The numbers are 0 beside a refusal.
 pub struct Entry {
     pub refusal: u32,
     pub start: usize,
+    pub rows: usize,
+    pub content: usize,
 }
 
-// The checks that every motion begins with: the text (1, 2, 3), then the position (4).
+// A refusal, beside which nothing is known.
+fn refused(f: u32) -> Entry
+    ensures { λ r. ⌜ r ≡ refusedBy f ⌝ }
+{
+    Entry {
+        refusal: f,
+        start: 0,
+        rows: 0,
+        content: 0,
+    }
+}
+
+// The checks that every motion begins with: the text (1, 2, 3), then the position (4). The rows are
+// counted and the position's row is found here, once for the call.
 pub fn enter(t: &[u32], p: Position) -> Entry
     ensures { λ r. ⌜ r ≡ entryOf (now (t .entry)) p ⌝ }
 {
     let f = accept::text_refusal(t);
     if f != 0 {
-        return Entry {
-            refusal: f,
-            start: 0,
-        };
+        return refused(f);
     }
-    let l = text::offsets::line_at(t, p.row);
-    if l.row != p.row {
-        return Entry {
-            refusal: 4,
-            start: 0,
-        };
+    let rows = text::row_count(t);
+    if p.row >= rows {
+        return refused(4);
     }
+    let l = text::offsets::row_line(t, rows, p.row);
     let n = text::offsets::row_len(t, l);
     if p.col > n {
-        return Entry {
-            refusal: 4,
-            start: 0,
-        };
+        return refused(4);
     }
     Entry {
         refusal: 0,
         start: l.start,
+        rows: rows,
+        content: text::content_of(t, rows),
     }
 }
 
@@ -55,10 +65,7 @@ pub fn enter_with(t: &[u32], p: Position, x: u32) -> Entry
         return e;
     }
     if !chars::is_scalar(x) {
-        return Entry {
-            refusal: 2,
-            start: 0,
-        };
+        return refused(2);
     }
     e
 }
@@ -71,12 +78,9 @@ pub fn enter_folds(t: &[u32], folds: &[u32], p: Position) -> Entry
     if e.refusal != 0 {
         return e;
     }
-    let wrong = folds::fold_refusal(folds, text::row_count(t));
+    let wrong = folds::fold_refusal(folds, e.rows);
     if wrong != 0 {
-        return Entry {
-            refusal: wrong,
-            start: 0,
-        };
+        return refused(wrong);
     }
     e
 }

@@ -11,11 +11,12 @@ use borrow.Author.Tests.{ltb-true}
 use Rattle.text.specs.Text.{rowCount, rowLen}
 use Rattle.text.proofs.Parts.{count-le, row-fits}
 use Rattle.positions.specs.declared.Position.{Position}
+use Rattle.positions.specs.declared.Entry.{Entry}
 use Rattle.positions.specs.Positions.{position, Accepted, Inside}
 use Rattle.steps.specs.Steps.{rounds, spaceFwd, backspaceBack}
 
 -- an accepted position, and the numbers of any in its text
-pub accepted-in : {t : List ℕ} {p : Position} {start : ℕ} → Accepted t p start → Inside t p
+pub accepted-in : {t : List ℕ} {p : Position} {e : Entry} → Accepted t p e → Inside t p
 accepted-in h = record { in-row = h .here .in-row; in-col = omega (arith, h .here .in-col) }
 
 pub inside-fits : {t : List ℕ} {p : Position} → length t ≤ 1048576 → Inside t p → (p .row < 2 ^ 32) × (p .col < 2 ^ 32)

@@ -42,11 +42,12 @@ module _ {f : Position → Position} {p : Position} {n : ℕ} {t : List ℕ} {ro
   pub going-stop : f (position row (at - start)) ≡ position row (at - start) → position row (at - start) ≡ rounds f n p
   going-stop e = sym (g .same ∙ rounds-still f left _ e)
 
--- a walk that began at offset start + p .col began at p
-pub going-from : (f : Position → Position) (n : ℕ) (p : Position) (start : ℕ) → rounds f n (position (p .row) (start + p .col - start)) ≡ rounds f n p
-going-from f n p start =
-    let own : start + p .col - start ≡ p .col = omega arith in
-    ap (λ (c : ℕ). rounds f n (position (p .row) c)) own
+-- a walk that began at column p .col of its row, which begins at `start`, began at p
+pub going-from : (f : Position → Position) (n : ℕ) (p : Position) (start own : ℕ) → start ≡ own →
+    rounds f n (position (p .row) (start + p .col - own)) ≡ rounds f n p
+going-from f n p start own e =
+    let col : start + p .col - own ≡ p .col = omega arith in
+    ap (λ (c : ℕ). rounds f n (position (p .row) c)) col
 
 -- the row that `up` finds where it goes up no row
 pub up-start : (t : List ℕ) (l : Line) (row : ℕ) → l ≡ lineAt t (row - 0) → l .start ≡ rowStart t row

@@ -1,18 +1,19 @@
 // One character on or back, from row to row. The walks go on offsets, a step for each round, and
 // stop where the text does, whatever the count.
+use positions::Entry;
 use positions::Position;
 use text::most;
 ghost use mathlib.Core.Path.{_≡_};
 ghost use Rattle.positions.specs.Positions.{Accepted};
 ghost use Rattle.steps.specs.Steps.{times, rounds, spaceFwd, backspaceBack};
 
-pub fn space_fwd(t: &[u32], p: Position, begin: usize, count: u32) -> Position
-    requires { ⌜ Accepted (now t) p begin ⌝ }
+pub fn space_fwd(t: &[u32], p: Position, e: Entry, count: u32) -> Position
+    requires { ⌜ Accepted (now t) p e ⌝ }
     ensures { λ r. ⌜ r ≡ rounds (spaceFwd (now (t .entry))) (times count) p ⌝ }
 {
     let mut row = p.row;
-    let mut start = begin;
-    let mut at = begin + p.col;
+    let mut start = e.start;
+    let mut at = e.start + p.col;
     let mut left = most(count as usize, 1);
     while left > 0 {
         if at >= t.len() {
@@ -51,12 +52,12 @@ pub fn space_fwd(t: &[u32], p: Position, begin: usize, count: u32) -> Position
     }
 }
 
-pub fn backspace_back(t: &[u32], p: Position, start: usize, count: u32) -> Position
-    requires { ⌜ Accepted (now t) p start ⌝ }
+pub fn backspace_back(t: &[u32], p: Position, e: Entry, count: u32) -> Position
+    requires { ⌜ Accepted (now t) p e ⌝ }
     ensures { λ r. ⌜ r ≡ rounds (backspaceBack (now (t .entry))) (times count) p ⌝ }
 {
     let mut row = p.row;
-    let mut at = start + p.col;
+    let mut at = e.start + p.col;
     let mut left = most(count as usize, 1);
     while left > 0 {
         if at == 0 {

@@ -1,20 +1,18 @@
 -- The rows with content, by offsets: the next row is one exactly if it starts before the end of the text.
 -- Assumes nothing.
-use mathlib.Core.Path.{_≡_, refl, ap, sym, _∙_}
+use mathlib.Core.Path.{_≡_, refl, ap, sym}
 use mathlib.Core.List.{List}
 use mathlib.Core.Bool.{Bool, true, false, cond, _&&_, and-false}
-use Prim.Native.Nat.{ℕ, _+_, _-_, _≤_, _<_, min}
+use Prim.Native.Nat.{ℕ, _+_, _-_, _≤_, _<_}
 use native.Mathlib.Decide.{decLt, ℕ-discrete}
 use native.Mathlib.Omega.{arith}
 use lib.Dec.{eqb, ltb}
 use lib.ListN.{length, getD}
 use borrow.Author.Tests.{eq-eqb, ne-eqb, lt-ltb, le-ltb, ltb-true}
 use Rattle.text.specs.Text.{rowCount, rowLen, contentRows}
-use Rattle.text.specs.Offsets.{rowStart, IsLine, lineAt}
-use Rattle.text.specs.declared.Line.{Line}
+use Rattle.text.specs.Offsets.{rowStart}
 use Rattle.text.proofs.Rows.{rows-pos}
 use Rattle.text.proofs.At.{at-start, on-char, after-nl, on-end, on-last}
-use Rattle.text.proofs.Stands.{line-there}
 use Rattle.text.proofs.Before.{at-last, on-first, behind-nl, behind-char}
 
 module _ (t : List ℕ) where
@@ -69,33 +67,3 @@ module _ (t : List ℕ) (r : ℕ) (p : 0 < r) (h : r < rowCount t) where
   content-no l =
       let q : rowCount t - 1 ≡ r = omega (arith, on-last (at-start t r h) l) in
       omega (arith, content-less t (rw q (sym (on-end (at-start t r h) l))) (omega arith))
-
--- the last row with content in place of the last row
-module _ (t : List ℕ) (l : Line) (r : ℕ) (e : l ≡ lineAt t (min r (rowCount t - 1))) where
-  same : l .row ≡ min r (rowCount t - 1)
-  same = ap (λ (x : Line). x .row) e
-
-  starts : l .start ≡ rowStart t (min r (rowCount t - 1))
-  starts = ap (λ (x : Line). x .start) e
-
-  in-rows : min r (rowCount t - 1) < rowCount t
-  in-rows = omega (arith, rows-pos t)
-
-  pub clamp-first : l .row ≡ 0 → l ≡ lineAt t (min r (contentRows t - 1))
-  clamp-first z = e ∙ ap (lineAt t) (omega (arith, same, content-near t, rows-pos t))
-
-  pub clamp-within : (l .row ≡ 0 → ⊥) → l .start < length t → l ≡ lineAt t (min r (contentRows t - 1))
-  clamp-within p h =
-      e ∙ ap (lineAt t) (omega (arith, content-yes t (min r (rowCount t - 1)) (omega (arith, same)) in-rows (omega (arith, starts)), content-near t))
-
-  pub clamp-past : (l .row ≡ 0 → ⊥) → length t ≤ l .start → l .row - 1 ≡ min r (contentRows t - 1)
-  clamp-past p h =
-      omega (arith, same, content-no t (min r (rowCount t - 1)) (omega (arith, same)) in-rows (omega (arith, starts)), content-near t)
-
--- a row that is looked for up to the last row with content
-module _ (t : List ℕ) (l : Line) (r : ℕ) (e : l ≡ lineAt t (min r (contentRows t - 1))) where
-  pub content-row : l .row ≡ min r (contentRows t - 1)
-  content-row = ap (λ (x : Line). x .row) e
-
-  pub content-there : IsLine t l
-  content-there = line-there t l (min r (contentRows t - 1)) e (omega (arith, content-near t))

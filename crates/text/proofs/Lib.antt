@@ -4,5 +4,6 @@ pub mod Parts
 pub mod At
 pub mod Before
 pub mod Stands
+pub mod Stretches
 pub mod Content
 pub mod Examples

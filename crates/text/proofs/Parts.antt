@@ -15,10 +15,10 @@ use Rattle.text.proofs.Rows.{rows-nl, rows-on, rows-nil, rows-pos, on-l
 
 -- how many rows there are behind one code point
 module _ (x : ℕ) (u : List ℕ) where
-  count-cons-nl : x ≡ 10 → rowCount (x ∷ u) ≡ suc (rowCount u)
+  pub count-cons-nl : x ≡ 10 → rowCount (x ∷ u) ≡ suc (rowCount u)
   count-cons-nl e = ap length (rows-nl x u e)
 
-  count-cons-on : (x ≡ 10 → ⊥) → rowCount (x ∷ u) ≡ rowCount u
+  pub count-cons-on : (x ≡ 10 → ⊥) → rowCount (x ∷ u) ≡ rowCount u
   count-cons-on n = ap length (rows-on x u n) ∙ on-length x (rows u) (rows-pos u)
 
 -- the text from the start of row r on has the rows from r on, and that start lies within the text

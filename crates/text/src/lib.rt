@@ -1,7 +1,8 @@
 // What a text is: its rows, and the rows with content. From document 01, "Text, rows, carets", and
 // `content_row_count` of motions.rs.
 ghost use mathlib.Core.Path.{_≡_};
-ghost use Prim.Native.Nat.{_-_, _<_, min, max};
+ghost use Prim.Native.Nat.{_+_, _-_, _≤_, min, max};
+ghost use lib.ListN.{length};
 ghost use Rattle.text.specs.Text.{rowCount, contentRows, contentRowCount};
 
 pub mod offsets;
@@ -18,14 +19,15 @@ pub enum Counted {
     Refused(u32),
 }
 
-// How many rows a text has: one more than its separators.
-pub fn row_count(t: &[u32]) -> usize
-    ensures { λ r. ⌜ r ≡ rowCount (now (t .entry)) ⌝ }
+// How many separators a part of a text has. The arms are alike but for the sum, so that the compiler
+// reads many code points at a time.
+pub fn separators(part: &[u32]) -> usize
+    ensures { λ r. ⌜ (r + 1 ≡ rowCount (now (part .entry))) × (r ≤ length (now (part .entry))) ⌝ }
 {
-    let mut n: usize = 1;
+    let mut n: usize = 0;
     let mut i: usize = 0;
-    while i < t.len() {
-        if t[i] == 10 {
+    while i < part.len() {
+        if part[i] == 10 {
             n += 1;
             i += 1;
         } else {
@@ -35,17 +37,31 @@ pub fn row_count(t: &[u32]) -> usize
     n
 }
 
-// How many rows have content: all but an empty last row that isn't row 0.
+// How many rows a text has: one more than its separators.
+pub fn row_count(t: &[u32]) -> usize
+    ensures { λ r. ⌜ r ≡ rowCount (now (t .entry)) ⌝ }
+{
+    separators(t) + 1
+}
+
+// How many rows have content, in a text of so many rows: all but an empty last row that isn't row 0.
+pub fn content_of(t: &[u32], rows: usize) -> usize
+    requires { ⌜ rows ≡ rowCount (now t) ⌝ }
+    ensures { λ r. ⌜ r ≡ contentRows (now (t .entry)) ⌝ }
+{
+    let len = t.len();
+    if len == 0 {
+        return rows;
+    }
+    let last = len - 1;
+    if t[last] == 10 { rows - 1 } else { rows }
+}
+
+// The same, with the rows counted first.
 pub fn content_rows(t: &[u32]) -> usize
     ensures { λ r. ⌜ r ≡ contentRows (now (t .entry)) ⌝ }
 {
-    let n = row_count(t);
-    let len = t.len();
-    if len == 0 {
-        return n;
-    }
-    let last = len - 1;
-    if t[last] == 10 { n - 1 } else { n }
+    content_of(t, row_count(t))
 }
 
 // `content_row_count` of the Rust, with the refusals of a text.

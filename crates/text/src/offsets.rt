@@ -2,55 +2,75 @@
 // where an offset stands.
 // From document 01, "Text, rows, carets"; the Rust asks its rope for these.
 use crate::Line;
+use crate::content_of;
+use crate::least;
+use crate::row_count;
+use crate::separators;
 ghost use mathlib.Core.Path.{_≡_};
 ghost use Prim.Native.Nat.{_+_, _-_, _≤_, _<_, min};
 ghost use lib.ListN.{length};
 ghost use Rattle.text.specs.Text.{rowCount, rowAt, rowLen, contentRows};
 ghost use Rattle.text.specs.Offsets.{rowStart, Stands, IsLine, lineAt, endFrom, rowOf};
 
-// The row n rows below `from`, or the last row where there are fewer.
-pub fn down(t: &[u32], from: Line, n: usize) -> Line
-    requires { ⌜ IsLine (now t) from ⌝ }
-    ensures { λ r. ⌜ r ≡ lineAt (now (t .entry)) (min (from .row + n)
-        (rowCount (now (t .entry)) - 1)) ⌝ }
+// How many code points are passed over at a time where their separators alone count.
+const STRETCH: usize = 256;
+
+// Row `to`, which lies below row `row`: a walk from the offset `at` of that one.
+fn walk_down(t: &[u32], row: usize, at: usize, to: usize) -> Line
+    requires { ⌜ Stands (now t) row (rowStart (now t) row) at × (row < to) × (to < rowCount (now t))
+        ⌝ }
+    ensures { λ r. ⌜ r ≡ lineAt (now (t .entry)) to ⌝ }
 {
-    let mut row = from.row;
-    let mut start = from.start;
-    let mut left = n;
-    let mut i = from.start;
+    let mut r = row;
+    let mut i = at;
     while i < t.len() {
-        if left == 0 {
-            return Line {
-                row: row,
-                start: start,
-            };
-        }
         if t[i] == 10 {
             i += 1;
-            row += 1;
-            start = i;
-            left -= 1;
+            r += 1;
+            if r == to {
+                return Line { row: r, start: i };
+            }
         } else {
             i += 1;
         }
     }
-    Line {
-        row: row,
-        start: start,
-    }
+    Line { row: r, start: i }
 }
 
-// Row `row` of the text, or the last row where there are fewer.
-pub fn line_at(t: &[u32], row: usize) -> Line
-    ensures { λ r. ⌜ r ≡ lineAt (now (t .entry)) (min row (rowCount (now (t .entry)) - 1)) ⌝ }
+// The same. Stretches that end before that row are counted and not walked.
+fn below(t: &[u32], row: usize, at: usize, to: usize) -> Line
+    requires { ⌜ Stands (now t) row (rowStart (now t) row) at × (row < to) × (to < rowCount (now t))
+        ⌝ }
+    ensures { λ r. ⌜ r ≡ lineAt (now (t .entry)) to ⌝ }
 {
-    let first = Line { row: 0, start: 0 };
-    down(t, first, row)
+    let mut r = row;
+    let mut i = at;
+    while t.len() - i >= STRETCH {
+        let end = i + STRETCH;
+        let s = separators(&t[i..end]);
+        if r + s >= to {
+            return walk_down(t, r, i, to);
+        }
+        r += s;
+        i = end;
+    }
+    walk_down(t, r, i, to)
 }
 
-// The row n rows above row `row`, which has the offset `at`, or row 0 where there are fewer.
-// With n = 0 the row itself, found from any of its offsets.
-pub fn up(t: &[u32], row: usize, at: usize, n: usize) -> Line
+// The row n rows below `from`.
+pub fn down(t: &[u32], from: Line, n: usize) -> Line
+    requires { ⌜ IsLine (now t) from × (from .row + n < rowCount (now t)) ⌝ }
+    ensures { λ r. ⌜ r ≡ lineAt (now (t .entry)) (from .row + n) ⌝ }
+{
+    if n == 0 {
+        return from;
+    }
+    below(t, from.row, from.start, from.row + n)
+}
+
+// The row n rows above row `row`, or row 0 where there are fewer: a walk back from the offset `at` of
+// that one.
+fn walk_up(t: &[u32], row: usize, at: usize, n: usize) -> Line
     requires { ⌜ Stands (now t) row (rowStart (now t) row) at ⌝ }
     ensures { λ r. ⌜ r ≡ lineAt (now (t .entry)) (row - n) ⌝ }
 {
@@ -73,8 +93,89 @@ pub fn up(t: &[u32], row: usize, at: usize, n: usize) -> Line
     Line { row: 0, start: 0 }
 }
 
+// The row n rows above row `row`, which has the offset `at`, or row 0 where there are fewer.
+// With n = 0 the row itself, found from any of its offsets. Stretches behind it are counted and not
+// walked.
+pub fn up(t: &[u32], row: usize, at: usize, n: usize) -> Line
+    requires { ⌜ Stands (now t) row (rowStart (now t) row) at ⌝ }
+    ensures { λ r. ⌜ r ≡ lineAt (now (t .entry)) (row - n) ⌝ }
+{
+    let mut r = row;
+    let mut left = n;
+    let mut i = at;
+    while i >= STRETCH {
+        let b = i - STRETCH;
+        let s = separators(&t[b..i]);
+        if s > left {
+            return walk_up(t, r, i, left);
+        }
+        r -= s;
+        left -= s;
+        i = b;
+    }
+    walk_up(t, r, i, left)
+}
+
+// The row below a row, and the row above it: what walks from row to row go by. They read that row
+// alone, however short it is.
+pub fn next_line(t: &[u32], l: Line) -> Line
+    requires { ⌜ IsLine (now t) l × (l .row + 1 < rowCount (now t)) ⌝ }
+    ensures { λ r. ⌜ r ≡ lineAt (now (t .entry)) (l .row + 1) ⌝ }
+{
+    let row = l.row;
+    let end = row_end(t, l.start);
+    Line {
+        row: row + 1,
+        start: end + 1,
+    }
+}
+
+pub fn prev_line(t: &[u32], l: Line) -> Line
+    requires { ⌜ IsLine (now t) l ⌝ }
+    ensures { λ r. ⌜ r ≡ lineAt (now (t .entry)) (l .row - 1) ⌝ }
+{
+    walk_up(t, l.row, l.start, 1)
+}
+
+// Row `to` of a text of so many rows, sought from `from` or from the nearer end of the text: from
+// whichever has fewer rows between.
+pub fn line_from(t: &[u32], rows: usize, from: Line, to: usize) -> Line
+    requires { ⌜ IsLine (now t) from × (rows ≡ rowCount (now t)) × (to < rows) ⌝ }
+    ensures { λ r. ⌜ r ≡ lineAt (now (t .entry)) to ⌝ }
+{
+    let last = rows - 1;
+    if from.row <= to {
+        if to - from.row <= last - to {
+            return down(t, from, to - from.row);
+        }
+        return up(t, last, t.len(), last - to);
+    }
+    if from.row - to <= to {
+        return up(t, from.row, from.start, from.row - to);
+    }
+    let first = Line { row: 0, start: 0 };
+    down(t, first, to)
+}
+
+// Row `row` of a text of so many rows, sought from the nearer end.
+pub fn row_line(t: &[u32], rows: usize, row: usize) -> Line
+    requires { ⌜ (rows ≡ rowCount (now t)) × (row < rows) ⌝ }
+    ensures { λ r. ⌜ r ≡ lineAt (now (t .entry)) row ⌝ }
+{
+    let first = Line { row: 0, start: 0 };
+    line_from(t, rows, first, row)
+}
+
+// Row `row` of the text, or the last row where there are fewer.
+pub fn line_at(t: &[u32], row: usize) -> Line
+    ensures { λ r. ⌜ r ≡ lineAt (now (t .entry)) (min row (rowCount (now (t .entry)) - 1)) ⌝ }
+{
+    let rows = row_count(t);
+    row_line(t, rows, least(row, rows - 1))
+}
+
 // Row `to` of the text, sought from row `row`, which has the offset `at`: only what lies between them
-// is walked.
+// is read.
 pub fn line_to(t: &[u32], row: usize, at: usize, to: usize) -> Line
     requires { ⌜ Stands (now t) row (rowStart (now t) row) at × (to < rowCount (now t)) ⌝ }
     ensures { λ r. ⌜ r ≡ lineAt (now (t .entry)) to ⌝ }
@@ -82,22 +183,16 @@ pub fn line_to(t: &[u32], row: usize, at: usize, to: usize) -> Line
     if to <= row {
         return up(t, row, at, row - to);
     }
-    let here = up(t, row, at, 0);
-    down(t, here, to - row)
+    below(t, row, at, to)
 }
 
 // Row `row` of the text, or the last row with content where there are fewer of those.
 pub fn content_line(t: &[u32], row: usize) -> Line
     ensures { λ r. ⌜ r ≡ lineAt (now (t .entry)) (min row (contentRows (now (t .entry)) - 1)) ⌝ }
 {
-    let l = line_at(t, row);
-    if l.row == 0 {
-        return l;
-    }
-    if l.start < t.len() {
-        return l;
-    }
-    up(t, l.row, l.start, 1)
+    let rows = row_count(t);
+    let content = content_of(t, rows);
+    row_line(t, rows, least(row, content - 1))
 }
 
 // The end of the row that has the offset `at`: its separator, or the end of the text.

@@ -2,6 +2,7 @@
 use crate::Step;
 use margins::first_non_blank;
 use margins::last_non_blank;
+use positions::Entry;
 use positions::Position;
 use steps::walks::backspace_back;
 use steps::walks::space_fwd;
@@ -36,13 +37,13 @@ fn to_col(t: &[u32], l: Line, want: usize) -> usize
 }
 
 // The position that a step of a text and position that were accepted leads to.
-pub fn step(t: &[u32], p: Position, start: usize, s: Step, count: u32) -> Position
-    requires { ⌜ Accepted (now t) p start ⌝ }
+pub fn step(t: &[u32], p: Position, e: Entry, s: Step, count: u32) -> Position
+    requires { ⌜ Accepted (now t) p e ⌝ }
     ensures { λ r. ⌜ r ≡ stepped (now (t .entry)) s count p ⌝ }
 {
     let l = Line {
         row: p.row,
-        start: start,
+        start: e.start,
     };
     let n = most(count as usize, 1);
     match s {
@@ -54,7 +55,7 @@ pub fn step(t: &[u32], p: Position, start: usize, s: Step, count: u32) -> Positi
         Step::GotoColumn => in_row(p, to_col(t, l, minus(count as usize, 1))),
         Step::FirstNonBlank => in_row(p, first_non_blank(t, l)),
         Step::LastNonBlank => in_row(p, last_non_blank(t, l)),
-        Step::SpaceFwd => space_fwd(t, p, start, count),
-        Step::BackspaceBack => backspace_back(t, p, start, count),
+        Step::SpaceFwd => space_fwd(t, p, e, count),
+        Step::BackspaceBack => backspace_back(t, p, e, count),
     }
 }

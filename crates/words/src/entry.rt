@@ -1,5 +1,7 @@
-// A word motion as a whole: the first round, the rest of the count, and what they are lent.
+// A word motion as a whole: what it goes by is made, and then come the first round and the rest of
+// the count.
 // `move_word_fwd` and its like of motions.rs.
+use crate::once::prepare;
 use crate::rounds;
 use keywords::KeywordSpec;
 use places::Setting;
@@ -7,19 +9,15 @@ use places::Spot;
 use turns::Motion;
 use turns::Round;
 ghost use mathlib.Core.Path.{_≡_};
-ghost use mathlib.Core.Bool.{false};
-ghost use Prim.Native.Nat.{_+_, _-_, _≤_, _<_, max};
+ghost use Prim.Native.Nat.{_+_, _-_, _≤_, max};
 ghost use lib.ListN.{length};
-ghost use Rattle.chars.specs.Scalar.{any};
-ghost use Rattle.text.specs.Text.{rowCount};
-ghost use Rattle.folds.specs.Folds.{foldRefusal};
 ghost use Rattle.tokens.specs.Tokens.{anyToken};
 ghost use Rattle.keywords.specs.Table.{kept};
 ghost use Rattle.places.specs.Places.{kindOf};
 ghost use Rattle.turns.specs.Rounds.{wordMotion};
 ghost use Rattle.places.specs.Spots.{placeOf, IsSpot};
 ghost use Rattle.turns.specs.Turns.{Folded, Set};
-ghost use Rattle.places.specs.Lent.{kindBy, isHigh};
+ghost use Rattle.places.specs.Lent.{kindBy};
 
 // How many rounds follow the first: count 0 acts as 1.
 fn rest(count: u32) -> u32
@@ -31,8 +29,8 @@ fn rest(count: u32) -> u32
     count - 1
 }
 
-// A motion, by bounds and a table of letters that are lent. `stop` holds in the first round alone.
-fn motion_in(
+// A motion, by bounds, a table of letters and a setting that were made before. `stop` holds in the first round alone.
+pub fn walk(
     t: &[u32],
     folds: &[u32],
     bounds: &[u32],
@@ -57,7 +55,7 @@ fn motion_in(
 }
 
 // The same with the table of letters, which is named here, where there is no loop.
-fn motion_with_letters(
+fn walk_with_letters(
     t: &[u32],
     folds: &[u32],
     bounds: &[u32],
@@ -75,23 +73,10 @@ fn motion_with_letters(
         (s .big) m stop count (placeOf (now (t .entry)) p)) ×
         IsSpot (now (t .entry)) r ⌝ }
 {
-    motion_in(t, folds, bounds, &letters::LETTERS, s, m, stop, count, p)
+    walk(t, folds, bounds, &letters::LETTERS, s, m, stop, count, p)
 }
 
-// Whether the text has a code point for which the table of letters is read.
-fn has_high(t: &[u32]) -> bool
-    ensures { λ r. ⌜ r ≡ any isHigh (now (t .entry)) ⌝ }
-{
-    let mut high = false;
-    let mut i: usize = 0;
-    while i < t.len() {
-        high = high | (t[i] >= 0x2c2);
-        i += 1;
-    }
-    high
-}
-
-// A word motion from a place of the text. The list's table is made into bounds once; the table of
+// A word motion from a place of a text with so many rows, and rows with content. The table of
 // letters is lent where the text may need it, and else the bounds in its place, which are then not
 // read as letters.
 pub fn word_motion(
@@ -99,29 +84,25 @@ pub fn word_motion(
     folds: &[u32],
     spec: KeywordSpec,
     big: bool,
+    rows: usize,
+    content: usize,
     m: Motion,
     stop: bool,
     count: u32,
     p: Spot,
 ) -> Spot
-    requires { ⌜ (foldRefusal (now folds) (rowCount (now t)) ≡ 0) × (spec .len ≤ 128) ×
-        IsSpot (now t) p ⌝ }
+    requires { ⌜ Folded (now t) (now folds) rows content p × (spec .len ≤ 128) ⌝ }
     ensures { λ r.
         ⌜ (placeOf (now (t .entry)) r ≡
         wordMotion (now (t .entry)) (now (folds .entry)) (kindOf (anyToken (kept spec)) big) big
         m stop count (placeOf (now (t .entry)) p)) ×
         IsSpot (now (t .entry)) r ⌝ }
 {
-    let bounds = keywords::bounds_of(spec);
-    let s = Setting {
-        rows: text::row_count(t),
-        content: text::content_rows(t),
-        pairs: spec.len,
-        letters: keywords::letters_of(spec),
-        big: big,
-    };
-    if has_high(t) {
-        return motion_with_letters(t, folds, &bounds, s, m, stop, count, p);
+    let made = prepare(t, spec, big, rows, content);
+    let bounds = made.bounds;
+    let s = made.setting;
+    if made.high {
+        return walk_with_letters(t, folds, &bounds, s, m, stop, count, p);
     }
-    motion_in(t, folds, &bounds, &bounds, s, m, stop, count, p)
+    walk(t, folds, &bounds, &bounds, s, m, stop, count, p)
 }

@@ -1,38 +1,40 @@
--- `rows::next_line` meets its contract: the row found is no lower than the position's exactly if that is the last with content, or past it.
+-- `rows::next_line` meets its contract: from the last row with content on it stays.
 -- Assumes nothing.
-use Prim.Native.Nat.{_-_}
+use Prim.Native.Nat.{ℕ, _+_, _-_, min, max}
 use mathlib.Core.Path.{ap, _∙_}
 use native.Mathlib.Omega.{arith}
 use borrow.Author.Needs.{needs}
 use borrow.Author.Tests.{le-leb, lt-leb}
 use Rattle.text.specs.Text.{contentRows}
-use Rattle.text.proofs.Content.{content-row, content-there}
+use Rattle.positions.proofs.Entered.{accepted-rows}
 use Rattle.jumps.specs.Rows.{atRow}
 use Rattle.jumps.proofs.rows.next_line.Statement.{statement}
 use Rattle.jumps.proofs.rows.next_line.Tie as tie
 
+sub-last : tie.Need-sub-last
+sub-last c = omega (arith, accepted-rows (c .before .before .pre))
+
 returns : tie.Need-returns
 returns c =
-    let l = c .before .before .before in
-    let a = l .before .before .before .before .args in
-    let found = content-row (a .t .now) (l .content-line .result) _ (l .content-line .ensures) in
-    rw (le-leb (contentRows (a .t .now) - 1) (a .p .row) (omega (arith, found, c .if1 .taken)))
+    let s = c .before .before .before .before in
+    rw (le-leb (contentRows (s .args .t .now) - 1) (s .args .p .row) (omega (arith, s .pre .content-rows, c .if1 .taken)))
 
-at-line-requires : tie.Need-at-line-requires
-at-line-requires c κs =
-    let l = c .before .before .before in
-    let s = l .before .before .before .before in
-    (content-there (s .args .t .now) (l .content-line .result) _ (l .content-line .ensures), s .pre .brief)
+at-row-requires : tie.Need-at-row-requires
+at-row-requires c κs =
+    let s = c .before .before .before .before .before .before .before in
+    (s .pre, omega (arith, c .least .ensures, accepted-rows (s .pre)))
 
 returns-2 : tie.Need-returns-2
 returns-2 c =
-    let l = c .before .before .before .before in
-    let a = l .before .before .before .before .args in
-    let found = content-row (a .t .now) (l .content-line .result) _ (l .content-line .ensures) in
-    rw (lt-leb (contentRows (a .t .now) - 1) (a .p .row) (omega (arith, found, c .before .if1 .left)))
-    (c .at-line .ensures ∙ ap (atRow (a .t .now)) (omega (arith, found)))
+    let m = c .before .before .before in
+    let s = m .before .before .before .before .before in
+    let a = s .args in
+    rw (lt-leb (contentRows (a .t .now) - 1) (a .p .row) (omega (arith, s .pre .content-rows, m .before .if1 .left)))
+    (c .at-row .ensures ∙ ap (atRow (a .t .now)) (c .before .least .ensures ∙
+    ap (λ (n : ℕ). min (a .p .row + n) (a .e .content - 1)) (m .most .ensures) ∙
+    ap (λ (n : ℕ). min (a .p .row + max (a .count) 1) (n - 1)) (s .pre .content-rows)))
 
 pub next-line-spec : {M : Type 1} → statement M
 next-line-spec =
     tie.close
-    (tie.spec (λ c κs. search needs) (λ c. search needs) (λ c κs. search needs) returns at-line-requires returns-2)
+    (tie.spec sub-last returns (λ c κs. search needs) (λ c. search needs) (λ c κs. search needs) at-row-requires returns-2)

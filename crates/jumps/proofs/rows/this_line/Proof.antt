@@ -1,63 +1,49 @@
--- `rows::this_line` meets its contract: with no row to go down it stays in the position's row, or goes to the last with content.
+-- `rows::this_line` meets its contract: from the last row with content on it stays, if it was to go down.
 -- Assumes nothing.
-use Prim.Native.Nat.{ℕ, _+_, _-_, _<_, min, max}
+use Prim.Native.Nat.{ℕ, _+_, _-_, min, max}
 use mathlib.Core.Path.{_≡_, ap, _∙_}
+use mathlib.Core.Bool.{Bool, true, false, _&&_}
 use native.Mathlib.Omega.{arith}
+use lib.Dec.{ltb, leb}
 use borrow.Author.Needs.{needs}
-use borrow.Author.Tests.{lt-ltb, le-ltb, le-leb, lt-leb}
 use Rattle.text.specs.Text.{contentRows}
-use Rattle.text.proofs.Content.{content-row, content-there}
+use Rattle.positions.proofs.Entered.{accepted-rows}
 use Rattle.jumps.specs.Rows.{atRow}
 use Rattle.jumps.proofs.rows.this_line.Statement.{statement}
 use Rattle.jumps.proofs.rows.this_line.Tie as tie
 
--- there is a row to go down
-goes : (n m : ℕ) → m ≡ max n 1 → (m - 1 ≡ 0 → ⊥) → 0 < max n 1 - 1
-goes n m e h = omega arith
+-- the test, by the numbers that the contract has
+stays : (row count content n m : ℕ) (b : Bool) → m ≡ max count 1 → content ≡ n → (ltb 0 (m - 1) && leb (content - 1) row) ≡ b →
+    (ltb 0 (max count 1 - 1) && leb (n - 1) row) ≡ b
+stays row count content n m b e q h = rw (← e, ← q) h
 
-at-line-requires : tie.Need-at-line-requires
-at-line-requires c κs =
-    let l = c .before in
-    let s = l .before .before .before .before in
-    (content-there (s .args .t .now) (l .content-line .result) _ (l .content-line .ensures), s .pre .brief)
+sub-last : tie.Need-sub-last
+sub-last c = omega (arith, accepted-rows (c .before .before .before .pre))
 
 returns : tie.Need-returns
 returns c =
-    let l = c .before .before in
-    let a = l .before .before .before .before .args in
-    let found = content-row (a .t .now) (l .content-line .result) _ (l .content-line .ensures) in
-    rw (le-ltb 0 (max (a .count) 1 - 1) (omega (arith, c .before .if1 .taken))) (c .at-line .ensures ∙ ap (atRow (a .t .now)) (omega (arith, found)))
+    let m = c .before .before .before in
+    let s = m .before .before in
+    let a = s .args in
+    rw (stays (a .p .row) (a .count) (a .e .content) (contentRows (a .t .now)) _ true (m .most .ensures) (s .pre .content-rows) (c .if1 .taken))
+
+at-row-requires : tie.Need-at-row-requires
+at-row-requires c κs =
+    let s = c .before .before .before .before .before .before .before in
+    (s .pre, omega (arith, c .least .ensures, accepted-rows (s .pre)))
 
 returns-2 : tie.Need-returns-2
 returns-2 c =
-    let l = c .before .before .before .before in
-    let a = l .before .before .before .before .args in
-    let found = content-row (a .t .now) (l .content-line .result) _ (l .content-line .ensures) in
-    rw (
-      lt-ltb 0 (max (a .count) 1 - 1) (goes (a .count) _ (l .before .before .most .ensures) (c .before .before .before .if1 .left)),
-      le-leb (contentRows (a .t .now) - 1) (a .p .row) (omega (arith, found, c .if2 .taken, c .before .before .before .if1 .left)),
-    )
-
-at-line-requires-2 : tie.Need-at-line-requires-2
-at-line-requires-2 c κs =
-    let l = c .before .before .before .before in
-    let s = l .before .before .before .before in
-    (content-there (s .args .t .now) (l .content-line .result) _ (l .content-line .ensures), s .pre .brief)
-
-returns-3 : tie.Need-returns-3
-returns-3 c =
-    let l = c .before .before .before .before .before in
-    let a = l .before .before .before .before .args in
-    let found = content-row (a .t .now) (l .content-line .result) _ (l .content-line .ensures) in
-    rw (
-      lt-ltb 0 (max (a .count) 1 - 1) (goes (a .count) _ (l .before .before .most .ensures) (c .before .before .before .before .if1 .left)),
-      lt-leb (contentRows (a .t .now) - 1) (a .p .row) (omega (arith, found, c .before .if2 .left)),
-    )
-    (c .at-line2 .ensures ∙
-    ap (atRow (a .t .now)) (found ∙ ap (λ (m : ℕ). min (a .p .row + (m - 1)) (contentRows (a .t .now) - 1)) (l .before .before .most .ensures)))
+    let i = c .before .before .before in
+    let m = i .before .before .before in
+    let s = m .before .before in
+    let a = s .args in
+    rw (stays (a .p .row) (a .count) (a .e .content) (contentRows (a .t .now)) _ false (m .most .ensures) (s .pre .content-rows) (i .if1 .left))
+    (c .at-row .ensures ∙ ap (atRow (a .t .now)) (c .before .least .ensures ∙
+    ap (λ (n : ℕ). min (a .p .row + (n - 1)) (a .e .content - 1)) (m .most .ensures) ∙
+    ap (λ (n : ℕ). min (a .p .row + (max (a .count) 1 - 1)) (n - 1)) (s .pre .content-rows)))
 
 pub this-line-spec : {M : Type 1} → statement M
 this-line-spec =
     tie.close
-    (tie.spec (λ c κs. search needs) (λ c. search needs) (λ c. search needs) (λ c κs. search needs) at-line-requires returns returns-2
-    at-line-requires-2 returns-3)
+    (tie.spec (λ c κs. search needs) (λ c. search needs) sub-last returns (λ c. search needs) (λ c κs. search needs) at-row-requires returns-2)

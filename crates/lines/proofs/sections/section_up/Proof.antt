@@ -5,7 +5,7 @@ use native.Mathlib.Omega.{arith}
 use borrow.Author.Needs.{needs}
 use Rattle.text.specs.Offsets.{Stands}
 use Rattle.text.specs.declared.Line.{Line}
-use Rattle.text.proofs.Stands.{stands-own, line-there}
+use Rattle.text.proofs.Stands.{line-there}
 use Rattle.lines.specs.Sections.{sectionUp}
 use Rattle.lines.proofs.Marks.{up-none, up-done, up-step}
 use Rattle.lines.proofs.sections.section_up.Statement.{statement}
@@ -25,16 +25,13 @@ returns c =
       omega (arith, l .loop .inv .0 .below, l .loop .inv .0 .within),
     )
 
-up-requires : tie.Need-up-requires Inv-loop μ-loop
-up-requires c κs = stands-own (c .before .before .loop .inv .0)
-
 begins-requires : tie.Need-begins-requires Inv-loop μ-loop
 begins-requires c κs =
     let l = c .before .before .before in
-    (line-there (l .before .before .args .t .now) (c .up .result) _ (c .up .ensures) (omega (arith, l .loop .inv .0 .in-row)), l .loop .inv .1)
+    (line-there (l .before .before .args .t .now) (c .prev-line .result) _ (c .prev-line .ensures) (omega (arith, l .loop .inv .0 .in-row)), l .loop .inv .1)
 
 loop-less : tie.Need-loop-less Inv-loop μ-loop
-loop-less c = omega (arith, ap (λ (l : Line). l .row) (c .before .before .up .ensures))
+loop-less c = omega (arith, ap (λ (l : Line). l .row) (c .before .before .prev-line .ensures))
 
 -- the row above begins with the mark, or it does not
 loop-again : tie.Need-loop-again Inv-loop μ-loop
@@ -42,8 +39,8 @@ loop-again c =
     let u = c .before .before in
     let l = u .before .before .before in
     let a = l .before .before .args in
-    let up = ap (λ (l : Line). l .row) (u .up .ensures) in (
-      line-there (a .t .now) (u .up .result) _ (u .up .ensures) (omega (arith, l .loop .inv .0 .in-row)),
+    let up = ap (λ (l : Line). l .row) (u .prev-line .ensures) in (
+      line-there (a .t .now) (u .prev-line .result) _ (u .prev-line .ensures) (omega (arith, l .loop .inv .0 .in-row)),
       l .loop .inv .1,
       l .loop .inv .2 ∙
           up-step (a .t .now) (a .x) (l .loop .left) (l .loop .row) _ (omega (arith, u .before .if1 .left)) (u .before .before .loop-test .taken) up ∙
@@ -51,15 +48,15 @@ loop-again c =
     )
 
 loop-less-2 : tie.Need-loop-less-2 Inv-loop μ-loop
-loop-less-2 c = omega (arith, ap (λ (l : Line). l .row) (c .before .before .up .ensures))
+loop-less-2 c = omega (arith, ap (λ (l : Line). l .row) (c .before .before .prev-line .ensures))
 
 loop-again-2 : tie.Need-loop-again-2 Inv-loop μ-loop
 loop-again-2 c =
     let u = c .before .before in
     let l = u .before .before .before in
     let a = l .before .before .args in
-    let up = ap (λ (l : Line). l .row) (u .up .ensures) in (
-      line-there (a .t .now) (u .up .result) _ (u .up .ensures) (omega (arith, l .loop .inv .0 .in-row)),
+    let up = ap (λ (l : Line). l .row) (u .prev-line .ensures) in (
+      line-there (a .t .now) (u .prev-line .result) _ (u .prev-line .ensures) (omega (arith, l .loop .inv .0 .in-row)),
       l .loop .inv .1,
       l .loop .inv .2 ∙
           up-step (a .t .now) (a .x) (l .loop .left) (l .loop .row) _ (omega (arith, u .before .if1 .left)) (u .before .before .loop-test .taken) up ∙
@@ -77,5 +74,5 @@ returns-2 c =
 pub section-up-spec : {M : Type 1} → statement M
 section-up-spec =
     tie.close
-    (tie.spec Inv-loop μ-loop (λ c. search needs) returns up-requires begins-requires
+    (tie.spec Inv-loop μ-loop (λ c. search needs) returns (λ c κs. search needs) begins-requires
     (λ c. search needs) loop-less loop-again loop-less-2 loop-again-2 returns-2)

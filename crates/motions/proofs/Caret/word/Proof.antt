@@ -17,7 +17,7 @@ use Rattle.steps.proofs.Stepping.{up-start}
 use Rattle.motions.specs.Carets.{here}
 use Rattle.motions.specs.WordMoves.{wordCaret}
 use Rattle.motions.proofs.Refusing.{refused-first, refused-last, refused-none}
-use Rattle.motions.proofs.Wording.{spot-of, place-of, spot-fits, caret-of-spot}
+use Rattle.motions.proofs.Wording.{place-of, word-ready, spot-fits, caret-of-spot}
 use Rattle.motions.proofs.Caret.word.Statement.{statement}
 use Rattle.motions.proofs.Caret.word.Tie as tie
 
@@ -50,10 +50,11 @@ word-motion-requires c κs =
     let s = c .before .before .before in
     let p = s .before .before in
     let n = p .before .before .before in
-    let a = n .before .before .before .before .args in (
-      folds-good (a .t .now) (a .folds .now) (here (a .self)) _ (n .enter-folds .ensures) (p .before .if1 .left),
+    let a = n .before .before .before .before .args in
+    let ok = folds-entered (a .t .now) (a .folds .now) (here (a .self)) _ (n .enter-folds .ensures) (p .before .if1 .left) in (
+      word-ready (a .t .now) (a .folds .now) (a .self) _ ok
+          (folds-good (a .t .now) (a .folds .now) (here (a .self)) _ (n .enter-folds .ensures) (p .before .if1 .left)),
       parse-length (a .list .now) (p .parse .result) (p .parse .ensures) (s .if2 .left),
-      spot-of (a .t .now) (a .self) _ (folds-entered (a .t .now) (a .folds .now) (here (a .self)) _ (n .enter-folds .ensures) (p .before .if1 .left)),
     )
 
 -- a row begins at or before each of its offsets

@@ -15,17 +15,17 @@ use Rattle.steps.proofs.walks.backspace_back.Statement.{statement}
 use Rattle.steps.proofs.walks.backspace_back.Tie as tie
 
 abbrev Inv-loop : tie.InvT-loop
-Inv-loop t start count row₀ at₀ left₀ row at left =
-    Going (backspaceBack t) (position row₀ (at₀ - start)) (max count 1) t row (rowStart t row) at left × (length t ≤ 1048576)
+Inv-loop t count row₀ at₀ left₀ row at left =
+    Going (backspaceBack t) (position row₀ (at₀ - rowStart t row₀)) (max count 1) t row (rowStart t row) at left × (length t ≤ 1048576)
 
 abbrev μ-loop : tie.MeasureT-loop
-μ-loop t start count row₀ at₀ left₀ row at left = left
+μ-loop t count row₀ at₀ left₀ row at left = left
 
 loop-holds : tie.Need-loop-holds Inv-loop μ-loop
 loop-holds c =
-    let s = c .before .before .before in
+    let s = c .before .before .before .before in
     let a = s .args in (
-      going-start (backspaceBack (a .t .now)) (position (a .p .row) (a .start + a .p .col - a .start)) (max (a .count) 1) _ _ _
+      going-start (backspaceBack (a .t .now)) (position (a .p .row) (a .e .start + a .p .col - rowStart (a .t .now) (a .p .row))) (max (a .count) 1) _ _ _
           (stands-own (s .pre .here)) (omega (arith, s .pre .here .begins))
           (c .most .ensures),
       s .pre .brief,
@@ -36,11 +36,12 @@ returns : tie.Need-returns Inv-loop μ-loop
 returns c =
     let l = c .before .before in
     let g = l .loop .inv .0 in
-    let a = l .before .before .before .before .args in
+    let s = l .before .before .before .before .before in
+    let a = s .args in
     let f = back-first (g .stands) (c .if1 .taken) in
     let first = sym (f .0) in
     let none : 0 ≡ l .loop .at - rowStart (a .t .now) (l .loop .row) = omega arith in
-    (λ i. position (first i) (none i)) ∙ going-stop g (f .1) ∙ going-from (backspaceBack (a .t .now)) _ (a .p) (a .start)
+    (λ i. position (first i) (none i)) ∙ going-stop g (f .1) ∙ going-from (backspaceBack (a .t .now)) _ (a .p) (a .e .start) _ (s .pre .line .begins)
 
 -- behind the separator of the first row, which is empty
 sub-row : tie.Need-sub-row Inv-loop μ-loop
@@ -105,17 +106,18 @@ up-requires c κs = c .before .loop .inv .0 .stands
 sub-col : tie.Need-sub-col Inv-loop μ-loop
 sub-col c =
     let l = c .before .before .before in
-    let t = l .before .before .before .before .args .t .now in
+    let t = l .before .before .before .before .before .args .t .now in
     omega (arith, up-start t (c .before .up .result) (l .loop .row) (c .before .up .ensures), l .loop .inv .0 .stands .from)
 
 returns-2 : tie.Need-returns-2 Inv-loop μ-loop
 returns-2 c =
     let u = c .before in
     let l = u .before .before in
-    let a = l .before .before .before .before .args in
+    let s = l .before .before .before .before .before in
+    let a = s .args in
     ap (λ (s : ℕ). position (l .loop .row) (l .loop .at - s)) (up-start (a .t .now) (u .up .result) (l .loop .row) (u .up .ensures)) ∙
     going-done (l .loop .inv .0) (u .before .loop-test .left) ∙
-    going-from (backspaceBack (a .t .now)) _ (a .p) (a .start)
+    going-from (backspaceBack (a .t .now)) _ (a .p) (a .e .start) _ (s .pre .line .begins)
 
 pub backspace-back-spec : {M : Type 1} → statement M
 backspace-back-spec =

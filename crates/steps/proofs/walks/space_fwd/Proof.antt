@@ -1,7 +1,7 @@
 -- `walks::space_fwd` meets its contract. The invariant of its loop: what is left of the rounds, from the place of the walk, leads where all of them do.
 -- The measure is the rounds that are left. Assumes nothing.
 use Prim.Native.Nat.{_≤_, _+_, _-_, max}
-use mathlib.Core.Path.{_∙_}
+use mathlib.Core.Path.{refl, _∙_}
 use native.Mathlib.Omega.{arith}
 use lib.ListN.{length}
 use borrow.Author.Needs.{needs}
@@ -14,17 +14,17 @@ use Rattle.steps.proofs.walks.space_fwd.Statement.{statement}
 use Rattle.steps.proofs.walks.space_fwd.Tie as tie
 
 abbrev Inv-loop : tie.InvT-loop
-Inv-loop t begin count row₀ start₀ at₀ left₀ row start at left =
-    Going (spaceFwd t) (position row₀ (at₀ - begin)) (max count 1) t row start at left × (length t ≤ 1048576)
+Inv-loop t count row₀ start₀ at₀ left₀ row start at left =
+    Going (spaceFwd t) (position row₀ (at₀ - start₀)) (max count 1) t row start at left × (length t ≤ 1048576)
 
 abbrev μ-loop : tie.MeasureT-loop
-μ-loop t begin count row₀ start₀ at₀ left₀ row start at left = left
+μ-loop t count row₀ start₀ at₀ left₀ row start at left = left
 
 loop-holds : tie.Need-loop-holds Inv-loop μ-loop
 loop-holds c =
-    let s = c .before .before .before in
+    let s = c .before .before .before .before in
     let a = s .args in (
-      going-start (spaceFwd (a .t .now)) (position (a .p .row) (a .begin + a .p .col - a .begin)) (max (a .count) 1) _ _ _ (s .pre .here)
+      going-start (spaceFwd (a .t .now)) (position (a .p .row) (a .e .start + a .p .col - a .e .start)) (max (a .count) 1) _ _ _ (s .pre .here)
           (omega arith) (c .most .ensures),
       s .pre .brief,
     )
@@ -35,8 +35,8 @@ returns c =
     let l = c .before .before in
     let g = l .loop .inv .0 in
     going-stop g (space-end (g .stands) (c .if1 .taken)) ∙
-    going-from (spaceFwd (l .before .before .before .before .args .t .now)) _ (l .before .before .before .before .args .p)
-    (l .before .before .before .before .args .begin)
+    going-from (spaceFwd (l .before .before .before .before .before .args .t .now)) _ (l .before .before .before .before .before .args .p)
+    (l .before .before .before .before .before .args .e .start) _ refl
 
 -- on a separator
 loop-again : tie.Need-loop-again Inv-loop μ-loop
@@ -55,8 +55,8 @@ returns-2 c =
     let l = o .before .before in
     let g = l .loop .inv .0 in
     going-stop g (space-last (g .stands) (o .if1 .left) (c .before .if2 .left) (c .if3 .taken)) ∙
-    going-from (spaceFwd (l .before .before .before .before .args .t .now)) _ (l .before .before .before .before .args .p)
-    (l .before .before .before .before .args .begin)
+    going-from (spaceFwd (l .before .before .before .before .before .args .t .now)) _ (l .before .before .before .before .before .args .p)
+    (l .before .before .before .before .before .args .e .start) _ refl
 
 -- before a separator
 loop-again-2 : tie.Need-loop-again-2 Inv-loop μ-loop
@@ -86,8 +86,8 @@ loop-again-3 c =
 returns-3 : tie.Need-returns-3 Inv-loop μ-loop
 returns-3 c =
     going-done (c .before .loop .inv .0) (c .loop-test .left) ∙
-    going-from (spaceFwd (c .before .before .before .before .before .args .t .now)) _ (c .before .before .before .before .before .args .p)
-    (c .before .before .before .before .before .args .begin)
+    going-from (spaceFwd (c .before .before .before .before .before .before .args .t .now)) _ (c .before .before .before .before .before .before .args .p)
+    (c .before .before .before .before .before .before .args .e .start) _ refl
 
 pub space-fwd-spec : {M : Type 1} → statement M
 space-fwd-spec =

@@ -1,52 +1,44 @@
 -- `text::offsets::up` meets its contract. The invariant of its loop: i stands in row r, and `left` rows are still to go up.
 -- The measure is i. Assumes nothing.
-use Prim.Native.Nat.{_+_, _≤_}
-use mathlib.Core.Path.{_≡_, sym}
+use Prim.Native.Nat.{_-_}
+use mathlib.Core.Path.{_≡_, ap, _∙_}
 use native.Mathlib.Omega.{arith}
 use borrow.Author.Needs.{needs}
-use Rattle.text.specs.Offsets.{Stands, rowStart}
-use Rattle.text.proofs.Rows.{start-zero}
-use Rattle.text.proofs.Before.{on-first}
-use Rattle.text.proofs.Stands.{stands-at, line-eq, back-char, back-nl}
+use Rattle.text.specs.Offsets.{Stands, rowStart, lineAt}
+use Rattle.text.proofs.Stretches.{pass-back, left-over}
 use Rattle.text.proofs.offsets.up.Statement.{statement}
 use Rattle.text.proofs.offsets.up.Tie as tie
 
 abbrev Inv-loop : tie.InvT-loop
-Inv-loop t row at n r₀ left₀ i₀ r left i = Stands t r (rowStart t r) i × (left ≤ n) × (r + n ≡ row + left)
+Inv-loop t row at n r₀ left₀ i₀ r left i = Stands t r (rowStart t r) i × (r - left ≡ row - n)
 
 abbrev μ-loop : tie.MeasureT-loop
 μ-loop t row at n r₀ left₀ i₀ r left i = i
 
 returns : tie.Need-returns Inv-loop μ-loop
 returns c =
-    let k = c .before .before .before in
-    line-eq (k .before .before .args .t .now) (back-nl (k .before .loop .inv .0) (k .loop-test .taken) (c .before .if1 .taken) .0) (omega arith)
+    let k = c .before .before .before .before .before in
+    c .walk-up .ensures ∙ ap (lineAt (k .before .before .args .t .now)) (k .loop .inv .1)
 
 sub-r : tie.Need-sub-r Inv-loop μ-loop
 sub-r c =
-    let k = c .before .before .before in
-    back-nl (k .before .loop .inv .0) (k .loop-test .taken) (c .before .if1 .taken) .1
+    let k = c .before .before .before .before in
+    pass-back (k .before .before .args .t .now) (k .loop .inv .0) (c .before .separators .result) _ (omega arith) (c .before .separators .ensures .0) .0
 
 loop-again : tie.Need-loop-again Inv-loop μ-loop
 loop-again c =
-    let k = c .before .before .before in
-    let b = back-nl (k .before .loop .inv .0) (k .loop-test .taken) (c .before .if1 .taken) in
-    (b .2, omega arith, omega (arith, c .if2 .left))
-
-loop-again-2 : tie.Need-loop-again-2 Inv-loop μ-loop
-loop-again-2 c =
-    let k = c .before .before in
-    (back-char (k .before .loop .inv .0) (k .loop-test .taken) (c .if1 .left), omega arith, omega arith)
+    let k = c .before .before .before .before in
+    let v = k .loop .inv in
+    let b = pass-back (k .before .before .args .t .now) (v .0) (c .before .separators .result) _ (omega arith) (c .before .separators .ensures .0) in
+    (b .1, left-over (k .loop .r) (k .loop .left) (c .before .separators .result) (b .0) (c .if1 .left) ∙ v .1)
 
 returns-2 : tie.Need-returns-2 Inv-loop μ-loop
 returns-2 c =
-    let k = c .before in
-    let t = k .before .args .t .now in
-    line-eq t (sym (start-zero t)) (omega (arith, on-first (stands-at (k .loop .inv .0)) (omega arith)))
+    let k = c .before .before in
+    c .walk-up2 .ensures ∙ ap (lineAt (k .before .before .args .t .now)) (k .loop .inv .1)
 
 pub up-spec : {M : Type 1} → statement M
 up-spec =
     tie.close
-    (tie.spec Inv-loop μ-loop (λ c. search needs) (λ c. search needs) (λ c. search needs) (λ c. search needs) returns sub-r (λ c. search needs)
-    (λ c. search needs)
-    loop-again (λ c. search needs) loop-again-2 returns-2)
+    (tie.spec Inv-loop μ-loop (λ c. search needs) (λ c. search needs) (λ c. search needs) (λ c. search needs) (λ c. search needs) (λ c κs. search needs)
+    (λ c κs. search needs) returns sub-r (λ c. search needs) loop-again (λ c κs. search needs) returns-2)

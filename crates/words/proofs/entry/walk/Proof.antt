@@ -1,12 +1,12 @@
--- `words::entry::motion_in` meets its contract: the first round, and the rest. Assumes nothing.
+-- `words::entry::walk` meets its contract: the first round, and the rest. Assumes nothing.
 use mathlib.Core.Path.{_∙_}
 use Rattle.places.specs.Spots.{placeOf}
 use Rattle.places.specs.Lent.{kindBy}
 use Rattle.turns.proofs.Counts.{motion-on, motion-off}
 use Rattle.turns.proofs.Turning.{turn-next, turn-last, next-in, last-in, set-at}
 use borrow.Author.Needs.{needs}
-use Rattle.words.proofs.entry.motion_in.Statement.{statement}
-use Rattle.words.proofs.entry.motion_in.Tie as tie
+use Rattle.words.proofs.entry.walk.Statement.{statement}
+use Rattle.words.proofs.entry.walk.Tie as tie
 
 rounds-requires : tie.Need-rounds-requires
 rounds-requires c κs =
@@ -38,7 +38,7 @@ returns-2 c =
           (b3 .round .ensures .1),
     )
 
-pub motion-in-spec : {M : Type 1} → statement M
-motion-in-spec =
+pub walk-spec : {M : Type 1} → statement M
+walk-spec =
     tie.close
     (tie.spec (λ c κs. search needs) (λ c. search needs) (λ c κs. search needs) rounds-requires (λ c. search needs) returns returns-2)

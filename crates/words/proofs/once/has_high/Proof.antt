@@ -1,4 +1,4 @@
--- `words::entry::has_high` meets its contract. The invariant of its loop: what was found, or will be. The measure is what is left.
+-- `words::once::has_high` meets its contract. The invariant of its loop: what was found, or will be. The measure is what is left.
 -- Assumes nothing.
 use Prim.Native.Nat.{_-_, _≤_}
 use mathlib.Core.Path.{_≡_, refl, sym}
@@ -8,8 +8,8 @@ use Rattle.chars.specs.Scalar.{any}
 use Rattle.chars.proofs.Scalars.{any-on, any-end}
 use Rattle.places.specs.Lent.{isHigh}
 use borrow.Author.Needs.{needs}
-use Rattle.words.proofs.entry.has_high.Statement.{statement}
-use Rattle.words.proofs.entry.has_high.Tie as tie
+use Rattle.words.proofs.once.has_high.Statement.{statement}
+use Rattle.words.proofs.once.has_high.Tie as tie
 
 abbrev Inv-loop : tie.InvT-loop
 Inv-loop t high₀ i₀ high i = (i ≤ length t) × (any isHigh t ≡ (high || any isHigh (drop i t)))

@@ -1,0 +1,33 @@
+-- `text::offsets::below` meets its contract. The invariant of its loop: i stands in row r, which lies above row `to`. The measure is the
+-- text's length less i. Assumes nothing.
+use Prim.Native.Nat.{_-_, _<_}
+use native.Mathlib.Omega.{arith}
+use lib.ListN.{length}
+use borrow.Author.Needs.{needs}
+use Rattle.text.specs.Text.{rowCount}
+use Rattle.text.specs.Offsets.{Stands, rowStart}
+use Rattle.text.proofs.Stretches.{pass-on}
+use Rattle.text.proofs.offsets.below.Statement.{statement}
+use Rattle.text.proofs.offsets.below.Tie as tie
+
+abbrev Inv-loop : tie.InvT-loop
+Inv-loop t row at to r₀ i₀ r i = Stands t r (rowStart t r) i × (r < to) × (to < rowCount t)
+
+abbrev μ-loop : tie.MeasureT-loop
+μ-loop t row at to r₀ i₀ r i = length t - i
+
+loop-again : tie.Need-loop-again Inv-loop μ-loop
+loop-again c =
+    let k = c .before .before .before .before in
+    let v = k .loop .inv in (
+      pass-on (k .before .before .args .t .now) (v .0) (c .before .separators .result) _ (omega arith) (omega arith) (c .before .separators .ensures .0),
+      omega arith,
+      v .2,
+    )
+
+pub below-spec : {M : Type 1} → statement M
+below-spec =
+    tie.close
+    (tie.spec Inv-loop μ-loop (λ c. search needs) (λ c. search needs) (λ c. search needs) (λ c. search needs) (λ c. search needs) (λ c. search needs)
+    (λ c. search needs) (λ c κs. search needs) (λ c. search needs) (λ c κs. search needs) (λ c. search needs) (λ c. search needs) (λ c. search needs)
+    loop-again (λ c κs. search needs) (λ c. search needs))

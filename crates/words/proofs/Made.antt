@@ -1,0 +1,33 @@
+-- What a walk goes by where `prepare` made it. Assumes nothing.
+use mathlib.Core.Path.{_≡_, ap, _∙_}
+use mathlib.Core.List.{List}
+use mathlib.Core.Bool.{Bool}
+use Prim.Native.Nat.{ℕ}
+use Rattle.tokens.specs.Tokens.{anyToken}
+use Rattle.keywords.specs.declared.KeywordSpec.{KeywordSpec}
+use Rattle.keywords.specs.Table.{kept}
+use Rattle.places.specs.Places.{Place, kindOf}
+use Rattle.places.specs.Lent.{kindBy}
+use Rattle.places.specs.declared.Spot.{Spot}
+use Rattle.turns.specs.declared.Motion.{Motion}
+use Rattle.turns.specs.Rounds.{wordMotion}
+use Rattle.turns.specs.Turns.{Folded}
+use Rattle.words.specs.declared.Prepared.{Prepared}
+use Rattle.words.specs.Prepared.{Prepares}
+
+module _ {t : List ℕ} {spec : KeywordSpec} {big : Bool} {rows content : ℕ} {r : Prepared} (made : Prepares t spec big rows content r) where
+  pub made-folded : {folds : List ℕ} {p : Spot} → Folded t folds rows content p → Folded t folds (r .setting .rows) (r .setting .content) p
+  made-folded f =
+      record {
+        good = rw (made .all-rows) (f .good);
+        all-rows = made .all-rows ∙ f .all-rows;
+        content-rows = made .content-rows ∙ f .content-rows;
+        spot = f .spot;
+      }
+
+  pub made-motion : (folds : List ℕ) (m : Motion) (stop : Bool) (count : ℕ) (p : Place) →
+      wordMotion t folds (kindBy (r .bounds) (r .setting)) (r .setting .big) m stop count p ≡
+      wordMotion t folds (kindOf (anyToken (kept spec)) big) big m stop count p
+  made-motion folds m stop count p =
+      ap (λ (kind : ℕ → ℕ). wordMotion t folds kind (r .setting .big) m stop count p) (made .kinds) ∙
+      ap (λ (b : Bool). wordMotion t folds (kindOf (anyToken (kept spec)) big) b m stop count p) (made .is-big)

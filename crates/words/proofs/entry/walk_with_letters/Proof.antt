@@ -1,0 +1,17 @@
+-- `words::entry::walk_with_letters` meets its contract: the const is the table of letters. Assumes nothing.
+use mathlib.Core.Path.{refl}
+use Rattle.letters.specs.Letters.{letters}
+use borrow.Author.Needs.{needs}
+use Rattle.words.proofs.entry.walk_with_letters.Statement.{statement}
+use Rattle.words.proofs.entry.walk_with_letters.Tie as tie
+
+walk-requires : tie.Need-walk-requires
+unfolding letters
+walk-requires c κs =
+    let s = c .before .before .before .before in
+    record { lent = record { room = s .pre .0; lent = λ h. refl }; folded = s .pre .1 }
+
+pub walk-with-letters-spec : {M : Type 1} → statement M
+walk-with-letters-spec =
+    tie.close
+    (tie.spec (λ c. search needs) walk-requires (λ c. search needs))
