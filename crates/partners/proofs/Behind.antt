@@ -1,5 +1,5 @@
--- What the walk back knows: how much deeper the text is where it stands than behind the close it came from, and that no place passed
--- balances it. The depth falls at an open and grows at a close. Assumes nothing.
+-- What the walk back knows: how much deeper the text is where it stands than where it began, and that no place passed opens what was closed
+-- there. The depth falls at an open and grows at a close. Assumes nothing.
 use mathlib.Core.Path.{_≡_, refl, sym, _∙_, ap}
 use mathlib.Core.List.{List}
 use Prim.Native.Nat.{ℕ, suc, _+_, _-_, _≤_, _<_}
@@ -7,68 +7,66 @@ use native.Mathlib.Omega.{arith}
 use lib.ListN.{length, getD}
 use Rattle.scans.specs.declared.Found.the-variants.{At, Nothing}
 use Rattle.scans.specs.Nearest.{lastBelow}
-use Rattle.partners.specs.Matching.{balances, backwardOf}
+use Rattle.partners.specs.Matching.{opensAt, openBelow}
 use Rattle.partners.specs.Walk.{Hands}
 use Rattle.scans.proofs.Nearest.{last-on, last-stop, last-end}
-use Rattle.partners.proofs.Depth.{tally, hit, miss, balances-not, balances-so}
+use Rattle.partners.proofs.Depth.{tally, hit, miss}
+use Rattle.partners.proofs.Deep.{opens-not, opens-so}
 
--- back from the close at j, behind the place i: d closes more than opens from i to j, both counted
-pub record Behind (o c : ℕ) (t : List ℕ) (j i d : ℕ) : Type 0 where
+-- back from j, where e are closed, behind the place i, where d are
+pub record Behind (o c : ℕ) (t : List ℕ) (j e i d : ℕ) : Type 0 where
   pub hands : Hands o c
   pub before : i ≤ j
-  pub inside : j < length t
-  pub ends : getD t j 0 ≡ c
+  pub inside : j ≤ length t
   pub deep : 1 ≤ d
-  pub bound : d + i ≤ suc j
-  pub depth : tally c t (suc j) + tally o t i ≡ tally o t (suc j) + tally c t i + d
-  pub same : backwardOf o c t j ≡ lastBelow (λ m. balances o c t m j) i
+  pub bound : d + i ≤ e + j
+  pub depth : tally c t j + tally o t i + e ≡ tally o t j + tally c t i + d
+  pub same : openBelow o c t j e ≡ lastBelow (opensAt o c t j e) i
 
-pub behind-start : (o c : ℕ) (t : List ℕ) (j : ℕ) → Hands o c → j < length t → getD t j 0 ≡ c → Behind o c t j j 1
-behind-start o c t j u h e =
-    let r = hit c o t j h (λ f. u .differ (sym f)) e in
-    record { hands = u; before = omega arith; inside = h; ends = e; deep = omega arith; bound = omega arith; depth = omega arith; same = refl }
+pub behind-start : (o c : ℕ) (t : List ℕ) (j e : ℕ) → Hands o c → j ≤ length t → 1 ≤ e → Behind o c t j e j e
+behind-start o c t j e u h l =
+    record { hands = u; before = omega arith; inside = h; deep = l; bound = omega arith; depth = omega arith; same = refl }
 
-module _ {o c : ℕ} {t : List ℕ} {j i d : ℕ} (a : Behind o c t j i d) where
-  pub behind-none : i ≤ 0 → backwardOf o c t j ≡ Nothing
-  behind-none h = a .same ∙ last-end (λ m. balances o c t m j) i h
+module _ {o c : ℕ} {t : List ℕ} {j e i d : ℕ} (a : Behind o c t j e i d) where
+  pub behind-none : i ≤ 0 → openBelow o c t j e ≡ Nothing
+  behind-none h = a .same ∙ last-end (opensAt o c t j e) i h
 
   module _ (h : 0 < i) where
     seam : (x : ℕ) → tally x t (suc (i - 1)) ≡ tally x t i
-    seam x = let e : suc (i - 1) ≡ i = omega arith in ap (tally x t) e
+    seam x = let q : suc (i - 1) ≡ i = omega arith in ap (tally x t) q
 
     within : i - 1 < length t
     within = omega (arith, a .before, a .inside)
 
-    -- one place back, where the depth is e
-    prev : (e : ℕ) → 1 ≤ e → e ≤ d + 1 → tally c t (suc j) + tally o t (i - 1) ≡ tally o t (suc j) + tally c t (i - 1) + e → Behind o c t j (i - 1) e
-    prev e p l q =
-        let no = balances-not o c t (i - 1) j (omega (arith, a .before)) (λ v. omega arith) in
+    -- one place back, where the depth is f
+    prev : (f : ℕ) → 1 ≤ f → f ≤ d + 1 → tally c t j + tally o t (i - 1) + e ≡ tally o t j + tally c t (i - 1) + f → Behind o c t j e (i - 1) f
+    prev f p l q =
+        let no = opens-not o c t j e (i - 1) (omega (arith, a .before)) (λ v. omega arith) in
         record {
           hands = a .hands;
           before = omega (arith, a .before);
           inside = a .inside;
-          ends = a .ends;
           deep = p;
           bound = omega (arith, a .bound);
           depth = q;
-          same = a .same ∙ last-on (λ m. balances o c t m j) i h no;
+          same = a .same ∙ last-on (opensAt o c t j e) i h no;
         }
 
-    pub behind-open : getD t (i - 1) 0 ≡ o → (d - 1 ≡ 0 → ⊥) → Behind o c t j (i - 1) (d - 1)
-    behind-open e n =
-        let r = hit o c t (i - 1) within (a .hands .differ) e in
+    pub behind-open : getD t (i - 1) 0 ≡ o → (d - 1 ≡ 0 → ⊥) → Behind o c t j e (i - 1) (d - 1)
+    behind-open x n =
+        let r = hit o c t (i - 1) within (a .hands .differ) x in
         prev (d - 1) (omega arith) (omega arith) (omega (arith, a .depth, seam o, seam c))
 
-    pub behind-close : getD t (i - 1) 0 ≡ c → Behind o c t j (i - 1) (d + 1)
-    behind-close e =
-        let r = hit c o t (i - 1) within (λ f. a .hands .differ (sym f)) e in
+    pub behind-close : getD t (i - 1) 0 ≡ c → Behind o c t j e (i - 1) (d + 1)
+    behind-close x =
+        let r = hit c o t (i - 1) within (λ f. a .hands .differ (sym f)) x in
         prev (d + 1) (omega arith) (omega arith) (omega (arith, a .depth, seam o, seam c))
 
-    pub behind-other : (getD t (i - 1) 0 ≡ o → ⊥) → (getD t (i - 1) 0 ≡ c → ⊥) → Behind o c t j (i - 1) d
-    behind-other e f = let r = miss o c t (i - 1) within e f in prev d (a .deep) (omega arith) (omega (arith, a .depth, seam o, seam c))
+    pub behind-other : (getD t (i - 1) 0 ≡ o → ⊥) → (getD t (i - 1) 0 ≡ c → ⊥) → Behind o c t j e (i - 1) d
+    behind-other x y = let r = miss o c t (i - 1) within x y in prev d (a .deep) (omega arith) (omega (arith, a .depth, seam o, seam c))
 
-    pub behind-found : getD t (i - 1) 0 ≡ o → d - 1 ≡ 0 → backwardOf o c t j ≡ At (i - 1)
-    behind-found e z =
-        let r = hit o c t (i - 1) within (a .hands .differ) e in
-        let so = balances-so o c t (i - 1) j (omega (arith, a .before)) e (a .ends) (omega (arith, a .depth, a .deep, seam o, seam c)) in
-        a .same ∙ last-stop (λ m. balances o c t m j) i h so
+    pub behind-found : getD t (i - 1) 0 ≡ o → d - 1 ≡ 0 → openBelow o c t j e ≡ At (i - 1)
+    behind-found x z =
+        let r = hit o c t (i - 1) within (a .hands .differ) x in
+        let so = opens-so o c t j e (i - 1) (omega (arith, a .before)) x (omega (arith, a .depth, a .deep, seam o, seam c)) in
+        a .same ∙ last-stop (opensAt o c t j e) i h so

@@ -9,7 +9,7 @@ use lib.Dec.{eqb}
 use lib.ListN.{length, getD, take, take-append-drop}
 use lib.Seq.{take-suc, take-take}
 use borrow.Author.Tests.{eq-eqb, ne-eqb, eqb-true}
-use Rattle.partners.specs.Pairs.{count, stretch}
+use Rattle.partners.specs.Pairs.{count, stretch, upTo}
 use Rattle.partners.specs.Matching.{balances}
 use Rattle.scans.proofs.Nearest.{both}
 
@@ -33,9 +33,13 @@ module _ (x : ℕ) (t : List ℕ) where
   pub tally-miss : (k : ℕ) → k < length t → (getD t k 0 ≡ x → ⊥) → tally x t (suc k) ≡ tally x t k
   tally-miss k h e = rw (tally-suc k h, ne-eqb _ _ e) (omega arith)
 
+  pub tally-up-to : (i j : ℕ) → i ≤ j → tally x t j ≡ tally x t i + count x (upTo t i j)
+  unfolding tally upTo
+  tally-up-to i j h = ap (count x) (sym (take-append-drop i (take j t))) ∙ rw (count-append, take-take i j t h)
+
   pub tally-stretch : (i j : ℕ) → i ≤ suc j → tally x t (suc j) ≡ tally x t i + count x (stretch t i j)
-  unfolding tally stretch
-  tally-stretch i j h = ap (count x) (sym (take-append-drop i (take (suc j) t))) ∙ rw (count-append, take-take i (suc j) t h)
+  unfolding upTo stretch
+  tally-stretch i j h = tally-up-to i (suc j) h
 
 -- what a code point does to the counts of two different ones
 module _ (x y : ℕ) (t : List ℕ) (m : ℕ) (h : m < length t) where

@@ -3,7 +3,7 @@
 use mathlib.Core.Path.{_≡_, refl, sym, _∙_, ap, subst}
 use mathlib.Core.Bool.{Bool, true, false, cond}
 use mathlib.Core.List.{List}
-use Prim.Native.Nat.{ℕ}
+use Prim.Native.Nat.{ℕ, _+_}
 use native.Mathlib.Omega.{arith}
 use lib.Dec.{eqb}
 use lib.ListN.{getD}
@@ -15,8 +15,11 @@ use Rattle.signs.specs.declared.Side.the-variants.{Open, Close, Neither}
 use Rattle.partners.specs.declared.Partner.{Partner}
 use Rattle.partners.specs.declared.Partner.the-variants.{None}
 use Rattle.signs.specs.Kinds.{openOf, closeOf, sideOf}
-use Rattle.partners.specs.Matching.{forwardOf, backwardOf, nearestOf, partnerOf, placed}
-use Rattle.partners.specs.Walk.{Hands}
+use Rattle.partners.specs.Matching.{closeFrom, openBelow, nearestOf, partnerOf, placed}
+use Rattle.partners.specs.Walk.{Starts, Goes, Hands}
+use Rattle.text.specs.declared.Line.{Line}
+use Rattle.text.proofs.Stands.{step-char}
+use Rattle.partners.proofs.Deep.{forward-deep, backward-deep}
 
 pub side-open : (k : Kind) → sideOf (openOf k) ≡ Open k
 unfolding sideOf
@@ -81,22 +84,37 @@ hands Curly = record { differ = differ Curly; open-char = λ e. omega arith; clo
 hands Angle = record { differ = differ Angle; open-char = λ e. omega arith; close-char = λ e. omega arith }
 
 -- what `partner` hands to the walks, and what it makes of their answers
-module _ (t : List ℕ) (i : ℕ) (k : Kind) {o c : ℕ} (p : o ≡ openOf k) (q : c ≡ closeOf k) where
+module _ (t : List ℕ) (i : ℕ) {l : Line} (s : Starts t l i) (k : Kind) {o c : ℕ} (p : o ≡ openOf k) (q : c ≡ closeOf k) where
   module _ (e : sideOf (getD t i 0) ≡ Open k) where
-    pub open-asked : Hands o c × (getD t i 0 ≡ o)
-    open-asked = (rw (p, q) (hands k), subst (SideIs (getD t i 0)) e (side-told (getD t i 0)) ∙ sym p)
+    opens : getD t i 0 ≡ o
+    opens = subst (SideIs (getD t i 0)) e (side-told (getD t i 0)) ∙ sym p
 
-    pub open-answer : {r : Partner} → r ≡ placed t (forwardOf o c t i) → r ≡ placed t (partnerOf t i)
+    pub open-asked : Goes t (l .row) (l .start) (i + 1) 1 × Hands o c
+    open-asked =
+        let u : Hands o c = rw (p, q) (hands k) in (
+          record {
+            stands = step-char (s .stands) (s .inside) (λ n. u .open-char (sym opens ∙ n));
+            short = s .short;
+            deep = omega arith;
+            bound = omega arith;
+          },
+          u,
+        )
+
+    pub open-answer : {r : Partner} → r ≡ placed t (closeFrom o c t (i + 1) 1) → r ≡ placed t (partnerOf t i)
     unfolding nearestOf
-    open-answer h = h ∙ rw (p, q, e)
+    open-answer h = h ∙ ap (placed t) (sym (forward-deep o c t (rw (p, q) (hands k)) i (s .inside) opens)) ∙ rw (p, q, e)
 
   module _ (e : sideOf (getD t i 0) ≡ Close k) where
-    pub close-asked : Hands o c × (getD t i 0 ≡ c)
-    close-asked = (rw (p, q) (hands k), subst (SideIs (getD t i 0)) e (side-told (getD t i 0)) ∙ sym q)
+    closes : getD t i 0 ≡ c
+    closes = subst (SideIs (getD t i 0)) e (side-told (getD t i 0)) ∙ sym q
 
-    pub close-answer : {r : Partner} → r ≡ placed t (backwardOf o c t i) → r ≡ placed t (partnerOf t i)
+    pub close-asked : Goes t (l .row) (l .start) i 1 × Hands o c
+    close-asked = (record { stands = s .stands; short = s .short; deep = omega arith; bound = omega arith }, rw (p, q) (hands k))
+
+    pub close-answer : {r : Partner} → r ≡ placed t (openBelow o c t i 1) → r ≡ placed t (partnerOf t i)
     unfolding nearestOf
-    close-answer h = h ∙ rw (p, q, e)
+    close-answer h = h ∙ ap (placed t) (sym (backward-deep o c t (rw (p, q) (hands k)) i (s .inside) closes)) ∙ rw (p, q, e)
 
 pub no-answer : (t : List ℕ) (i : ℕ) → sideOf (getD t i 0) ≡ Neither → None ≡ placed t (partnerOf t i)
 unfolding nearestOf placed

@@ -15,7 +15,7 @@ use Rattle.partners.specs.declared.Partner.{Partner}
 use Rattle.partners.specs.declared.Partner.the-variants.{There, None}
 use Rattle.signs.specs.Kinds.{openOf, closeOf, sideOf}
 use Rattle.scans.specs.Nearest.{firstIn, lastBelow}
-use Rattle.partners.specs.Pairs.{count, stretch}
+use Rattle.partners.specs.Pairs.{count, stretch, upTo}
 
 -- the open o at i and the close c at j, with as many opens as closes from i to j
 abbrev pub balances : ℕ → ℕ → List ℕ → ℕ → ℕ → Bool
@@ -27,6 +27,21 @@ forwardOf o c t i = firstIn (balances o c t i) (i + 1) (length t)
 
 abbrev pub backwardOf : ℕ → ℕ → List ℕ → ℕ → Found
 backwardOf o c t j = lastBelow (λ i. balances o c t i j) j
+
+-- a walk on from any place and depth: with d opens of which none is closed before i, the first close from i on that closes the first of them; and
+-- back, with d closes from j on, the last open below j that opens the last of them. Depth 1 behind a bracket leads to its partner: `forward-deep`
+-- and `backward-deep` of `proofs/Deep.antt`
+abbrev pub closesAt : ℕ → ℕ → List ℕ → ℕ → ℕ → ℕ → Bool
+closesAt o c t i d j = eqb (getD t j 0) c && eqb (count o (stretch t i j) + d) (count c (stretch t i j))
+
+abbrev pub closeFrom : ℕ → ℕ → List ℕ → ℕ → ℕ → Found
+closeFrom o c t i d = firstIn (closesAt o c t i d) i (length t)
+
+abbrev pub opensAt : ℕ → ℕ → List ℕ → ℕ → ℕ → ℕ → Bool
+opensAt o c t j d i = eqb (getD t i 0) o && eqb (count o (upTo t i j)) (count c (upTo t i j) + d)
+
+abbrev pub openBelow : ℕ → ℕ → List ℕ → ℕ → ℕ → Found
+openBelow o c t j d = lastBelow (opensAt o c t j d) j
 
 -- the partner of what stands at i, by its side
 unfoldable pub nearestOf : Side → List ℕ → ℕ → Found

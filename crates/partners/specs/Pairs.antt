@@ -14,3 +14,7 @@ count x (y ∷ rest) = cond (eqb y x) 1 0 + count x rest
 -- the text from i to j, both ends counted
 unfoldable pub stretch : List ℕ → ℕ → ℕ → List ℕ
 stretch t i j = drop i (take (suc j) t)
+
+-- the text from i up to j, j not counted
+unfoldable pub upTo : List ℕ → ℕ → ℕ → List ℕ
+upTo t i j = drop i (take j t)

@@ -13,6 +13,13 @@ pub record Starts (t : List ℕ) (l : Line) (at : ℕ) : Type 0 where
   pub inside : at < length t
   pub short : length t ≤ 1048576
 
+-- an offset of a short text from which a walk goes on, with so many brackets open
+pub record Goes (t : List ℕ) (row start at depth : ℕ) : Type 0 where
+  pub stands : Stands t row start at
+  pub short : length t ≤ 1048576
+  pub deep : 1 ≤ depth
+  pub bound : depth ≤ 1048576
+
 -- two different brackets, neither of them a separator
 pub record Hands (o c : ℕ) : Type 0 where
   pub differ : o ≡ c → ⊥

@@ -7,19 +7,20 @@ use signs::kinds;
 use text::Line;
 ghost use mathlib.Core.Path.{_≡_};
 ghost use Prim.Native.Nat.{_-_, _≤_};
-ghost use lib.ListN.{getD};
-ghost use Rattle.partners.specs.Matching.{forwardOf, backwardOf, partnerOf, placed};
-ghost use Rattle.partners.specs.Walk.{Starts, Hands};
+ghost use Rattle.partners.specs.Matching.{closeFrom, openBelow, partnerOf, placed};
+ghost use Rattle.partners.specs.Walk.{Starts, Goes, Hands};
 
-// The partner of the open bracket at i, a place of the row `l`: the Rust's walk forward.
-fn match_forward(t: &[u32], l: Line, i: usize, opening: u32, closing: u32) -> Partner
-    requires { ⌜ Starts (now t) l i × Hands opening closing × (getD (now t) i 0 ≡ opening) ⌝ }
-    ensures { λ r. ⌜ r ≡ placed (now (t .entry)) (forwardOf opening closing (now (t .entry)) i) ⌝ }
+// The Rust's walk forward, from an offset `at` of the row `l`: where the first of the `deep`
+// brackets that are open there is closed.
+fn match_forward(t: &[u32], l: Line, at: usize, deep: usize, opening: u32, closing: u32) -> Partner
+    requires { ⌜ Goes (now t) (l .row) (l .start) at deep × Hands opening closing ⌝ }
+    ensures { λ r. ⌜ r ≡ placed (now (t .entry))
+        (closeFrom opening closing (now (t .entry)) at deep) ⌝ }
 {
-    let mut depth: usize = 1; // the bracket at i
+    let mut depth = deep;
     let mut row = l.row;
     let mut start = l.start;
-    let mut j = i + 1;
+    let mut j = at;
     while j < t.len() {
         let x = t[j];
         if x == closing {
@@ -42,14 +43,16 @@ fn match_forward(t: &[u32], l: Line, i: usize, opening: u32, closing: u32) -> Pa
     Partner::None
 }
 
-// The partner of the close bracket at j, a place of the row `l`: the Rust's walk back.
-fn match_backward(t: &[u32], l: Line, j: usize, opening: u32, closing: u32) -> Partner
-    requires { ⌜ Starts (now t) l j × Hands opening closing × (getD (now t) j 0 ≡ closing) ⌝ }
-    ensures { λ r. ⌜ r ≡ placed (now (t .entry)) (backwardOf opening closing (now (t .entry)) j) ⌝ }
+// The Rust's walk back, from an offset `at` of the row `l`: where the last of the `deep` brackets
+// that are closed from there on is opened.
+fn match_backward(t: &[u32], l: Line, at: usize, deep: usize, opening: u32, closing: u32) -> Partner
+    requires { ⌜ Goes (now t) (l .row) (l .start) at deep × Hands opening closing ⌝ }
+    ensures { λ r. ⌜ r ≡ placed (now (t .entry))
+        (openBelow opening closing (now (t .entry)) at deep) ⌝ }
 {
-    let mut depth: usize = 1; // the bracket at j
+    let mut depth = deep;
     let mut row = l.row;
-    let mut i = j;
+    let mut i = at;
     while i > 0 {
         let b = i - 1;
         let x = t[b];
@@ -92,8 +95,8 @@ pub fn partner(t: &[u32], l: Line, at: usize) -> Partner
 {
     let s = kinds::side_of(t[at]);
     match s {
-        Side::Open(k) => match_forward(t, l, at, kinds::open_code(k), kinds::close_code(k)),
-        Side::Close(k) => match_backward(t, l, at, kinds::open_code(k), kinds::close_code(k)),
+        Side::Open(k) => match_forward(t, l, at + 1, 1, kinds::open_code(k), kinds::close_code(k)),
+        Side::Close(k) => match_backward(t, l, at, 1, kinds::open_code(k), kinds::close_code(k)),
         Side::Neither => Partner::None,
     }
 }

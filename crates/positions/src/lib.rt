@@ -9,8 +9,8 @@ pub struct Position {
     pub col: usize,
 }
 
-// What the checks of a call find out: its refusal, where the position's row starts, and how many rows
-// the text has and how many have content. The numbers are 0 beside a refusal.
+// What the checks of a call find out: its refusal, where the position's row starts, how many rows
+// the text has, and how many have content. The numbers are 0 beside a refusal.
 pub struct Entry {
     pub refusal: u32,
     pub start: usize,

@@ -45,3 +45,18 @@ module _ (p : ℕ → Bool) where
   pub last-end : (i : ℕ) → i ≤ 0 → lastBelow p i ≡ Nothing
   unfolding lastBelow
   last-end i h = let e : i ≡ 0 = omega arith in rw e
+
+-- two tests that agree where they are asked
+module _ (p q : ℕ → Bool) where
+  from-same : (i n : ℕ) → ((m : ℕ) → i ≤ m → m < i + n → p m ≡ q m) → firstFrom p i n ≡ firstFrom q i n
+  unfolding firstFrom
+  from-same i zero h = refl
+  from-same i (suc n) h = rw (h i (omega arith) (omega arith), from-same (suc i) n (λ m l b. h m (omega arith) (omega arith)))
+
+  pub first-same : (i b : ℕ) → ((m : ℕ) → i ≤ m → m < b → p m ≡ q m) → firstIn p i b ≡ firstIn q i b
+  first-same i b h = from-same i (b - i) (λ m l u. h m l (omega arith))
+
+  pub last-same : (b : ℕ) → ((m : ℕ) → m < b → p m ≡ q m) → lastBelow p b ≡ lastBelow q b
+  unfolding lastBelow
+  last-same zero h = refl
+  last-same (suc b) h = rw (h b (omega arith), last-same b (λ m l. h m (omega arith)))

@@ -19,7 +19,7 @@ pub enum Counted {
     Refused(u32),
 }
 
-// How many separators a part of a text has. The arms are alike but for the sum, so that the compiler
+// How many separators a part of a text has. The loop leaves by its end alone, so that the compiler
 // reads many code points at a time.
 pub fn separators(part: &[u32]) -> usize
     ensures { λ r. ⌜ (r + 1 ≡ rowCount (now (part .entry))) × (r ≤ length (now (part .entry))) ⌝ }
@@ -44,7 +44,7 @@ pub fn row_count(t: &[u32]) -> usize
     separators(t) + 1
 }
 
-// How many rows have content, in a text of so many rows: all but an empty last row that isn't row 0.
+// How many rows have content in a text of so many rows: all but an empty last row that isn't row 0.
 pub fn content_of(t: &[u32], rows: usize) -> usize
     requires { ⌜ rows ≡ rowCount (now t) ⌝ }
     ensures { λ r. ⌜ r ≡ contentRows (now (t .entry)) ⌝ }

@@ -68,8 +68,8 @@ pub fn down(t: &[u32], from: Line, n: usize) -> Line
     below(t, from.row, from.start, from.row + n)
 }
 
-// The row n rows above row `row`, or row 0 where there are fewer: a walk back from the offset `at` of
-// that one.
+// The row n rows above row `row`, or row 0 where there are fewer: a walk back from the offset `at`
+// of that one.
 fn walk_up(t: &[u32], row: usize, at: usize, n: usize) -> Line
     requires { ⌜ Stands (now t) row (rowStart (now t) row) at ⌝ }
     ensures { λ r. ⌜ r ≡ lineAt (now (t .entry)) (row - n) ⌝ }
@@ -174,8 +174,8 @@ pub fn line_at(t: &[u32], row: usize) -> Line
     row_line(t, rows, least(row, rows - 1))
 }
 
-// Row `to` of the text, sought from row `row`, which has the offset `at`: only what lies between them
-// is read.
+// Row `to` of the text, sought from row `row`, which has the offset `at`: only what lies between
+// them is read.
 pub fn line_to(t: &[u32], row: usize, at: usize, to: usize) -> Line
     requires { ⌜ Stands (now t) row (rowStart (now t) row) at × (to < rowCount (now t)) ⌝ }
     ensures { λ r. ⌜ r ≡ lineAt (now (t .entry)) to ⌝ }

@@ -29,7 +29,8 @@ fn rest(count: u32) -> u32
     count - 1
 }
 
-// A motion, by bounds, a table of letters and a setting that were made before. `stop` holds in the first round alone.
+// A motion, by bounds, a table of letters and a setting that were made before. `stop` holds in the
+// first round alone.
 pub fn walk(
     t: &[u32],
     folds: &[u32],

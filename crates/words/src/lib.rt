@@ -11,8 +11,8 @@ pub use entry::walk;
 pub use entry::word_motion;
 pub use once::prepare;
 
-// What the walks of a text and a keyword list go by: the bounds of the list's table, the setting, and
-// whether the text has a code point for which the table of letters is read.
+// What the walks of a text and a keyword list go by: the bounds of the list's table, the setting,
+// and whether the text has a code point for which the table of letters is read.
 pub struct Prepared {
     pub bounds: [u32; 256],
     pub setting: Setting,

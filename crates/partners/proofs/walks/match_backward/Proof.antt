@@ -1,5 +1,5 @@
--- `partners::walks::match_backward` meets its contract. The invariant of its loop: the depth at i over that behind j is `depth`, no place passed
--- balances the bracket at j, and i stands in row `row`. The measure is i. Assumes nothing.
+-- `partners::walks::match_backward` meets its contract. The invariant of its loop: `depth` are closed from i on, no place passed opens what was
+-- closed, and i stands in row `row`. The measure is i. Assumes nothing.
 use Prim.Native.Nat.{_-_, _≤_}
 use mathlib.Core.Path.{sym, _∙_}
 use native.Mathlib.Omega.{arith}
@@ -13,13 +13,16 @@ use Rattle.partners.proofs.walks.match_backward.Statement.{statement}
 use Rattle.partners.proofs.walks.match_backward.Tie as tie
 
 abbrev Inv-loop : tie.InvT-loop
-Inv-loop t j opening closing depth₀ row₀ i₀ depth row i = Behind opening closing t j i depth × Stands t row (rowStart t row) i × (length t ≤ 1048576)
+Inv-loop t at deep opening closing depth₀ row₀ i₀ depth row i =
+    Behind opening closing t at deep i depth × Stands t row (rowStart t row) i × (length t ≤ 1048576) × (deep ≤ 1048576)
 
 abbrev μ-loop : tie.MeasureT-loop
-μ-loop t j opening closing depth₀ row₀ i₀ depth row i = i
+μ-loop t at deep opening closing depth₀ row₀ i₀ depth row i = i
 
 loop-holds : tie.Need-loop-holds Inv-loop μ-loop
-loop-holds c = let p = c .before .pre in (behind-start _ _ _ _ (p .1) (p .0 .inside) (p .2), stands-own (p .0 .stands), p .0 .short)
+loop-holds c =
+    let p = c .before .pre in
+    (behind-start _ _ _ _ _ (p .1) (p .0 .stands .within) (p .0 .deep), stands-own (p .0 .stands), p .0 .short, p .0 .bound)
 
 -- the open that brings the depth to none, in its row
 met : (c : tie.Then2 Inv-loop μ-loop) → let k = c .before .before .before .before in
@@ -47,7 +50,7 @@ loop-again c =
     let v = k .before .loop .inv in
     let h = k .loop-test .taken in
     let e = c .before .if1 .taken in
-    (behind-open (v .0) h e (c .if2 .left), back-char (v .1) h (λ f. v .0 .hands .open-char (sym e ∙ f)), v .2)
+    (behind-open (v .0) h e (c .if2 .left), back-char (v .1) h (λ f. v .0 .hands .open-char (sym e ∙ f)), v .2, v .3)
 
 -- another close
 loop-again-2 : tie.Need-loop-again-2 Inv-loop μ-loop
@@ -55,7 +58,7 @@ loop-again-2 c =
     let k = c .before .before .before in
     let v = k .before .loop .inv in
     let h = k .loop-test .taken in
-    (behind-close (v .0) h (c .if3 .taken), back-char (v .1) h (λ f. v .0 .hands .close-char (sym (c .if3 .taken) ∙ f)), v .2)
+    (behind-close (v .0) h (c .if3 .taken), back-char (v .1) h (λ f. v .0 .hands .close-char (sym (c .if3 .taken) ∙ f)), v .2, v .3)
 
 -- a separator
 sub-row : tie.Need-sub-row Inv-loop μ-loop
@@ -68,7 +71,7 @@ loop-again-3 c =
     let k = c .before .before .before .before in
     let v = k .before .loop .inv in
     let h = k .loop-test .taken in
-    (behind-other (v .0) h (c .before .before .if1 .left) (c .before .if3 .left), back-nl (v .1) h (c .if4 .taken) .2, v .2)
+    (behind-other (v .0) h (c .before .before .if1 .left) (c .before .if3 .left), back-nl (v .1) h (c .if4 .taken) .2, v .2, v .3)
 
 -- any other code point
 loop-again-4 : tie.Need-loop-again-4 Inv-loop μ-loop
@@ -76,7 +79,7 @@ loop-again-4 c =
     let k = c .before .before .before .before in
     let v = k .before .loop .inv in
     let h = k .loop-test .taken in
-    (behind-other (v .0) h (c .before .before .if1 .left) (c .before .if3 .left), back-char (v .1) h (c .if4 .left), v .2)
+    (behind-other (v .0) h (c .before .before .if1 .left) (c .before .if3 .left), back-char (v .1) h (c .if4 .left), v .2, v .3)
 
 returns-2 : tie.Need-returns-2 Inv-loop μ-loop
 returns-2 c = placed-none (c .before .before .before .args .t .now) (behind-none (c .before .loop .inv .0) (c .loop-test .left))
