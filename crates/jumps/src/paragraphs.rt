@@ -21,7 +21,7 @@ pub fn paragraph_prev(t: &[u32], p: Position, e: Entry, count: u32) -> Position
         row: p.row,
         start: e.start,
     };
-    let last = text::content_rows(t) - 1;
+    let last = e.content - 1;
     match find_paragraph(t, false, last, from, most(count as usize, 1)) {
         Paragraph::At(l) => Position { row: l.row, col: 0 },
         Paragraph::Nothing => p,
@@ -53,7 +53,7 @@ pub fn paragraph_next(t: &[u32], p: Position, e: Entry, count: u32) -> Position
         row: p.row,
         start: e.start,
     };
-    let last = text::content_rows(t) - 1;
+    let last = e.content - 1;
     match find_paragraph(t, true, last, from, most(count as usize, 1)) {
         Paragraph::At(l) => down_at(t, p, last, l),
         Paragraph::Nothing => p,

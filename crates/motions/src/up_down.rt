@@ -41,6 +41,8 @@ impl Caret {
             &chars::DOUBLE_WIDTH,
             t,
             folds,
+            e.rows,
+            e.content,
             l,
             self.col as usize,
             s,

@@ -15,7 +15,7 @@ impl Caret {
         if e.refusal != 0 {
             return Moved::Refused(e.refusal);
         }
-        let l = vertical::viewport::viewport_line(t, edge, top, height, offset);
+        let l = vertical::viewport::viewport_line(t, e.rows, e.content, edge, top, height, offset);
         let q = jumps::rows::at_line(t, l);
         Moved::To(self.placed(q.row, q.col))
     }

@@ -8,7 +8,7 @@ use text::minus;
 ghost use mathlib.Core.Path.{_≡_};
 ghost use mathlib.Core.Bool.{cond};
 ghost use Prim.Native.Nat.{_≤_, _<_};
-ghost use Rattle.text.specs.Text.{rowCount};
+ghost use Rattle.text.specs.Text.{rowCount, contentRows};
 ghost use Rattle.text.specs.Offsets.{IsLine};
 ghost use Rattle.folds.specs.Folds.{foldRefusal};
 ghost use Rattle.screen.specs.Screen.{jumped, jumpedTo};
@@ -45,14 +45,22 @@ fn jump_to(t: &[u32], l: Line, col: usize, row: usize) -> Jump
 }
 
 // From a closed fold to its last row, or upwards to its first; elsewhere the place stays.
-pub fn jump(t: &[u32], folds: &[u32], rows: usize, down: bool, l: Line, col: usize) -> Jump
+pub fn jump(
+    t: &[u32],
+    folds: &[u32],
+    rows: usize,
+    content: usize,
+    down: bool,
+    l: Line,
+    col: usize,
+) -> Jump
     requires { ⌜ (rows ≡ rowCount (now t)) × (foldRefusal (now folds) rows ≡ 0) × IsLine (now t) l ×
-        (col ≤ 1048576) ⌝ }
+        (col ≤ 1048576) × (content ≡ contentRows (now t)) ⌝ }
     ensures { λ r. ⌜ JumpedTo (now (t .entry))
         (jumped (now (t .entry)) (now (folds .entry)) down (record { row = l .row; col = col }))
         r ⌝ }
 {
-    match folds::closed_fold_at(folds, rows, text::content_rows(t), l.row) {
+    match folds::closed_fold_at(folds, rows, content, l.row) {
         Span::Of(first, last) => jump_to(t, l, col, pick(down, last, first)),
         Span::NoSpan => Jump {
             row: l.row,

@@ -11,6 +11,7 @@ use wrap::Wrap;
 ghost use mathlib.Core.Path.{_≡_};
 ghost use Prim.Native.Nat.{_<_};
 ghost use Rattle.chars.specs.Width.{widthBy, Widths};
+ghost use Rattle.text.specs.Text.{rowCount, contentRows};
 ghost use Rattle.vertical.specs.Moves.{Accepted};
 ghost use Rattle.screen.specs.Screen.{screenTarget, moveScreen};
 ghost use Rattle.segments.specs.Parts.{layOf};
@@ -21,6 +22,8 @@ fn move_broken(
     doubles: &[u32],
     t: &[u32],
     folds: &[u32],
+    rows: usize,
+    content: usize,
     l: Line,
     col: usize,
     sticky: Sticky,
@@ -31,15 +34,15 @@ fn move_broken(
     word: bool,
 ) -> Target
     requires { ⌜ Widths (now zeros) (now doubles) × (0 < width) ⌝ }
-    requires { ⌜ Accepted (now t) (now folds) l col tabstop ⌝ }
+    requires { ⌜ Accepted (now t) (now folds) l col tabstop × (rows ≡ rowCount (now t)) ×
+        (content ≡ contentRows (now t)) ⌝ }
     ensures { λ r. ⌜ r ≡ screenTarget (widthBy (now (zeros .entry)) (now (doubles .entry)))
         (now (t .entry)) (now (folds .entry)) tabstop
         (layOf (widthBy (now (zeros .entry)) (now (doubles .entry))) word width) down count
         (l .row) col sticky ⌝ }
 {
     let want = moves::wanted(zeros, doubles, t, folds, l, col, sticky, tabstop);
-    let rows = text::row_count(t);
-    let j = out_of_folds::jump(t, folds, rows, down, l, col);
+    let j = out_of_folds::jump(t, folds, rows, content, down, l, col);
     let m = Line {
         row: j.row,
         start: j.start,
@@ -73,6 +76,8 @@ pub fn move_screen(
     doubles: &[u32],
     t: &[u32],
     folds: &[u32],
+    rows: usize,
+    content: usize,
     l: Line,
     col: usize,
     sticky: Sticky,
@@ -83,7 +88,8 @@ pub fn move_screen(
     width: u16,
 ) -> Target
     requires { ⌜ Widths (now zeros) (now doubles) ⌝ }
-    requires { ⌜ Accepted (now t) (now folds) l col tabstop ⌝ }
+    requires { ⌜ Accepted (now t) (now folds) l col tabstop × (rows ≡ rowCount (now t)) ×
+        (content ≡ contentRows (now t)) ⌝ }
     ensures { λ r. ⌜ r ≡ moveScreen (widthBy (now (zeros .entry)) (now (doubles .entry)))
         (now (t .entry)) (now (folds .entry)) tabstop mode width down count (l .row) col sticky ⌝ }
 {
@@ -94,6 +100,7 @@ pub fn move_screen(
             doubles,
             t,
             folds,
+            rows,
             l,
             col,
             sticky,
@@ -108,6 +115,7 @@ pub fn move_screen(
             doubles,
             t,
             folds,
+            rows,
             l,
             col,
             sticky,
@@ -120,6 +128,8 @@ pub fn move_screen(
             doubles,
             t,
             folds,
+            rows,
+            content,
             l,
             col,
             sticky,
@@ -134,6 +144,8 @@ pub fn move_screen(
             doubles,
             t,
             folds,
+            rows,
+            content,
             l,
             col,
             sticky,

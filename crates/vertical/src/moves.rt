@@ -11,6 +11,8 @@ ghost use lib.IntN.{negℤ};
 ghost use mir.Syntax.{w64};
 ghost use mir.Val.{SFits};
 ghost use Rattle.chars.specs.Width.{widthBy, Widths};
+ghost use Rattle.text.specs.Text.{rowCount};
+ghost use Rattle.text.specs.Offsets.{IsLine};
 ghost use Rattle.visible.specs.Visible.{deltaOf};
 ghost use Rattle.vertical.specs.Moves.{Accepted, AcceptedRow, wantedCol, aimedCol};
 ghost use Rattle.vertical.specs.Moves.{moveVertical};
@@ -41,12 +43,22 @@ pub fn wanted(
 }
 
 // The column of a row that holds a visual column, or the row's last one.
-fn aimed(zeros: &[u32], doubles: &[u32], t: &[u32], row: usize, want: u32, tabstop: u32) -> usize
+fn aimed(
+    zeros: &[u32],
+    doubles: &[u32],
+    t: &[u32],
+    rows: usize,
+    from: Line,
+    row: usize,
+    want: u32,
+    tabstop: u32,
+) -> usize
     requires { ⌜ Widths (now zeros) (now doubles) × AcceptedRow (now t) row tabstop ⌝ }
+    requires { ⌜ IsLine (now t) from × (rows ≡ rowCount (now t)) ⌝ }
     ensures { λ r. ⌜ r ≡ aimedCol (widthBy (now (zeros .entry)) (now (doubles .entry)))
         (now (t .entry)) tabstop want row ⌝ }
 {
-    let l = text::offsets::line_at(t, row);
+    let l = text::offsets::line_from(t, rows, from, row);
     let line = text::offsets::row(t, l);
     let c = columns::char_col_in(zeros, doubles, line, want, tabstop);
     least(c as usize, minus(line.len(), 1))
@@ -58,6 +70,7 @@ fn move_vertical(
     doubles: &[u32],
     t: &[u32],
     folds: &[u32],
+    rows: usize,
     l: Line,
     col: usize,
     sticky: Sticky,
@@ -66,12 +79,13 @@ fn move_vertical(
 ) -> Target
     requires { ⌜ Widths (now zeros) (now doubles) ⌝ }
     requires { ⌜ Accepted (now t) (now folds) l col tabstop × SFits w64 (negℤ delta) ⌝ }
+    requires { ⌜ rows ≡ rowCount (now t) ⌝ }
     ensures { λ r. ⌜ r ≡ moveVertical (widthBy (now (zeros .entry)) (now (doubles .entry)))
         (now (t .entry)) (now (folds .entry)) tabstop delta (l .row) col sticky ⌝ }
 {
     let want = wanted(zeros, doubles, t, folds, l, col, sticky, tabstop);
     let from = l.row;
-    let row = rows::vertical_row(folds, text::row_count(t), from, delta);
+    let row = rows::vertical_row(folds, rows, from, delta);
     if row == from {
         return Target {
             row: from,
@@ -79,7 +93,7 @@ fn move_vertical(
             want: want,
         };
     }
-    let c = aimed(zeros, doubles, t, row, want, tabstop);
+    let c = aimed(zeros, doubles, t, rows, l, row, want, tabstop);
     Target {
         row: row,
         col: c,
@@ -93,6 +107,7 @@ pub fn move_rows(
     doubles: &[u32],
     t: &[u32],
     folds: &[u32],
+    rows: usize,
     l: Line,
     col: usize,
     sticky: Sticky,
@@ -101,7 +116,7 @@ pub fn move_rows(
     tabstop: u32,
 ) -> Target
     requires { ⌜ Widths (now zeros) (now doubles) ⌝ }
-    requires { ⌜ Accepted (now t) (now folds) l col tabstop ⌝ }
+    requires { ⌜ Accepted (now t) (now folds) l col tabstop × (rows ≡ rowCount (now t)) ⌝ }
     ensures { λ r. ⌜ r ≡ moveVertical (widthBy (now (zeros .entry)) (now (doubles .entry)))
         (now (t .entry)) (now (folds .entry)) tabstop (deltaOf down count) (l .row) col sticky ⌝ }
 {
@@ -110,6 +125,7 @@ pub fn move_rows(
         doubles,
         t,
         folds,
+        rows,
         l,
         col,
         sticky,

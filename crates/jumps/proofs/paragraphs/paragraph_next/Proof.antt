@@ -12,17 +12,17 @@ use Rattle.jumps.proofs.paragraphs.paragraph_next.Statement.{statement}
 use Rattle.jumps.proofs.paragraphs.paragraph_next.Tie as tie
 
 sub-last : tie.Need-sub-last
-sub-last c = omega (arith, c .content-rows .ensures, content-near (c .before .before .args .t .now))
+sub-last c = let s = c .before .before in omega (arith, s .pre .content-rows, content-near (s .args .t .now))
 
 find-paragraph-requires : tie.Need-find-paragraph-requires
 find-paragraph-requires c κs =
     let s = c .before .before .before in
-    (s .pre .line, ap (λ (n : ℕ). n - 1) (c .before .content-rows .ensures), omega (arith, c .most .ensures), s .pre .brief)
+    (s .pre .line, ap (λ (n : ℕ). n - 1) (s .pre .content-rows), omega (arith, c .most .ensures), s .pre .brief)
 
 down-at-requires : tie.Need-down-at-requires
 down-at-requires c κs =
     let f = c .before .before .before in
-    (rw (c .before .l .given .1) at (f .find-paragraph .ensures .1), ap (λ (n : ℕ). n - 1) (f .before .before .content-rows .ensures))
+    (rw (c .before .l .given .1) at (f .find-paragraph .ensures .1), ap (λ (n : ℕ). n - 1) (f .before .before .before .before .pre .content-rows))
 
 returns : tie.Need-returns
 returns c =
@@ -40,5 +40,5 @@ returns-2 c =
 pub paragraph-next-spec : {M : Type 1} → statement M
 paragraph-next-spec =
     tie.close
-    (tie.spec (λ c κs. search needs) sub-last (λ c κs. search needs) find-paragraph-requires (λ c. search needs) down-at-requires
+    (tie.spec sub-last (λ c κs. search needs) find-paragraph-requires (λ c. search needs) down-at-requires
     (λ c. search needs) returns returns-2)

@@ -12,12 +12,12 @@ use Rattle.jumps.proofs.paragraphs.paragraph_prev.Statement.{statement}
 use Rattle.jumps.proofs.paragraphs.paragraph_prev.Tie as tie
 
 sub-last : tie.Need-sub-last
-sub-last c = omega (arith, c .content-rows .ensures, content-near (c .before .before .args .t .now))
+sub-last c = let s = c .before .before in omega (arith, s .pre .content-rows, content-near (s .args .t .now))
 
 find-paragraph-requires : tie.Need-find-paragraph-requires
 find-paragraph-requires c κs =
     let s = c .before .before .before in
-    (s .pre .line, ap (λ (n : ℕ). n - 1) (c .before .content-rows .ensures), omega (arith, c .most .ensures), s .pre .brief)
+    (s .pre .line, ap (λ (n : ℕ). n - 1) (s .pre .content-rows), omega (arith, c .most .ensures), s .pre .brief)
 
 returns : tie.Need-returns
 returns c =
@@ -34,4 +34,4 @@ returns-2 c =
 pub paragraph-prev-spec : {M : Type 1} → statement M
 paragraph-prev-spec =
     tie.close
-    (tie.spec (λ c κs. search needs) sub-last (λ c κs. search needs) find-paragraph-requires (λ c. search needs) (λ c. search needs) returns returns-2)
+    (tie.spec sub-last (λ c κs. search needs) find-paragraph-requires (λ c. search needs) (λ c. search needs) returns returns-2)

@@ -18,6 +18,13 @@ returns c =
     let a = n .before .before .args in
     refused (a .t .now) (a .self) _ (n .enter .ensures) _ (c .if1 .taken)
 
+viewport-line-requires : tie.Need-viewport-line-requires
+viewport-line-requires c κs =
+    let n = c .before .before in
+    let a = n .before .before .args in
+    let ok = entered (a .t .now) (here (a .self)) _ (n .enter .ensures) (c .if1 .left) in
+    (ok .all-rows, ok .content-rows)
+
 at-line-requires : tie.Need-at-line-requires
 at-line-requires c κs =
     let n = c .before .before .before in
@@ -43,4 +50,4 @@ returns-2 c =
     (c .placed .ensures ∙ ap (put (a .self)) (c .before .at-line .ensures ∙ ap (λ (l : Line). atRow (a .t .now) (l .row)) (v .viewport-line .ensures)))
 
 pub to-edge-spec : {M : Type 1} → statement M
-to-edge-spec = tie.close (tie.spec (λ c κs. search needs) returns (λ c κs. search needs) at-line-requires placed-requires returns-2)
+to-edge-spec = tie.close (tie.spec (λ c κs. search needs) returns viewport-line-requires at-line-requires placed-requires returns-2)

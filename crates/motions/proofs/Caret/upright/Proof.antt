@@ -7,6 +7,8 @@ use Prim.Native.Nat.{ℕ}
 use Rattle.chars.specs.Width.{zeroWidths, doubleWidths}
 use Rattle.chars.proofs.Lent.{by-width, widths-lent}
 use Rattle.screen.specs.Screen.{moveScreen}
+use Rattle.positions.proofs.Entered.{folds-entered}
+use Rattle.motions.specs.Carets.{here}
 use Rattle.motions.specs.UpDown.{stopRefusal}
 use Rattle.motions.proofs.Refusing.{refused-first, refused-last, refused-none}
 use Rattle.motions.proofs.Upright.{stop-refused, stop-fits, upright-ready, target-fits, target-caret}
@@ -32,9 +34,14 @@ unfolding zeroWidths doubleWidths
 move-screen-requires c κs =
     let s = c .before .before .before .before in
     let n = s .before .before .before in
-    let a = n .before .before .before .args in (
+    let a = n .before .before .before .args in
+    let ok = folds-entered (a .t .now) (a .folds .now) (here (a .self)) _ (n .enter-folds .ensures) (s .before .if1 .left) in (
       widths-lent refl refl,
-      upright-ready (a .t .now) (a .folds .now) (a .tabstop) (a .self) _ (n .enter-folds .ensures) (s .before .if1 .left) (s .if2 .left),
+      (
+        upright-ready (a .t .now) (a .folds .now) (a .tabstop) (a .self) _ (n .enter-folds .ensures) (s .before .if1 .left) (s .if2 .left),
+        ok .all-rows,
+        ok .content-rows,
+      ),
     )
 
 -- the target is in the text

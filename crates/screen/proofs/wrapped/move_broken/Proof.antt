@@ -12,12 +12,13 @@ use Rattle.screen.proofs.wrapped.move_broken.Tie as tie
 
 jump-requires : tie.Need-jump-requires
 jump-requires c κs =
-    let s = c .before .before .before .before .before .before in
-    let p = s .pre .1 in (
-      c .row-count .ensures,
-      rw (c .row-count .ensures) (p .folds-good),
+    let s = c .before .before .before .before .before in
+    let p = s .pre .1 .0 in (
+      s .pre .1 .1,
+      rw (s .pre .1 .1) (p .folds-good),
       p .line,
       omega (arith, p .here .in-col, row-fits (s .args .t .now) (s .args .l .row) (p .row-good .in-rows), p .row-good .brief),
+      s .pre .1 .2,
     )
 
 screen-from-requires : tie.Need-screen-from-requires
@@ -25,16 +26,15 @@ unfolding whites
 screen-from-requires c κs =
     let m = c .before in
     let j = m .before in
-    let k = j .before in
-    let s = k .before .before .before .before .before .before in
-    let p = s .pre .1 in (
+    let s = j .before .before .before .before .before .before in
+    let p = s .pre .1 .0 in (
       (
         record {
           tables = record { widths = s .pre .0 .0; whites-are = refl };
           wide = s .pre .0 .1;
           brief = p .row-good .brief;
-          all-rows = k .row-count .ensures;
-          folds-good = rw (k .row-count .ensures) (p .folds-good);
+          all-rows = s .pre .1 .1;
+          folds-good = rw (s .pre .1 .1) (p .folds-good);
         },
         omega (arith, m .most .ensures),
       ),
@@ -45,7 +45,7 @@ returns : tie.Need-returns
 returns c =
     let m = c .before .before in
     let j = m .before in
-    let d = j .before .before in
+    let d = j .before in
     let a = d .before .before .before .before .before .args in
     let w = widthBy (a .zeros .now) (a .doubles .now) in
     target-made w (a .t .now) (a .folds .now) (a .tabstop) (layOf w (a .word) (a .width)) (a .down) (a .count) (a .l .row) (a .col) (a .sticky)
@@ -54,5 +54,5 @@ returns c =
 pub move-broken-spec : {M : Type 1} → statement M
 move-broken-spec =
     tie.close
-    (tie.spec (λ c κs. search needs) (λ c κs. search needs) jump-requires (λ c κs. search needs) (λ c. search needs)
+    (tie.spec (λ c κs. search needs) jump-requires (λ c κs. search needs) (λ c. search needs)
     screen-from-requires returns)

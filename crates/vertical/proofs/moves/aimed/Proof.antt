@@ -1,33 +1,39 @@
 -- `vertical::moves::aimed` meets its contract. Assumes nothing.
 use mathlib.Core.Path.{_≡_, ap, _∙_}
+use native.Mathlib.Omega.{arith}
 use borrow.Author.Needs.{needs}
 use Rattle.text.specs.Text.{rowAt}
 use Rattle.text.specs.declared.Line.{Line}
 use Rattle.text.proofs.Stands.{line-there}
-use Rattle.vertical.proofs.Accepted.{row-ready, line-is}
+use Rattle.vertical.proofs.Accepted.{row-ready}
 use Rattle.vertical.proofs.moves.aimed.Statement.{statement}
 use Rattle.vertical.proofs.moves.aimed.Tie as tie
+
+line-from-requires : tie.Need-line-from-requires
+line-from-requires c κs =
+    let s = c .before .before .before in
+    (s .pre .1 .0, s .pre .1 .1, omega (arith, s .pre .0 .1 .in-rows, s .pre .1 .1))
 
 row-requires : tie.Need-row-requires
 row-requires c κs =
     let s = c .before .before .before .before in
-    line-there (s .args .t .now) (c .line-at .result) _ (line-is (s .pre .1) (c .line-at .ensures)) (s .pre .1 .in-rows)
+    line-there (s .args .t .now) (c .line-from .result) _ (c .line-from .ensures) (s .pre .0 .1 .in-rows)
 
 char-col-in-requires : tie.Need-char-col-in-requires
 char-col-in-requires c κs =
     let s = c .before .before .before .before .before in
-    let own = ap (λ (x : Line). rowAt (s .args .t .now) (x .row)) (line-is (s .pre .1) (c .before .line-at .ensures)) in
-    (s .pre .0, row-ready (s .pre .1) (c .row .ensures ∙ own))
+    let own = ap (λ (x : Line). rowAt (s .args .t .now) (x .row)) (c .before .line-from .ensures) in
+    (s .pre .0 .0, row-ready (s .pre .0 .1) (c .row .ensures ∙ own))
 
 returns : tie.Need-returns
 returns c =
     let k = c .before .before in
     let s = k .before .before .before .before .before .before in
     let own : k .before .row .result .now ≡ rowAt (s .args .t .now) (s .args .row) = k .before .row .ensures ∙
-    ap (λ (x : Line). rowAt (s .args .t .now) (x .row)) (line-is (s .pre .1) (k .before .before .line-at .ensures)) in
+    ap (λ (x : Line). rowAt (s .args .t .now) (x .row)) (k .before .before .line-from .ensures) in
     rw (← own, ← k .char-col-in .ensures, ← c .before .minus .ensures) (c .least .ensures)
 
 pub aimed-spec : {M : Type 1} → statement M
 aimed-spec =
     tie.close
-    (tie.spec (λ c κs. search needs) row-requires char-col-in-requires (λ c. search needs) (λ c κs. search needs) (λ c κs. search needs) returns)
+    (tie.spec line-from-requires row-requires char-col-in-requires (λ c. search needs) (λ c κs. search needs) (λ c κs. search needs) returns)

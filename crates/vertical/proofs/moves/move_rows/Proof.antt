@@ -12,7 +12,7 @@ use Rattle.vertical.proofs.moves.move_rows.Tie as tie
 move-vertical-requires : tie.Need-move-vertical-requires
 move-vertical-requires c κs =
     let s = c .before .before .before .before .before in
-    (s .pre .0, (s .pre .1, delta-asked (s .args .down) (s .args .count) (omega (arith, s .fits .count)) _ (c .delta-of .ensures)))
+    (s .pre .0, ((s .pre .1 .0, delta-asked (s .args .down) (s .args .count) (omega (arith, s .fits .count)) _ (c .delta-of .ensures)), s .pre .1 .1))
 
 returns : tie.Need-returns
 returns c =

@@ -6,9 +6,7 @@ use Rattle.vertical.proofs.viewport.bottom_row.Statement.{statement}
 use Rattle.vertical.proofs.viewport.bottom_row.Tie as tie
 
 sub-last : tie.Need-sub-last
-sub-last c = omega (arith, c .content-rows .ensures, content-near (c .before .before .args .t .now))
+sub-last c = let s = c .before in omega (arith, s .pre, content-near (s .args .t .now))
 
 pub bottom-row-spec : {M : Type 1} → statement M
-bottom-row-spec =
-    tie.close
-    (tie.spec (λ c κs. search needs) sub-last (λ c κs. search needs) (λ c. search needs) (λ c κs. search needs) (λ c. search needs))
+bottom-row-spec = tie.close (tie.spec sub-last (λ c κs. search needs) (λ c. search needs) (λ c κs. search needs) (λ c. search needs))
