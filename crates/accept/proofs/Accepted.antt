@@ -8,7 +8,8 @@ use native.Mathlib.Omega.{arith}
 use lib.Dec.{ltb, leb, eqb}
 use lib.ListN.{length}
 use borrow.Author.Tests.{ltb-false, leb-false, le-leb, le-ltb, lt-ltb, ne-eqb}
-use Rattle.chars.specs.Scalar.{any, notScalar}
+use Rattle.lists.specs.Lists.{any}
+use Rattle.chars.specs.Scalar.{notScalar}
 use Rattle.accept.specs.Accept.{isBreak, isLow, isSeparator, isHigh, highRefusal, textRefusal}
 
 -- what two flags have found, each by its own test

@@ -5,7 +5,8 @@ use mathlib.Core.List.{List}
 use mathlib.Core.Bool.{Bool, cond, _&&_, _||_}
 use lib.ListN.{length}
 use lib.Dec.{eqb, ltb, leb}
-use Rattle.chars.specs.Scalar.{any, notScalar}
+use Rattle.lists.specs.Lists.{any}
+use Rattle.chars.specs.Scalar.{notScalar}
 
 -- the line breaks that a text may not hold: U+000B to U+000D, U+0085, U+2028 and U+2029
 abbrev pub isBreak : ℕ → Bool

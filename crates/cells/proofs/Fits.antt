@@ -8,7 +8,7 @@ use native.Mathlib.Omega.{arith}
 use lib.ListN.{length, getD, take, drop, drop-of-length-le}
 use lib.Seq.{take-nil}
 use borrow.Author.Tests.{le-leb, lt-leb}
-use Rattle.chars.proofs.Lists.{drop-at}
+use Rattle.lists.proofs.Lists.{drop-at}
 use Rattle.cells.specs.Cells.{cellsOf, fits}
 use Rattle.cells.specs.Offsets.{cellsIn}
 

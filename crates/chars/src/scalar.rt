@@ -1,7 +1,8 @@
 // Unicode scalar values. Document 01, refusal 2.
 ghost use mathlib.Core.Path.{_≡_};
 ghost use mathlib.Core.Bool.{not};
-ghost use Rattle.chars.specs.Scalar.{isScalar, notScalar, any};
+ghost use Rattle.lists.specs.Lists.{any};
+ghost use Rattle.chars.specs.Scalar.{isScalar, notScalar};
 
 // Whether x is a code point that a character can have: at most 0x10FFFF, and no surrogate.
 pub fn is_scalar(x: u32) -> bool

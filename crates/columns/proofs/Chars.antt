@@ -8,7 +8,7 @@ use native.Mathlib.Omega.{arith}
 use lib.Dec.{eqb, leb}
 use lib.ListN.{length, getD, drop, drop-of-length-le}
 use borrow.Author.Tests.{eq-eqb, ne-eqb, le-leb, lt-leb}
-use Rattle.chars.proofs.Lists.{drop-at}
+use Rattle.lists.proofs.Lists.{drop-at}
 use Rattle.tabstops.specs.Cells.{cellsAt}
 use Rattle.columns.specs.Columns.{visualFrom, charFrom}
 use Rattle.columns.proofs.Visual.{visual-zero, visual-cons, visual-past, visual-rises}

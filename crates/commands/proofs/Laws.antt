@@ -1,83 +1,37 @@
--- Laws of command rows: where the next x stands, whether two lists are the same, and the value of digits. Assumes nothing.
-use mathlib.Core.Path.{_≡_, refl, ap, sym, _∙_}
-use mathlib.Core.List.{List, [], _∷_}
-use mathlib.Core.Bool.{Bool, true, false, _&&_}
+-- Laws of command rows: what a comparison tells, the value of digits, and a row's count. Assumes nothing.
+use mathlib.Core.Path.{_≡_, sym, _∙_}
+use mathlib.Core.List.{List}
+use mathlib.Core.Bool.{Bool}
 use Prim.Native.Nat.{ℕ, _+_, _*_, _-_, _^_, _≤_, _<_}
 use native.Mathlib.Numerals.{add-one}
 use native.Mathlib.Nat.{pow-suc, pow-le-pow-right}
 use native.Mathlib.Omega.{arith}
-use lib.Dec.{eqb}
 use lib.ListN.{length, getD, take, drop, drop-of-length-le, length-drop}
-use lib.Seq.{drop-cons, take-all}
-use borrow.Author.Tests.{eq-eqb, ne-eqb, eqb-true, lt-ltb, le-ltb, le-leb, lt-leb}
+use lib.Seq.{take-all}
+use borrow.Author.Tests.{lt-ltb, le-ltb, le-leb, lt-leb}
+use Rattle.lists.specs.Lists.{upTo, isSame}
+use Rattle.lists.proofs.Lists.{drop-at}
+use Rattle.lists.proofs.Same.{same-true}
 use Rattle.commands.specs.declared.Count.the-variants.{Of, Malformed}
-use Rattle.commands.specs.Commands.{upTo, isSame, digitsFrom, digitsOf, countIn, Same}
-
-drop-on : (l : List ℕ) (i : ℕ) → i < length l → drop i l ≡ getD l i 0 ∷ drop (i + 1) l
-drop-on l i h = rw (add-one i) (drop-cons l i 0 h)
-
-module _ (l : List ℕ) (i x : ℕ) where
-  pub up-to-stop : i < length l → getD l i 0 ≡ x → upTo x (drop i l) ≡ 0
-  unfolding upTo
-  up-to-stop h e = rw (drop-on l i h, eq-eqb _ _ e)
-
-  pub up-to-on : i < length l → (getD l i 0 ≡ x → ⊥) → upTo x (drop i l) ≡ upTo x (drop (i + 1) l) + 1
-  unfolding upTo
-  up-to-on h e = rw (drop-on l i h, ne-eqb _ _ e) (sym (add-one _))
-
-  pub up-to-end : length l ≤ i → upTo x (drop i l) ≡ 0
-  unfolding upTo
-  up-to-end h = rw (drop-of-length-le l h)
-
--- the same lists, in step
-module _ (a b : List ℕ) (i : ℕ) (ha : i < length a) (hb : i < length b) where
-  pub same-on : getD a i 0 ≡ getD b i 0 → isSame (drop i a) (drop i b) ≡ isSame (drop (i + 1) a) (drop (i + 1) b)
-  unfolding isSame
-  same-on e = rw (drop-on a i ha, drop-on b i hb, eq-eqb (getD a i 0) (getD b i 0) e)
-
-  pub same-stop : (getD a i 0 ≡ getD b i 0 → ⊥) → isSame (drop i a) (drop i b) ≡ false
-  unfolding isSame
-  same-stop e = rw (drop-on a i ha, drop-on b i hb, ne-eqb (getD a i 0) (getD b i 0) e)
-
-pub same-end : (a b : List ℕ) (i : ℕ) → length a ≤ i → length b ≤ i → isSame (drop i a) (drop i b) ≡ true
-unfolding isSame
-same-end a b i ha hb = rw (drop-of-length-le a ha, drop-of-length-le b hb)
-
-same-is : (a b : List ℕ) → isSame a b ≡ true → a ≡ b
-unfolding isSame
-same-is [] [] e = refl
-same-is [] (y ∷ b) e = let z : _≡_ {A = Bool} true false = sym e in cc
-same-is (x ∷ a) [] e = let z : _≡_ {A = Bool} true false = sym e in cc
-same-is (x ∷ a) (y ∷ b) e = go (eqb x y) refl e (same-is a b)
-  where
-    go : (t : Bool) → eqb x y ≡ t → (t && isSame a b) ≡ true → (isSame a b ≡ true → a ≡ b) → x ∷ a ≡ y ∷ b
-    go true p q ih = rw (eqb-true x y p, ih q)
-    go false p q ih = let z : _≡_ {A = Bool} true false = sym q in cc
-
-pub same-long : (a b : List ℕ) → (length a ≡ length b → ⊥) → isSame a b ≡ false
-same-long a b h = go (isSame a b) refl
-  where
-    go : (t : Bool) → isSame a b ≡ t → isSame a b ≡ false
-    go true p = absurd (h (ap length (same-is a b p)))
-    go false p = p
+use Rattle.commands.specs.Commands.{digitsFrom, digitsOf, countIn, Same}
 
 pub same-told : (a b : List ℕ) {r : Bool} → isSame a b ≡ r → Same a b r
-same-told a b e = record { is = sym e; equal = λ h. same-is a b (e ∙ h) }
+same-told a b e = record { is = sym e; equal = λ h. same-true a b (e ∙ h) }
 
 -- digits
 module _ (l : List ℕ) (n i : ℕ) where
   pub digits-on :
       i < length l → 48 ≤ getD l i 0 → getD l i 0 ≤ 57 → digitsFrom n (drop i l) ≡ digitsFrom (n * 10 + (getD l i 0 - 48)) (drop (i + 1) l)
   unfolding digitsFrom
-  digits-on h p q = rw (drop-on l i h, le-leb 48 (getD l i 0) p, le-leb (getD l i 0) 57 q)
+  digits-on h p q = rw (drop-at l i h, le-leb 48 (getD l i 0) p, le-leb (getD l i 0) 57 q)
 
   pub digits-low : i < length l → getD l i 0 < 48 → digitsFrom n (drop i l) ≡ Malformed
   unfolding digitsFrom
-  digits-low h p = rw (drop-on l i h, lt-leb 48 (getD l i 0) p)
+  digits-low h p = rw (drop-at l i h, lt-leb 48 (getD l i 0) p)
 
   pub digits-high : i < length l → 48 ≤ getD l i 0 → 57 < getD l i 0 → digitsFrom n (drop i l) ≡ Malformed
   unfolding digitsFrom
-  digits-high h p q = rw (drop-on l i h, le-leb 48 (getD l i 0) p, lt-leb (getD l i 0) 57 q)
+  digits-high h p q = rw (drop-at l i h, le-leb 48 (getD l i 0) p, lt-leb (getD l i 0) 57 q)
 
   pub digits-end : length l ≤ i → digitsFrom n (drop i l) ≡ Of n
   unfolding digitsFrom

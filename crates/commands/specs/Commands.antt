@@ -1,33 +1,19 @@
 -- A command row: a key, then optionally a space and 1 to 9 digits (missing: 0). Document 01, "The session".
 -- What the contracts of `commands` and `session` cite. Definitions only; the laws are in `proofs/`. Assumes nothing.
-use Prim.Native.Nat.{ℕ, suc, _+_, _*_, _-_, _≤_}
+use Prim.Native.Nat.{ℕ, _+_, _*_, _-_, _≤_}
 use mathlib.Core.Path.{_≡_}
 use mathlib.Core.List.{List, [], _∷_}
-use mathlib.Core.Bool.{Bool, true, false, cond, _&&_}
-use lib.Dec.{eqb, ltb, leb}
+use mathlib.Core.Bool.{Bool, true, cond, _&&_}
+use lib.Dec.{ltb, leb}
 use lib.ListN.{length, take, drop}
+use Rattle.lists.specs.Lists.{upTo, isSame}
+use Rattle.lists.specs.Codes.{isDigit}
 use Rattle.commands.specs.declared.Count.{Count}
 use Rattle.commands.specs.declared.Count.the-variants.{Of, Malformed}
-
--- how many stand before the first x
-unfoldable pub upTo : ℕ → List ℕ → ℕ
-upTo x [] = 0
-upTo x (y ∷ l) = cond (eqb y x) 0 (suc (upTo x l))
-
--- two lists are the same
-unfoldable pub isSame : List ℕ → List ℕ → Bool
-isSame [] [] = true
-isSame [] (y ∷ b) = false
-isSame (x ∷ a) [] = false
-isSame (x ∷ a) (y ∷ b) = eqb x y && isSame a b
 
 -- the bytes before the first space
 abbrev pub keyPart : List ℕ → List ℕ
 keyPart row = take (upTo 32 row) row
-
--- 0 to 9
-abbrev pub isDigit : ℕ → Bool
-isDigit x = leb 48 x && leb x 57
 
 -- digits in base ten, after those whose value is n
 unfoldable pub digitsFrom : ℕ → List ℕ → Count

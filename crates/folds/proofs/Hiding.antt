@@ -12,7 +12,7 @@ use Rattle.folds.specs.Folds.{anyFold, badFold, foldHides, hidden}
 use Rattle.folds.specs.Cover.{coverOf}
 use Rattle.folds.specs.declared.Span.{Span}
 use Rattle.folds.specs.declared.Span.the-variants.{Of, NoSpan}
-use Rattle.chars.proofs.Lists.{drop-at}
+use Rattle.lists.proofs.Lists.{drop-at}
 
 -- three numbers at an index
 module _ (l : List ℕ) (i : ℕ) (h : i + 2 < length l) where

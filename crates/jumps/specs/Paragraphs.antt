@@ -4,8 +4,8 @@ use Prim.Native.Nat.{ℕ, _-_}
 use mathlib.Core.List.{List}
 use mathlib.Core.Bool.{true, false, cond}
 use lib.Dec.{eqb}
-use Rattle.margins.specs.Margins.{lastCol}
-use Rattle.lines.specs.Paragraphs.{lastRow, paragraphs}
+use Rattle.text.specs.Text.{lastCol, lastRow}
+use Rattle.lines.specs.Paragraphs.{paragraphs}
 use Rattle.lines.specs.declared.Paragraph.{Paragraph}
 use Rattle.lines.specs.declared.Paragraph.the-variants.{At, Nothing}
 use Rattle.positions.specs.declared.Position.{Position}

@@ -5,7 +5,7 @@ use mathlib.Core.List.{List}
 use mathlib.Core.Bool.{cond, _&&_}
 use lib.Dec.{eqb, ltb, leb}
 use Rattle.margins.specs.Margins.{firstNonBlank}
-use Rattle.lines.specs.Paragraphs.{lastRow}
+use Rattle.text.specs.Text.{lastRow}
 use Rattle.positions.specs.declared.Position.{Position}
 use Rattle.positions.specs.Positions.{position}
 use Rattle.steps.specs.Steps.{times}

@@ -2,7 +2,7 @@
 -- Definitions only. Assumes nothing.
 use Prim.Native.Nat.{ℕ, _-_}
 use mathlib.Core.List.{List}
-use Rattle.lines.specs.Paragraphs.{lastRow}
+use Rattle.text.specs.Text.{lastRow}
 use Rattle.lines.specs.Sections.{sectionUp, sectionDown}
 use Rattle.positions.specs.declared.Position.{Position}
 use Rattle.positions.specs.Positions.{position}

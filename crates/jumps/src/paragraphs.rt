@@ -8,7 +8,7 @@ use text::minus;
 use text::most;
 ghost use mathlib.Core.Path.{_≡_};
 ghost use Rattle.text.specs.Offsets.{IsLine};
-ghost use Rattle.lines.specs.Paragraphs.{lastRow};
+ghost use Rattle.text.specs.Text.{lastRow};
 ghost use Rattle.lines.specs.declared.Paragraph.the-variants.{At};
 ghost use Rattle.positions.specs.Positions.{Accepted};
 ghost use Rattle.jumps.specs.Paragraphs.{downAt, paragraphPrev, paragraphNext};

@@ -4,8 +4,8 @@ use Prim.Native.Nat.{ℕ}
 use Prim.Native.String.{String}
 use mathlib.Core.List.{List, [], _∷_, _++_}
 use mathlib.Core.Bool.{Bool, false, cond, _||_}
-use Rattle.print.specs.Print.{bytes}
-use Rattle.commands.specs.Commands.{isSame}
+use Rattle.lists.specs.Codes.{codes}
+use Rattle.lists.specs.Lists.{isSame}
 use Rattle.keys.specs.declared.Key.{Key}
 use Rattle.keys.specs.declared.Key.the-variants as Key
 
@@ -15,7 +15,7 @@ pub record Named : Type 0 where
   pub key : Key
 
 abbrev pub key : String → Key → Named
-key s k = record { name = bytes s; key = k }
+key s k = record { name = codes s; key = k }
 
 unfoldable pub twoBytes : List Named
 twoBytes =
@@ -75,4 +75,4 @@ isKnown (k ∷ rest) name = isSame name (k .name) || isKnown rest name
 
 -- the sticky column is cleared, but by j and k
 abbrev pub keeps : List ℕ → Bool
-keeps name = isSame name (bytes "j") || isSame name (bytes "k")
+keeps name = isSame name (codes "j") || isSame name (codes "k")

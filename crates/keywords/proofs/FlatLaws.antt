@@ -13,7 +13,8 @@ use borrow.Author.Tests.{ne-eqb, lt-leb}
 use Rattle.letters.specs.Letters.{isLetter}
 use Rattle.tokens.specs.declared.Token.{Token}
 use Rattle.tokens.specs.Grammar.{noToken}
-use Rattle.tokens.specs.Tokens.{lowOf, highOf, any, anyToken, tokenHolds}
+use Rattle.lists.specs.Lists.{any}
+use Rattle.tokens.specs.Tokens.{lowOf, highOf, anyToken, tokenHolds}
 use Rattle.keywords.specs.Flat.{flat, padded, anyAlpha, within, flatHolds}
 use Rattle.tokens.proofs.Lists.{drop-at-take, fill-push}
 

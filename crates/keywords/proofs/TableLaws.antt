@@ -12,7 +12,7 @@ use Rattle.tokens.specs.Grammar.{noToken}
 use Rattle.tokens.specs.Tokens.{tokens, tokensIn, stepOf}
 use Rattle.keywords.specs.Table.{table, kept, pushed}
 use Rattle.tokens.proofs.Lists.{fill-push}
-use Rattle.parts.proofs.PartLaws.{partsFrom, parts-from-start, parts-from-end}
+use Rattle.lists.proofs.Splits.{splitFrom, split-from-start, split-from-end}
 use Rattle.tokens.proofs.TokenLaws.{step-skip, step-keep}
 
 pub table-push : (ts : List Token) (t : Token) → length ts < 128 → pushed (table ts) t ≡ table (ts ++ (t ∷ []))
@@ -26,10 +26,10 @@ pub record Reading (l : List ℕ) (spec : KeywordSpec) (i : ℕ) : Type 0 where
   pub ts : List Token
   pub is : spec ≡ table ts
   pub few : length ts ≤ 128
-  pub rest : tokens l ≡ ts ++ tokensIn (partsFrom l i)
+  pub rest : tokens l ≡ ts ++ tokensIn (splitFrom 44 l i)
 
 pub reading-start : (l : List ℕ) (spec : KeywordSpec) → spec ≡ table [] → Reading l spec 0
-reading-start l spec e = record { ts = []; is = e; few = omega arith; rest = ap tokensIn (sym (parts-from-start l)) }
+reading-start l spec e = record { ts = []; is = e; few = omega arith; rest = ap tokensIn (sym (split-from-start 44 l)) }
 
 module _ {l : List ℕ} {spec : KeywordSpec} {i : ℕ} (g : Reading l spec i) where
   pub reading-length : spec .len ≡ length (g .ts)
@@ -38,7 +38,7 @@ module _ {l : List ℕ} {spec : KeywordSpec} {i : ℕ} (g : Reading l spec i) wh
   pub reading-end : length l < i → (spec ≡ table (tokens l)) × (length (tokens l) ≤ 128)
   unfolding tokensIn
   reading-end h =
-      let a : tokens l ≡ g .ts = g .rest ∙ ap (λ (ps : List (List ℕ)). g .ts ++ tokensIn ps) (parts-from-end l i h) ∙ append-nil (g .ts) in
+      let a : tokens l ≡ g .ts = g .rest ∙ ap (λ (ps : List (List ℕ)). g .ts ++ tokensIn ps) (split-from-end 44 l i h) ∙ append-nil (g .ts) in
       (g .is ∙ ap table (sym a), omega (arith, ap length a, g .few))
 
   module _ (h : i ≤ length l) (s : Step) (w : s ≡ stepOf l i) where
@@ -46,7 +46,7 @@ module _ {l : List ℕ} {spec : KeywordSpec} {i : ℕ} (g : Reading l spec i) wh
     reading-skip z =
         record { ts = g .ts; is = g .is; few = g .few; rest = g .rest ∙ ap (λ (r : List Token). g .ts ++ r) (step-skip l i h s w z) }
 
-    kept-rest : (s .token .kind ≡ 0 → ⊥) → tokens l ≡ g .ts ++ (s .token ∷ tokensIn (partsFrom l (s .next)))
+    kept-rest : (s .token .kind ≡ 0 → ⊥) → tokens l ≡ g .ts ++ (s .token ∷ tokensIn (splitFrom 44 l (s .next)))
     kept-rest z = g .rest ∙ ap (λ (r : List Token). g .ts ++ r) (step-keep l i h s w z)
 
     pub reading-keep : (s .token .kind ≡ 0 → ⊥) → (spec .len ≡ 128 → ⊥) → (r : KeywordSpec) → r ≡ pushed spec (s .token) → Reading l r (s .next)
@@ -56,9 +56,9 @@ module _ {l : List ℕ} {spec : KeywordSpec} {i : ℕ} (g : Reading l spec i) wh
           ts = g .ts ++ (s .token ∷ []);
           is = p ∙ ap (λ (x : KeywordSpec). pushed x (s .token)) (g .is) ∙ table-push (g .ts) (s .token) b;
           few = omega (arith, length-append (g .ts) (s .token ∷ []));
-          rest = kept-rest z ∙ sym (append-assoc (g .ts) (s .token ∷ []) (tokensIn (partsFrom l (s .next))));
+          rest = kept-rest z ∙ sym (append-assoc (g .ts) (s .token ∷ []) (tokensIn (splitFrom 44 l (s .next))));
         }
 
     pub reading-full : (s .token .kind ≡ 0 → ⊥) → spec .len ≡ 128 → 128 < length (tokens l)
     reading-full z n =
-        omega (arith, reading-length, ap length (kept-rest z), length-append (g .ts) (s .token ∷ tokensIn (partsFrom l (s .next))))
+        omega (arith, reading-length, ap length (kept-rest z), length-append (g .ts) (s .token ∷ tokensIn (splitFrom 44 l (s .next))))

@@ -6,10 +6,11 @@ use native.Mathlib.Decide.{decLt, ℕ-discrete}
 use native.Mathlib.Omega.{arith}
 use lib.Dec.{eqb, leb}
 use borrow.Author.Tests.{le-leb, lt-leb, eq-eqb, ne-eqb}
+use Rattle.lists.specs.Lists.{any, upTo, onFirst, split}
 use Rattle.chars.specs.White.{whites, isWhite}
 use Rattle.parts.specs.Numbers.{allDigits, value}
-use Rattle.parts.specs.Parts.{parts, trimStart, trimEnd, upTo}
-use Rattle.tokens.specs.Tokens.{tokensIn, any}
+use Rattle.parts.specs.Parts.{trimStart, trimEnd}
+use Rattle.tokens.specs.Tokens.{tokensIn}
 use Rattle.keywords.specs.Worked.{P11}
 
 module _ (lo hi c : ℕ) where
@@ -31,7 +32,7 @@ range-one n c = go (ℕ-discrete c n) (decLt c n)
     go (no e) (no m) = rw (ne-eqb c n e, lt-leb c n (omega arith), and-false)
 
 pub p11 : P11
-unfolding whites isWhite upTo trimStart trimEnd parts tokensIn allDigits value any
+unfolding whites isWhite upTo trimStart trimEnd split onFirst tokensIn allDigits value any
 p11 =
     record {
       plus = λ c. or-false _;

@@ -8,7 +8,8 @@ use lib.ListN.{length, take, replicate}
 use Rattle.letters.specs.Letters.{isLetter}
 use Rattle.tokens.specs.declared.Token.{Token}
 use Rattle.keywords.specs.declared.KeywordSpec.{KeywordSpec}
-use Rattle.tokens.specs.Tokens.{lowOf, highOf, any}
+use Rattle.lists.specs.Lists.{any}
+use Rattle.tokens.specs.Tokens.{lowOf, highOf}
 use Rattle.keywords.specs.Table.{kept}
 
 unfoldable pub flat : List Token → List ℕ

@@ -4,13 +4,13 @@ use mathlib.Core.List.{List}
 use mathlib.Core.Bool.{Bool, true, false, cond, _&&_, _||_, not}
 use Prim.Native.Nat.{ℕ, zero, suc, _+_, _<_}
 use native.Mathlib.Omega.{arith}
-use Rattle.text.specs.Text.{rowCount}
+use Rattle.text.specs.Text.{rowCount, lastRow}
 use Rattle.text.specs.Offsets.{lineAt}
 use Rattle.text.proofs.Rows.{rows-pos}
 use Rattle.text.proofs.Stands.{line-at}
 use Rattle.text.proofs.Content.{content-near}
-use Rattle.lines.specs.Toward.{restOf, onward}
-use Rattle.lines.specs.Paragraphs.{isVoid, lastRow, roundFrom, roundOf, atLast, goOn, paragraphs, EndsIn, LeadsIn}
+use Rattle.lines.specs.Toward.{rowsLeft, onward}
+use Rattle.lines.specs.Paragraphs.{isVoid, roundFrom, roundOf, atLast, goOn, paragraphs, EndsIn, LeadsIn}
 use Rattle.lines.specs.declared.Round.{Round}
 use Rattle.lines.specs.declared.Round.the-variants.{Found, RanOff}
 use Rattle.lines.specs.declared.Paragraph.{Paragraph}
@@ -33,7 +33,7 @@ module _ (t : List ℕ) where
   room-on true row rest h = omega arith
   room-on false row rest h = omega arith
 
-  room-all : (fwd : Bool) (row : ℕ) → row < rowCount t → Room fwd row (restOf fwd (lastRow t) row)
+  room-all : (fwd : Bool) (row : ℕ) → row < rowCount t → Room fwd row (rowsLeft fwd (lastRow t) row)
   room-all true row h = omega (arith, content-near t)
   room-all false row h = h
 

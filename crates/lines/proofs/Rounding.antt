@@ -11,14 +11,14 @@ use lib.IntN.{ℤ}
 use lib.Signed.{nonNeg}
 use mir.Syntax.{w64}
 use mir.Val.{Fits, SFits, toZ, ofZ}
-use Rattle.text.specs.Text.{rowCount}
+use Rattle.text.specs.Text.{rowCount, lastRow}
 use Rattle.text.specs.Offsets.{rowStart, Stands, lineAt}
 use Rattle.text.specs.declared.Line.{Line}
 use Rattle.text.proofs.Parts.{count-le}
 use Rattle.text.proofs.Stands.{line-at, line-eq}
 use Rattle.text.proofs.Content.{content-near}
-use Rattle.lines.specs.Toward.{dirOf, restOf, onward}
-use Rattle.lines.specs.Paragraphs.{isVoid, lastRow, roundFrom, roundOf}
+use Rattle.lines.specs.Toward.{dirOf, rowsLeft, onward}
+use Rattle.lines.specs.Paragraphs.{isVoid, roundFrom, roundOf}
 use Rattle.lines.specs.declared.Round.the-variants.{Found, RanOff}
 use Rattle.lines.proofs.Ways.{castOf, nextOf, backOf, isOutside, cast-fits, cast-row, next-fits, back-fits, back-row}
 use Rattle.lines.proofs.Ways.{outside-rest, inside-rest, inside-row}
@@ -29,12 +29,12 @@ pub record Rounding (t : List ℕ) (fwd : Bool) (last from row start : ℕ) (ski
   pub line : Stands t row start start
   pub is-last : last ≡ lastRow t
   pub brief : length t ≤ 1048576
-  pub same : roundOf t fwd from ≡ roundFrom t fwd skip row (restOf fwd last row)
+  pub same : roundOf t fwd from ≡ roundFrom t fwd skip row (rowsLeft fwd last row)
 
 pub rounding-start : (t : List ℕ) (fwd : Bool) (last row start : ℕ) → Stands t row start start → last ≡ lastRow t → length t ≤ 1048576 →
     Rounding t fwd last row row start false
 rounding-start t fwd last row start s e b =
-    record { line = s; is-last = e; brief = b; same = ap (λ (l : ℕ). roundFrom t fwd false row (restOf fwd l row)) (sym e) }
+    record { line = s; is-last = e; brief = b; same = ap (λ (l : ℕ). roundFrom t fwd false row (rowsLeft fwd l row)) (sym e) }
 
 module _ {t : List ℕ} {fwd skip : Bool} {last from row start : ℕ} (g : Rounding t fwd last from row start skip) where
   near : (row ≤ last + 1) × (last ≤ 1048576) × (last < rowCount t)
@@ -74,7 +74,7 @@ module _ {t : List ℕ} {fwd skip : Bool} {last from row start : ℕ} (g : Round
 
     pub rounding-found : ((skip || not v) && v) ≡ true →
         (Found (record { row = castOf row; start = start }) ≡ roundOf t fwd from) × Stands t (castOf row) start start
-    rounding-found e = (ap Found line-is ∙ sym (g .same ∙ round-found t fwd skip row (restOf fwd last row) (rw void at e)), rounding-line)
+    rounding-found e = (ap Found line-is ∙ sym (g .same ∙ round-found t fwd skip row (rowsLeft fwd last row) (rw void at e)), rounding-line)
 
     module _ (e : ((skip || not v) && v) ≡ false) (d : ℤ) (f : d ≡ dirOf fwd) where
       -- the next row is outside: it is stepped back
@@ -84,11 +84,11 @@ module _ {t : List ℕ} {fwd skip : Bool} {last from row start : ℕ} (g : Round
       rounding-off o =
           let none = outside-rest fwd last row (near .0) (near .1) d f _ o refl in
           rw (same-row d f)
-          (ap RanOff line-is ∙ sym (g .same ∙ round-off t fwd skip row (rw void at e) (restOf fwd last row) none), rounding-line)
+          (ap RanOff line-is ∙ sym (g .same ∙ round-off t fwd skip row (rw void at e) (rowsLeft fwd last row) none), rounding-line)
 
       -- it is not: the walk goes on from it
       module _ (o : isOutside (toZ w64 last) (toZ w64 (ofZ w64 (nextOf row d))) ≡ false) where
-        left : 0 < restOf fwd last row
+        left : 0 < rowsLeft fwd last row
         left = inside-rest fwd last row (near .0) (near .1) d f _ o refl
 
         next : ofZ w64 (nextOf row d) ≡ onward fwd row
@@ -100,7 +100,7 @@ module _ {t : List ℕ} {fwd skip : Bool} {last from row start : ℕ} (g : Round
         pub rounding-in : Stands t (castOf row) start start × (onward fwd (castOf row) < rowCount t)
         rounding-in = (rounding-line, rw own inside)
 
-        pub rounding-less : restOf fwd last (ofZ w64 (nextOf row d)) < restOf fwd last row
+        pub rounding-less : rowsLeft fwd last (ofZ w64 (nextOf row d)) < rowsLeft fwd last row
         rounding-less = rw (next, rest-less fwd last row) (omega (arith, left))
 
         pub rounding-on : (l : Line) → l ≡ lineAt t (onward fwd (castOf row)) →
@@ -111,5 +111,5 @@ module _ {t : List ℕ} {fwd skip : Bool} {last from row start : ℕ} (g : Round
               line = rw (next, s) (line-at t (onward fwd row) inside);
               is-last = g .is-last;
               brief = g .brief;
-              same = g .same ∙ round-on t fwd skip row (rw void at e) (restOf fwd last row) left ∙ rw (next, rest-less fwd last row, void);
+              same = g .same ∙ round-on t fwd skip row (rw void at e) (rowsLeft fwd last row) left ∙ rw (next, rest-less fwd last row, void);
             }

@@ -12,7 +12,7 @@ use borrow.Author.Tests.{eq-eqb, ne-eqb}
 use Rattle.text.specs.Text.{rowLen}
 use Rattle.text.specs.Offsets.{At, lineAt}
 use Rattle.text.proofs.At.{on-char, on-nl, on-end}
-use Rattle.lines.specs.Toward.{restOf, onward}
+use Rattle.lines.specs.Toward.{rowsLeft, onward}
 use Rattle.lines.specs.Paragraphs.{isVoid, roundFrom, roundOf, atLast, goOn, paragraphs}
 use Rattle.lines.specs.declared.Round.the-variants.{Found, RanOff}
 
@@ -29,11 +29,11 @@ module _ {t : List ℕ} {r at : ℕ} (a : At t r 0 at) where
       go (no n) = ne-eqb (rowLen t r) 0 (λ z. omega (arith, on-char a h n)) ∙ sym (ne-eqb (getD t at 0) 10 n)
 
 -- behind the next row one row less is left, and it is a row where the last one is
-pub rest-less : (fwd : Bool) (last row : ℕ) → restOf fwd last (onward fwd row) ≡ restOf fwd last row - 1
+pub rest-less : (fwd : Bool) (last row : ℕ) → rowsLeft fwd last (onward fwd row) ≡ rowsLeft fwd last row - 1
 rest-less true last row = omega arith
 rest-less false last row = refl
 
-pub onward-in : (fwd : Bool) (last row n : ℕ) → 0 < restOf fwd last row → row < n → last < n → onward fwd row < n
+pub onward-in : (fwd : Bool) (last row n : ℕ) → 0 < rowsLeft fwd last row → row < n → last < n → onward fwd row < n
 onward-in true last row n h r l = omega arith
 onward-in false last row n h r l = omega arith
 

@@ -12,7 +12,7 @@ use borrow.Author.Tests.{lt-ltb, le-ltb}
 use mir.Syntax.{w64}
 use mir.Val.{Fits, SFits, toZ, ofZ}
 use mir.Facts.{toZ-ofZ, toZ-pos}
-use Rattle.lines.specs.Toward.{dirOf, restOf, onward}
+use Rattle.lines.specs.Toward.{dirOf, rowsLeft, onward}
 
 pub fits-pos : (n : ℕ) → n ≤ 1048577 → SFits w64 (pos n)
 fits-pos n h = record { sfits = omega arith }
@@ -57,15 +57,15 @@ fits-step false row h = go (decLt 0 row)
 
 -- the rows that are left in a direction tell whether the next one is outside
 module _ (last row : ℕ) where
-  next-outside : (fwd : Bool) → restOf fwd last row ≡ 0 → isOutside (pos last) (pos row +ℤ dirOf fwd) ≡ true
+  next-outside : (fwd : Bool) → rowsLeft fwd last row ≡ 0 → isOutside (pos last) (pos row +ℤ dirOf fwd) ≡ true
   next-outside true e = rw (le-ltb (row + 1) 0 (omega arith), lt-ltb last (row + 1) (omega arith))
   next-outside false e = rw e
 
-  next-inside : (fwd : Bool) → row ≤ last + 1 → 0 < restOf fwd last row → isOutside (pos last) (pos row +ℤ dirOf fwd) ≡ false
+  next-inside : (fwd : Bool) → row ≤ last + 1 → 0 < rowsLeft fwd last row → isOutside (pos last) (pos row +ℤ dirOf fwd) ≡ false
   next-inside true l h = rw (le-ltb (row + 1) 0 (omega arith), le-ltb last (row + 1) (omega arith))
   next-inside false l h = rw (up-is row h, le-ltb (row - 1) 0 (omega arith), le-ltb last (row - 1) (omega arith))
 
-  next-row : (fwd : Bool) → 0 < restOf fwd last row → ofZ w64 (pos row +ℤ dirOf fwd) ≡ onward fwd row
+  next-row : (fwd : Bool) → 0 < rowsLeft fwd last row → ofZ w64 (pos row +ℤ dirOf fwd) ≡ onward fwd row
   next-row true h = refl
   next-row false h = ap (ofZ w64) (up-is row h)
 
@@ -101,20 +101,20 @@ module _ (fwd : Bool) (last row : ℕ) (near : row ≤ last + 1) (most : last �
     outside : isOutside (pos last) (pos row +ℤ dirOf fwd) ≡ b
     outside = rw (read-row last (omega arith), read-next) at o
 
-    pub outside-rest : b ≡ true → restOf fwd last row ≡ 0
-    outside-rest e = go (ℕ-discrete (restOf fwd last row) 0)
+    pub outside-rest : b ≡ true → rowsLeft fwd last row ≡ 0
+    outside-rest e = go (ℕ-discrete (rowsLeft fwd last row) 0)
       where
-        go : Dec (restOf fwd last row ≡ 0) → restOf fwd last row ≡ 0
+        go : Dec (rowsLeft fwd last row ≡ 0) → rowsLeft fwd last row ≡ 0
         go (yes z) = z
         go (no n) =
             let clash : false ≡ true = sym (next-inside last row fwd near (omega arith)) ∙ outside ∙ e in
             let z : _≡_ {A = ℕ} 0 1 = cc in
             absurd (omega arith)
 
-    pub inside-rest : b ≡ false → 0 < restOf fwd last row
-    inside-rest e = go (ℕ-discrete (restOf fwd last row) 0)
+    pub inside-rest : b ≡ false → 0 < rowsLeft fwd last row
+    inside-rest e = go (ℕ-discrete (rowsLeft fwd last row) 0)
       where
-        go : Dec (restOf fwd last row ≡ 0) → 0 < restOf fwd last row
+        go : Dec (rowsLeft fwd last row ≡ 0) → 0 < rowsLeft fwd last row
         go (yes z) =
             let clash : true ≡ false = sym (next-outside last row fwd z) ∙ outside ∙ e in
             let o : _≡_ {A = ℕ} 0 1 = cc in

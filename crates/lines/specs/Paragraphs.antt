@@ -1,12 +1,12 @@
 -- Paragraphs: runs of rows between empty ones, as `find_paragraph` of motions.rs walks them.
 -- Definitions only; the laws are in `proofs/Walks.antt`. Assumes nothing.
-use Prim.Native.Nat.{ℕ, zero, suc, _-_, _<_}
+use Prim.Native.Nat.{ℕ, zero, suc, _<_}
 use mathlib.Core.List.{List}
 use mathlib.Core.Bool.{Bool, false, cond, _&&_, _||_, not}
 use lib.Dec.{eqb}
-use Rattle.text.specs.Text.{rowCount, rowLen, contentRows}
+use Rattle.text.specs.Text.{rowCount, rowLen, lastRow}
 use Rattle.text.specs.Offsets.{IsLine, lineAt}
-use Rattle.lines.specs.Toward.{restOf, onward}
+use Rattle.lines.specs.Toward.{rowsLeft, onward}
 use Rattle.lines.specs.declared.Round.{Round}
 use Rattle.lines.specs.declared.Round.the-variants.{Found, RanOff}
 use Rattle.lines.specs.declared.Paragraph.{Paragraph}
@@ -14,10 +14,6 @@ use Rattle.lines.specs.declared.Paragraph.the-variants.{At, Nothing}
 
 abbrev pub isVoid : List ℕ → ℕ → Bool
 isVoid t row = eqb (rowLen t row) 0
-
--- the last row with content
-abbrev pub lastRow : List ℕ → ℕ
-lastRow t = contentRows t - 1
 
 -- a round from `row`, with `rest` rows left in its direction, `skip` where it has passed a row that isn't empty: it ends on an empty row once it
 -- has, and runs off where no row is left. `rest` is exact: one less with each row (`round-on`, `rest-less`)
@@ -27,7 +23,7 @@ roundFrom t fwd skip row (suc rest) =
     cond ((skip || not (isVoid t row)) && isVoid t row) (Found (lineAt t row)) (roundFrom t fwd (skip || not (isVoid t row)) (onward fwd row) rest)
 
 abbrev pub roundOf : List ℕ → Bool → ℕ → Round
-roundOf t fwd row = roundFrom t fwd false row (restOf fwd (lastRow t) row)
+roundOf t fwd row = roundFrom t fwd false row (rowsLeft fwd (lastRow t) row)
 
 -- the last round may run off: it stops at the edge. One before it that does ends it all
 abbrev pub atLast : Round → Paragraph

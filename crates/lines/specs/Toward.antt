@@ -7,9 +7,9 @@ use lib.IntN.{ℤ, pos, negsuc}
 abbrev pub dirOf : Bool → ℤ
 dirOf fwd = cond fwd (pos 1) (negsuc 0)
 
--- how many rows are left in the direction, and the next of them
-abbrev pub restOf : Bool → ℕ → ℕ → ℕ
-restOf fwd last row = cond fwd (last - row) row
+-- how many rows are left in the direction, down to the row `last` or up to row 0, and the next of them
+abbrev pub rowsLeft : Bool → ℕ → ℕ → ℕ
+rowsLeft fwd last row = cond fwd (last - row) row
 
 abbrev pub onward : Bool → ℕ → ℕ
 onward fwd row = cond fwd (row + 1) (row - 1)

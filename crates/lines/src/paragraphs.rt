@@ -9,7 +9,8 @@ ghost use mathlib.Core.Path.{_≡_};
 ghost use Prim.Native.Nat.{_-_, _≤_, _<_};
 ghost use lib.ListN.{length};
 ghost use Rattle.text.specs.Offsets.{IsLine};
-ghost use Rattle.lines.specs.Paragraphs.{isVoid, lastRow, roundOf, paragraphs};
+ghost use Rattle.text.specs.Text.{lastRow};
+ghost use Rattle.lines.specs.Paragraphs.{isVoid, roundOf, paragraphs};
 ghost use Rattle.lines.specs.Paragraphs.{EndsIn, LeadsIn};
 
 // Whether a row is empty.

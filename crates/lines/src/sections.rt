@@ -8,7 +8,7 @@ ghost use mathlib.Core.Path.{_≡_};
 ghost use Prim.Native.Nat.{_-_, _≤_};
 ghost use lib.ListN.{length};
 ghost use Rattle.text.specs.Offsets.{IsLine};
-ghost use Rattle.lines.specs.Paragraphs.{lastRow};
+ghost use Rattle.text.specs.Text.{lastRow};
 ghost use Rattle.lines.specs.Sections.{begins, sectionUp, sectionDown};
 
 // Whether a row begins with x, which is no separator.

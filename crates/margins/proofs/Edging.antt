@@ -11,7 +11,7 @@ use lib.ListN.{length, getD, take, drop, drop-of-length-le}
 use lib.Seq.{take-suc, length-take-le}
 use borrow.Author.Tests.{ne-eqb}
 use Rattle.chars.specs.White.{isWhite}
-use Rattle.chars.proofs.Lists.{drop-at}
+use Rattle.lists.proofs.Lists.{drop-at}
 use Rattle.margins.specs.Margins.{isBlank, indentOf, solidOf}
 
 module _ (row : List ℕ) (i : ℕ) where

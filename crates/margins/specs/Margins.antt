@@ -5,11 +5,7 @@ use mathlib.Core.List.{List, [], _∷_}
 use mathlib.Core.Bool.{Bool, cond, _||_}
 use lib.Dec.{eqb}
 use Rattle.chars.specs.White.{isWhite}
-use Rattle.text.specs.Text.{rowAt, rowLen}
-
--- the last column of a row: 0 of an empty one
-abbrev pub lastCol : List ℕ → ℕ → ℕ
-lastCol t r = rowLen t r - 1
+use Rattle.text.specs.Text.{rowAt, lastCol}
 
 -- how many blanks a row begins with: spaces and tabs, and no other white space
 abbrev pub isBlank : ℕ → Bool

@@ -9,7 +9,7 @@ use lib.Seq.{take-all}
 use borrow.Author.Tests.{eq-eqb, ne-eqb, le-leb, lt-leb, le-ltb, lt-ltb}
 use Rattle.parts.specs.declared.numbers.Number.the-variants.{Value, Not}
 use Rattle.parts.specs.Numbers.{allDigits, value, numberFrom, digitsOf, numberOf}
-use Rattle.chars.proofs.Lists.{drop-at-of as drop-at}
+use Rattle.lists.proofs.Lists.{drop-at-of as drop-at}
 
 value-grows : (n : ℕ) (p : List ℕ) → n ≤ value n p
 unfolding value

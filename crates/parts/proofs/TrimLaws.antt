@@ -8,7 +8,7 @@ use lib.ListN.{length, getD, take, drop, drop-of-length-le, length-drop}
 use lib.Seq.{take-all, take-suc}
 use Rattle.chars.specs.White.{isWhite}
 use Rattle.parts.specs.Parts.{trimStart, keepLast, trimEnd, trim, Begun, Ended}
-use Rattle.chars.proofs.Lists.{drop-at-of as drop-at}
+use Rattle.lists.proofs.Lists.{drop-at-of as drop-at}
 
 module _ (p : List ℕ) (i : ℕ) where
   pub trim-start-on : i < length p → isWhite (getD p i 0) ≡ true → trimStart (drop i p) ≡ trimStart (drop (i + 1) p)

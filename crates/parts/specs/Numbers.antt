@@ -3,13 +3,10 @@
 use Prim.Native.Nat.{ℕ, _+_, _*_, _-_}
 use mathlib.Core.List.{List, [], _∷_}
 use mathlib.Core.Bool.{Bool, true, cond, _&&_}
-use lib.Dec.{eqb, leb, ltb}
+use lib.Dec.{eqb, ltb}
+use Rattle.lists.specs.Codes.{isDigit}
 use Rattle.parts.specs.declared.numbers.Number.{Number}
 use Rattle.parts.specs.declared.numbers.Number.the-variants.{Value, Not}
-
--- 0 to 9
-abbrev pub isDigit : ℕ → Bool
-isDigit x = leb 48 x && leb x 57
 
 unfoldable pub allDigits : List ℕ → Bool
 allDigits [] = true

@@ -1,22 +1,16 @@
 -- What the contracts of `src/parts.rt` cite: the parts of a list between commas, and a part trimmed. Document 01, "Keyword lists".
--- Definitions only; the laws are in `proofs/PartLaws.antt`. Assumes nothing.
-use Prim.Native.Nat.{ℕ, suc, _≤_}
+-- Definitions only; the laws are in `proofs/TrimLaws.antt`, and those of parts in `lists`. Assumes nothing.
+use Prim.Native.Nat.{ℕ, _≤_}
 use mathlib.Core.Path.{_≡_}
 use mathlib.Core.List.{List, [], _∷_}
 use mathlib.Core.Bool.{cond}
-use lib.Dec.{eqb}
 use lib.ListN.{length, take, drop}
+use Rattle.lists.specs.Lists.{split}
 use Rattle.chars.specs.White.{isWhite}
 
--- x in front of the first of the parts
-abbrev pub onFirst : ℕ → List (List ℕ) → List (List ℕ)
-onFirst x [] = (x ∷ []) ∷ []
-onFirst x (p ∷ ps) = (x ∷ p) ∷ ps
-
 -- what stands between the commas of a list
-unfoldable pub parts : List ℕ → List (List ℕ)
-parts [] = [] ∷ []
-parts (x ∷ list) = let ps = parts list in cond (eqb x 44) ([] ∷ ps) (onFirst x ps)
+abbrev pub parts : List ℕ → List (List ℕ)
+parts list = split 44 list
 
 -- without white space at the start
 unfoldable pub trimStart : List ℕ → List ℕ
@@ -35,11 +29,6 @@ trimEnd (x ∷ p) = keepLast x (trimEnd p)
 
 abbrev pub trim : List ℕ → List ℕ
 trim p = trimEnd (trimStart p)
-
--- how many stand before the first x
-unfoldable pub upTo : ℕ → List ℕ → ℕ
-upTo x [] = 0
-upTo x (y ∷ list) = cond (eqb y x) 0 (suc (upTo x list))
 
 -- a part trimmed begins at i
 pub record Begun (p : List ℕ) (i : ℕ) : Type 0 where

@@ -5,7 +5,8 @@ use mathlib.Core.List.{List}
 use mathlib.Core.Bool.{cond, not, _&&_}
 use lib.Dec.{leb, eqb}
 use lib.ListN.{length}
-use Rattle.chars.specs.Scalar.{isScalar, any, notScalar}
+use Rattle.lists.specs.Lists.{any}
+use Rattle.chars.specs.Scalar.{isScalar, notScalar}
 
 -- 2: the character tested is no scalar value
 abbrev pub charRefusal : ℕ → ℕ

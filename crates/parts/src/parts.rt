@@ -4,7 +4,8 @@ ghost use mathlib.Core.Path.{_≡_};
 ghost use Prim.Native.Nat.{_+_, _≤_};
 ghost use lib.ListN.{length, drop};
 ghost use Rattle.chars.specs.White.{whites};
-ghost use Rattle.parts.specs.Parts.{upTo, trim, Begun, Ended};
+ghost use Rattle.lists.specs.Lists.{upTo};
+ghost use Rattle.parts.specs.Parts.{trim, Begun, Ended};
 
 // The index of the first x of the list at or after `from`, or the list's length.
 pub fn find(list: &[u32], from: usize, x: u32) -> usize

@@ -1,4 +1,3 @@
 pub mod Onto
 pub mod Ahead
 pub mod Back
-pub mod High

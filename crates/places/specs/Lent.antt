@@ -7,7 +7,7 @@ use mathlib.Core.Bool.{Bool, true}
 use lib.Dec.{leb}
 use lib.ListN.{length, take}
 use Rattle.letters.specs.Letters.{letters}
-use Rattle.chars.specs.Scalar.{any}
+use Rattle.lists.specs.Lists.{any}
 use Rattle.keywords.specs.Flat.{flatHolds}
 use Rattle.places.specs.Places.{kindOf}
 use Rattle.places.specs.declared.Setting.{Setting}

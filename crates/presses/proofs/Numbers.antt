@@ -17,7 +17,7 @@ use Rattle.partners.specs.Matching.{partnerOf, placed}
 use Rattle.brackets.specs.Matching.{matchingBracketPos}
 use Rattle.signs.specs.Find.{firstBracket}
 use Rattle.brackets.specs.Find.{keyTo}
-use Rattle.commands.specs.Commands.{isSame}
+use Rattle.lists.specs.Lists.{isSame}
 use Rattle.motions.specs.declared.Caret.{Caret}
 use Rattle.motions.specs.declared.Moved.{Moved}
 use Rattle.motions.specs.declared.Moved.the-variants.{To, Refused}

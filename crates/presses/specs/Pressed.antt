@@ -3,7 +3,7 @@
 use Prim.Native.Nat.{ℕ}
 use mathlib.Core.List.{List, []}
 use mathlib.Core.Bool.{Bool, true, false, cond}
-use Rattle.print.specs.Print.{bytes}
+use Rattle.lists.specs.Codes.{codes}
 use Rattle.turns.specs.declared.Motion.{Motion}
 use Rattle.turns.specs.declared.Motion.the-variants.{Fwd, Back, End, EndBack}
 use Rattle.motions.specs.declared.Caret.{Caret}
@@ -29,7 +29,7 @@ Does = List ℕ → ℕ → Caret → Moved
 
 -- a word motion by the list `@,48-57,_`, with no folds, and with stop off
 abbrev pub word : Bool → Motion → Does
-word big m t n k = moveWord t [] (bytes "@,48-57,_") big m false n k
+word big m t n k = moveWord t [] (codes "@,48-57,_") big m false n k
 
 -- j and k: with no folds, and a tabstop of 8
 abbrev pub upright : Bool → Does

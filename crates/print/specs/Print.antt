@@ -1,19 +1,12 @@
--- Bytes written one after another into lent room, texts as bytes, and numbers as text.
+-- Bytes written one after another into lent room, and numbers as text.
 -- What the contracts of `print` and `session` cite. Definitions only; the laws are in `proofs/Laws.antt`. Assumes nothing.
 use Prim.Native.Nat.{ℕ, zero, suc, _+_, _/_, _%_}
-use Prim.Native.Char.{code}
-use Prim.Native.String.{String, [] as ended, _∷_ as _then_}
 use mathlib.Core.Path.{_≡_}
 use mathlib.Core.List.{List, [], _∷_, _++_}
 use mathlib.Core.Bool.{cond}
 use lib.ListN.{length}
 use lib.Seq.{sets}
 use lib.Dec.{ltb}
-
--- a text as bytes
-unfoldable pub bytes : String → List ℕ
-bytes ended = []
-bytes (c then s) = code c ∷ bytes s
 
 -- at most k decimal digits of n, in ASCII, with no zero in front. k is never used up where n < 10 ^ k (`enough`); the equations of `decimal`
 -- are `decimal-small` and `decimal-more`

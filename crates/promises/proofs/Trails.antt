@@ -11,8 +11,7 @@ use Rattle.turns.specs.declared.Motion.{Motion}
 use Rattle.turns.specs.declared.Motion.the-variants.{Fwd, Back, End, EndBack}
 use Rattle.turns.specs.Rounds.{Turn, On, Off, jumpFwd, jumpBack, turn, roundOf, after, counted, wordMotion}
 use Rattle.turns.proofs.Inside.{Turns, jump-fwd-in, jump-back-in, round-in}
-use Rattle.visible.specs.Rounds.{rounds}
-use Rattle.steps.specs.Steps
+use Rattle.lists.specs.Rounds.{rounds}
 use Rattle.positions.specs.declared.Position.{Position}
 use Rattle.promises.specs.Positions.{In, AllIn}
 use Rattle.promises.specs.Trails.{trail, origin, atPlace, found, countedWrites, wordWrites}
@@ -34,12 +33,6 @@ module _ {A : Type 0} (show : A → Position) (f : A → A) where
   unfolding trail
   trail-in t h zero p i = tt
   trail-in t h (suc n) p i = (h p i, trail-in t h n (f p) (h p i))
-
--- the rounds of `<Space>` and `<BS>` are such rounds
-pub step-rounds : (f : Position → Position) (n : ℕ) (p : Position) → rounds f n p ≡ Steps.rounds f n p
-unfolding rounds Steps.rounds
-step-rounds f zero p = refl
-step-rounds f (suc n) p = step-rounds f n (f p)
 
 -- a round of a word motion, and those after it
 module _ (from : Place) (rest : Place → List Position) where

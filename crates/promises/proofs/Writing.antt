@@ -1,12 +1,13 @@
 -- What a motion by number writes stands in the text, and the last position written is that of its answer. Assumes nothing.
-use mathlib.Core.Path.{_≡_, refl, ap, _∙_}
-use mathlib.Core.List.{List, [], _∷_}
+use mathlib.Core.Path.{_≡_, refl}
+use mathlib.Core.List.{List, []}
 use mathlib.Core.Bool.{Bool, true, false, cond}
 use Prim.Native.Nat.{ℕ}
 use native.Mathlib.Decide.{ℕ-discrete}
 use native.Mathlib.Omega.{arith}
 use lib.Dec.{eqb, leb}
 use borrow.Author.Tests.{ne-eqb}
+use Rattle.lists.specs.Rounds.{rounds}
 use Rattle.tokens.specs.Tokens.{inList}
 use Rattle.places.specs.Places.{place, kindOf}
 use Rattle.turns.specs.declared.Motion.{Motion}
@@ -15,7 +16,6 @@ use Rattle.positions.specs.declared.Position.{Position}
 use Rattle.positions.specs.Positions.{Inside}
 use Rattle.positions.proofs.Checks.{inside}
 use Rattle.steps.specs.Steps.{times, spaceFwd, backspaceBack}
-use Rattle.steps.specs.Steps
 use Rattle.steps.proofs.Staying.{space-in, backspace-in}
 use Rattle.motions.specs.declared.Caret.{Caret}
 use Rattle.motions.specs.declared.Moved.{Moved}
@@ -29,7 +29,7 @@ use Rattle.promises.specs.Positions.{AllIn, standing, inMoved}
 use Rattle.promises.specs.Trails.{trail, wordWrites}
 use Rattle.promises.specs.Writes.{writing, byRow, plainWrites, termWrites, ends, lastOf}
 use Rattle.promises.proofs.Landings.{either, motion-lands}
-use Rattle.promises.proofs.Trails.{trail-last, trail-in, step-rounds, word-last, word-in}
+use Rattle.promises.proofs.Trails.{trail-last, trail-in, word-last, word-in}
 
 -- the positions stand in the text, and the last is the caret's
 abbrev pub Fits : List ℕ → List Position → Caret → Type 0
@@ -64,13 +64,13 @@ module _ (t : List ℕ) where
   module _ (k : Caret) (n : ℕ) where
     -- `<Space>` and `<BS>`
     by-steps : (f : Position → Position) → ((p : Position) → Inside t p → Inside t (f p)) →
-        Keeps t (leads t k (Steps.rounds f (times n) (here k))) (λ c. trail (λ p. p) f (times n) (here k))
+        Keeps t (leads t k (rounds f (times n) (here k))) (λ c. trail (λ p. p) f (times n) (here k))
     by-steps f h = record {
       fits =
-          moving-to (Fits t (trail (λ p. p) f (times n) (here k))) (refusalOf t k) (put k (Steps.rounds f (times n) (here k)))
+          moving-to (Fits t (trail (λ p. p) f (times n) (here k))) (refusalOf t k) (put k (rounds f (times n) (here k)))
           (λ z. (
             trail-in (λ p. p) f t h (times n) (here k) (inside t (here k) z),
-            trail-last (λ p. p) f (times n) (here k) (omega arith) ∙ ap (λ (q : Position). q ∷ []) (step-rounds f (times n) (here k)),
+            trail-last (λ p. p) f (times n) (here k) (omega arith),
           ));
     }
 

@@ -1,9 +1,9 @@
 -- The calls of the tables by what they ask, and their replies in short. Definitions only. Assumes nothing.
-use Prim.Native.Nat.{ℕ, zero, suc, _+_}
-use Prim.Native.Char.{code}
-use Prim.Native.String.{String, charAt, len}
+use Prim.Native.Nat.{ℕ}
+use Prim.Native.String.{String}
 use mathlib.Core.List.{List, [], _∷_}
 use mathlib.Core.Bool.{Bool, true, false}
+use Rattle.lists.specs.Codes.{codes}
 use Rattle.lent.specs.declared.Told.{Told}
 use Rattle.lent.specs.declared.Told.the-variants.{Value, Refused}
 use Rattle.lent.specs.Reply.{Reply, answer, refused}
@@ -15,14 +15,6 @@ use Rattle.text_calls.specs.Seeks.{seeks}
 use Rattle.row_calls.specs.Tabs.{tabColumns}
 use Rattle.row_calls.specs.Wraps.{segmented, segmentsLeft}
 use Rattle.fold_calls.specs.Terms.{words}
-
--- the code points of a quoted text of ASCII characters
-abbrev pub codesFrom : String → ℕ → ℕ → List ℕ
-codesFrom s i zero = []
-codesFrom s i (suc n) = code (charAt s i) ∷ codesFrom s (i + 1) n
-
-abbrev pub codes : String → List ℕ
-codes s = codesFrom s 0 (len s)
 
 -- brackets: a partner, and the % key
 abbrev pub pair : String → ℕ → ℕ → Reply

@@ -3,7 +3,7 @@
 use Prim.Native.Nat.{ℕ}
 use Prim.Native.String.{String}
 use mathlib.Core.List.{List, [], _∷_}
-use mathlib.Core.Bool.{Bool, true, false, _&&_}
+use mathlib.Core.Bool.{Bool, true, false}
 use lib.Dec.{eqb}
 use Rattle.lent.specs.Reply.{Reply, answer, refused, told}
 use Rattle.text_calls.specs.Carets.{caretOf}
@@ -17,7 +17,9 @@ use Rattle.text_calls.specs.Viewports.{viewports}
 use Rattle.fold_calls.specs.Upright.{verticals}
 use Rattle.row_calls.specs.Wraps.{offsets, segmentOf}
 use Rattle.session.specs.Session.{sessionOf}
-use Rattle.promises.specs.Asking.{codes, pair, key, till, byWord, with, none, at, found, yes, no}
+use Rattle.lists.specs.Lists.{isSame}
+use Rattle.lists.specs.Codes.{codes}
+use Rattle.promises.specs.Asking.{pair, key, till, byWord, with, none, at, found, yes, no}
 
 pub record Case : Type 0 where
   pub call : String
@@ -30,14 +32,8 @@ abbrev pub case : String → Reply → Reply → Reply → Reply → Case
 case call gives right wrong wrong′ = record { call = call; gives = gives; right = right; wrong = wrong; wrong′ = wrong′ }
 
 -- replies, told apart
-abbrev pub sameValues : List ℕ → List ℕ → Bool
-sameValues [] [] = true
-sameValues [] (y ∷ m) = false
-sameValues (x ∷ l) [] = false
-sameValues (x ∷ l) (y ∷ m) = eqb x y && sameValues l m
-
 abbrev pub same : Reply → Reply → Bool
-same (answer v) (answer w) = sameValues v w
+same (answer v) (answer w) = isSame v w
 same (answer v) (refused f) = false
 same (refused f) (answer w) = false
 same (refused f) (refused g) = eqb f g

@@ -8,7 +8,8 @@ use mathlib.Core.Bool.{true, false}
 use Rattle.keywords.specs.Worked.{P11}
 use Rattle.lent.specs.Reply.{Reply, answer}
 use Rattle.text_calls.specs.Rows.{rowCount}
-use Rattle.promises.specs.Asking.{codes, pair, key, till, byChar, byWord, cursor, cell, paragraph, word, holds, with, none, at, found, yes, no, branch}
+use Rattle.lists.specs.Codes.{codes}
+use Rattle.promises.specs.Asking.{pair, key, till, byChar, byWord, cursor, cell, paragraph, word, holds, with, none, at, found, yes, no, branch}
 
 -- a call's reply, and what it is to be
 pub record Row : Type 0 where

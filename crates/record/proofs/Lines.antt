@@ -7,8 +7,8 @@ use native.Mathlib.Omega.{arith}
 use lib.ListN.{length, take, drop, length-drop}
 use lib.Seq.{drop-drop}
 use borrow.Author.Tests.{eq-eqb, ne-eqb}
-use Rattle.text.specs.Text.{onFirst}
-use Rattle.chars.proofs.Lists.{drop-at}
+use Rattle.lists.specs.Lists.{onFirst}
+use Rattle.lists.proofs.Lists.{drop-at}
 use Rattle.record.specs.Rows.{rowLength, lines}
 
 -- the first row of a list, and the rows after it

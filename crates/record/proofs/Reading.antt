@@ -8,7 +8,7 @@ use native.Mathlib.Omega.{arith}
 use lib.ListN.{length, getD, take, drop, set, replicate, length-replicate, getD-replicate, drop-of-length-le}
 use lib.Seq.{paste, paste-suc, take-paste, length-paste, take-all}
 use borrow.Author.Tests.{le-leb, lt-leb, ne-eqb}
-use Rattle.chars.proofs.Lists.{drop-at}
+use Rattle.lists.proofs.Lists.{drop-at}
 use Rattle.record.specs.declared.Reader.{Reader}
 use Rattle.record.specs.declared.Numbers.the-variants.{Count, Malformed}
 use Rattle.record.specs.Rows.{Read, these, malformed, onto, ends, step, fresh, readFrom, readRow, RowRead, Filled, rowLength}

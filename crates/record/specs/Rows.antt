@@ -7,7 +7,8 @@ use mathlib.Core.Bool.{Bool, true, false, cond, _&&_, _||_, not}
 use lib.ListN.{length, take, replicate}
 use lib.Seq.{paste}
 use lib.Dec.{eqb, ltb, leb}
-use Rattle.text.specs.Text.{onFirst}
+use Rattle.lists.specs.Lists.{onFirst}
+use Rattle.lists.specs.Codes.{isDigit}
 use Rattle.record.specs.declared.Reader.{Reader}
 use Rattle.record.specs.declared.Numbers.{Numbers}
 use Rattle.record.specs.declared.Numbers.the-variants.{Count, Malformed}
@@ -32,7 +33,7 @@ star r = cond (r .begun && not (r .many)) (record { value = 0; times = r .value;
 
 -- one byte more of a number
 unfoldable pub step : Reader → ℕ → Reader
-step r x = cond (eqb x 42) (star r) (cond (leb 48 x && leb x 57) (digit r (x - 48)) spoilt)
+step r x = cond (eqb x 42) (star r) (cond (isDigit x) (digit r (x - 48)) spoilt)
 
 -- a space or the row's end
 abbrev pub ends : ℕ → Bool

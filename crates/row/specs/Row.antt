@@ -5,7 +5,8 @@ use mathlib.Core.List.{List}
 use mathlib.Core.Bool.{cond}
 use lib.ListN.{length}
 use lib.Dec.{ltb}
-use Rattle.chars.specs.Scalar.{any, notScalar}
+use Rattle.lists.specs.Lists.{any}
+use Rattle.chars.specs.Scalar.{notScalar}
 use Rattle.row.specs.declared.Column.{Column}
 use Rattle.row.specs.declared.Column.the-variants.{At, Refused}
 

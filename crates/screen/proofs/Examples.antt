@@ -16,7 +16,7 @@ use Rattle.cells.specs.Offsets.{pairsBefore}
 use Rattle.text.specs.Text.{onFirst, rows}
 use Rattle.folds.specs.Folds.{anyFold, visibleFrom, prevVisible}
 use Rattle.vertical.specs.declared.Sticky.the-variants.{Absent, At}
-use Rattle.visible.specs.Rounds.{rounds}
+use Rattle.lists.specs.Rounds.{rounds}
 use Rattle.visible.specs.Visible.{verticalRow}
 use Rattle.vertical.specs.Moves.{landed}
 use Rattle.screen.specs.Screen.{stepScreen, moveScreen}

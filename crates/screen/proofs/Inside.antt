@@ -18,11 +18,11 @@ use Rattle.folds.specs.declared.Visible.{Visible}
 use Rattle.folds.specs.declared.Visible.the-variants.{Row, NoRow}
 use Rattle.text.proofs.Content.{content-near}
 use Rattle.vertical.specs.declared.Sticky.{Sticky}
-use Rattle.visible.specs.Rounds.{shift}
-use Rattle.visible.specs.Visible.{toward, deltaOf}
+use Rattle.visible.specs.Visible.{toward, deltaOf, shift}
 use Rattle.vertical.specs.Moves.{moveVertical}
 use Rattle.visible.proofs.Visible.{toward-within}
-use Rattle.vertical.proofs.Inside.{Inside, rounds-keep, rows-inside}
+use Rattle.lists.proofs.Rounds.{rounds-keep}
+use Rattle.vertical.proofs.Inside.{Inside, rows-inside}
 use Rattle.screen.specs.declared.Place.{Place}
 use Rattle.segments.specs.Parts.{segmentCount, aheadOf}
 use Rattle.screen.specs.Screen.{seatOf, onSegment, entered, stepScreen, jumpedTo, outOf, jumped}

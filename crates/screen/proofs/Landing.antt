@@ -8,7 +8,7 @@ use lib.ListN.{length, getD}
 use Rattle.cells.specs.Offsets.{segmentIndex}
 use Rattle.text.specs.Text.{rowCount, rowAt, rowLen}
 use Rattle.folds.specs.declared.Visible.the-variants.{Row, NoRow}
-use Rattle.visible.specs.Rounds.{rounds}
+use Rattle.lists.specs.Rounds.{rounds}
 use Rattle.visible.specs.Visible.{toward}
 use Rattle.segments.specs.declared.Part.{Part}
 use Rattle.segments.specs.Parts.{segmentCount, aheadOf, clampTo, modeOf, layOf, partAt, partFor}

@@ -10,12 +10,12 @@ use borrow.Author.Tests.{lt-ltb, le-ltb}
 use Rattle.text.specs.Text.{rowCount, rowAt}
 use Rattle.folds.specs.declared.Visible.the-variants.{Row, NoRow}
 use Rattle.screen.specs.declared.Place.{Place}
-use Rattle.visible.specs.Rounds.{rounds, shift}
-use Rattle.visible.specs.Visible.{toward}
+use Rattle.lists.specs.Rounds.{rounds}
+use Rattle.visible.specs.Visible.{toward, shift}
 use Rattle.segments.specs.Parts.{segmentCount, aheadOf}
 use Rattle.screen.specs.Screen.{onSegment, entered, seatOf, stepScreen}
 use Rattle.screen.specs.Walks.{placeAt, aheadAt}
-use Rattle.visible.proofs.Rounds.{rounds-on, rounds-still, rounds-add}
+use Rattle.lists.proofs.Rounds.{rounds-on, rounds-still, rounds-add}
 use Rattle.segments.proofs.Seats.{Laid, seat-is, seat-within}
 
 -- the segments ahead tell the segment, and the other way round

@@ -11,7 +11,7 @@ use Rattle.folds.specs.declared.Visible.the-variants.{Row, NoRow}
 use Rattle.text.proofs.Stands.{line-there}
 use Rattle.screen.specs.declared.Place.{Place}
 use Rattle.screen.specs.declared.Spot.{Spot}
-use Rattle.visible.specs.Rounds.{rounds}
+use Rattle.lists.specs.Rounds.{rounds}
 use Rattle.visible.specs.Visible.{toward}
 use Rattle.segments.specs.Parts.{segmentCount, layOf, modeOf}
 use Rattle.segments.proofs.Seats.{laid}

@@ -9,7 +9,7 @@ use Rattle.chars.specs.White.{isWhite}
 use Rattle.wrap.specs.declared.Wrap.{Wrap}
 use Rattle.wrap.specs.Modes.{isNone, segmentsOf}
 use Rattle.cells.specs.Offsets.{segmentIndex}
-use Rattle.text.specs.Text.{rowCount, rowAt, rowLen, contentRows}
+use Rattle.text.specs.Text.{rowCount, rowAt, rowLen, contentRows, lastCol}
 use Rattle.folds.specs.Folds.{closedFoldAt}
 use Rattle.folds.specs.declared.Span.{Span}
 use Rattle.folds.specs.declared.Span.the-variants.{Of, NoSpan}
@@ -19,9 +19,9 @@ use Rattle.segments.specs.Parts.{clampTo, segmentCount, aheadOf, offsetIn}
 use Rattle.screen.specs.declared.Place.{Place}
 use Rattle.vertical.specs.declared.Sticky.{Sticky}
 use Rattle.vertical.specs.declared.Target.{Target}
-use Rattle.visible.specs.Rounds.{rounds, shift}
-use Rattle.visible.specs.Visible.{toward, deltaOf}
-use Rattle.vertical.specs.Moves.{lastCol, wantedCol, moveVertical}
+use Rattle.lists.specs.Rounds.{rounds}
+use Rattle.visible.specs.Visible.{toward, deltaOf, shift}
+use Rattle.vertical.specs.Moves.{wantedCol, moveVertical}
 
 -- the place at that offset in segment j of a row
 abbrev pub onSegment : List ℕ → (List ℕ → List ℕ) → ℕ → ℕ → ℕ → Place

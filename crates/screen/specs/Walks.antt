@@ -13,7 +13,7 @@ use Rattle.screen.specs.declared.Jump.{Jump}
 use Rattle.screen.specs.declared.Seat.{Seat}
 use Rattle.screen.specs.declared.Spot.{Spot}
 use Rattle.screen.specs.declared.Place.{Place}
-use Rattle.visible.specs.Rounds.{rounds}
+use Rattle.lists.specs.Rounds.{rounds}
 use Rattle.segments.specs.Parts.{segmentCount, aheadOf}
 use Rattle.screen.specs.Screen.{onSegment, seatOf, stepScreen}
 

@@ -15,7 +15,7 @@ ghost use Rattle.chars.specs.Width.{widthBy};
 ghost use Rattle.cuts.specs.Lent.{Tables};
 ghost use Rattle.segments.specs.Parts.{layOf};
 ghost use Rattle.text.specs.Offsets.{IsLine};
-ghost use Rattle.visible.specs.Rounds.{rounds};
+ghost use Rattle.lists.specs.Rounds.{rounds};
 ghost use Rattle.screen.specs.Screen.{stepScreen, screenFrom};
 ghost use Rattle.screen.specs.Walks.{placeAt, seatAt, Ready, IsSpot, Leads};
 

@@ -9,7 +9,7 @@ use lib.Dec.{ltb}
 use lib.ListN.{length, getD, take, drop, set, length-drop}
 use lib.Seq.{take-suc, take-suc-set, getD-drop, take-all}
 use borrow.Author.Tests.{lt-ltb, le-ltb, ltb-false}
-use Rattle.chars.specs.Scalar.{any}
+use Rattle.lists.specs.Lists.{any}
 use Rattle.text.specs.Text.{rows}
 use Rattle.script.specs.declared.Begin.the-variants.{At, Refused}
 use Rattle.script.specs.Parts.{hasStop, textAt, isAbove, isRefused, beginOf, stopOf}

@@ -6,16 +6,15 @@ use mathlib.Core.List.{List, [], _∷_}
 use mathlib.Core.Bool.{Bool, false, cond, not, _||_}
 use lib.Dec.{ltb}
 use lib.ListN.{length, take, drop}
-use Rattle.chars.specs.Scalar.{any}
+use Rattle.lists.specs.Lists.{any, isSame}
 use Rattle.text.specs.Text.{rows}
-use Rattle.print.specs.Print.{bytes}
-use Rattle.commands.specs.Commands.{isSame}
+use Rattle.lists.specs.Codes.{codes}
 use Rattle.script.specs.declared.Begin.{Begin}
 use Rattle.script.specs.declared.Begin.the-variants.{At, Refused}
 
 -- a row with only a full stop
 abbrev pub isStop : List ℕ → Bool
-isStop row = isSame row (bytes ".")
+isStop row = isSame row (codes ".")
 
 -- the rows before the first of them
 unfoldable pub commandRows : List (List ℕ) → List (List ℕ)

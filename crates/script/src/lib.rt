@@ -6,7 +6,7 @@ ghost use mathlib.Core.Path.{_≡_};
 ghost use mathlib.Core.Bool.{not};
 ghost use Prim.Native.Nat.{_≤_};
 ghost use lib.ListN.{length};
-ghost use Rattle.chars.specs.Scalar.{any};
+ghost use Rattle.lists.specs.Lists.{any};
 ghost use Rattle.script.specs.Parts.{isAbove, isStop, stopOf, beginOf, Widened};
 
 // Where a text begins in an input, or that the input is refused.

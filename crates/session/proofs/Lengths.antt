@@ -9,9 +9,11 @@ use lib.ListN.{length, length-append, length-take}
 use borrow.Author.Tests.{ne-eqb}
 use Rattle.text.specs.Text.{rows, onFirst}
 use Rattle.text.proofs.Rows.{rows-pos}
-use Rattle.print.specs.Print.{Wrote, bytes, decimal}
+use Rattle.lists.specs.Codes.{codes}
+use Rattle.print.specs.Print.{Wrote, decimal}
 use Rattle.print.proofs.Laws.{wrote-then, length-decimal}
-use Rattle.commands.specs.Commands.{upTo, keyPart, countIn}
+use Rattle.lists.specs.Lists.{upTo}
+use Rattle.commands.specs.Commands.{keyPart, countIn}
 use Rattle.motions.specs.declared.Caret.{Caret}
 use Rattle.motions.specs.declared.Moved.{Moved}
 use Rattle.motions.specs.declared.Moved.the-variants.{To, Refused}
@@ -27,15 +29,15 @@ module _ (name : List ℕ) (m : Moved) where
   shown-to e = rw e
 
   pub shown-unknown : {f : ℕ} → m ≡ Refused f → f ≡ 0 → shownOf name m ≡ 63 ∷ []
-  unfolding shownOf bytes
+  unfolding shownOf codes
   shown-unknown e h = rw (e, h)
 
   pub shown-refused : {f : ℕ} → m ≡ Refused f → (f ≡ 0 → ⊥) → shownOf name m ≡ (33 ∷ []) ++ decimal f
-  unfolding shownOf bytes
+  unfolding shownOf codes
   shown-refused {f} e h = rw (e, ne-eqb f 0 h)
 
 shown-most : (name : List ℕ) (m : Moved) → length (shownOf name m) ≤ length name + 11
-unfolding shownOf bytes
+unfolding shownOf codes
 shown-most name (To k) = omega arith
 shown-most name (Refused f) = go (eqb f 0)
   where
@@ -45,14 +47,14 @@ shown-most name (Refused f) = go (eqb f 0)
 
 -- a line from its pieces
 pub length-line : (what : List ℕ) (k : Caret) → length (lineOf what k) ≡ length what + length (decimal (k .row)) + length (decimal (k .col)) + 3
-unfolding lineOf bytes
+unfolding lineOf codes
 length-line what k = simp length-append (omega arith)
 
 pub wrote-line :
     (what : List ℕ) (k : Caret) {out o p q r s u : List ℕ} {at a b c d e f : ℕ} → Wrote out at what a o → Wrote o a (32 ∷ []) b p →
     Wrote p b (decimal (k .row)) c q → Wrote q c (32 ∷ []) d r → Wrote r d (decimal (k .col)) e s → Wrote s e (10 ∷ []) f u →
     Wrote out at (lineOf what k) f u
-unfolding lineOf bytes
+unfolding lineOf codes
 wrote-line what k v w x y z n = wrote-then (wrote-then (wrote-then (wrote-then (wrote-then v w) x) y) z) n
 
 -- a command row prints at most 24 bytes for each of its own, its separator included: an empty one is unknown
@@ -62,7 +64,7 @@ module _ (t : List ℕ) (k : Caret) where
   turned-none = pressed-none t 0 k
 
   shown-turned : (row : List ℕ) → length (shownOf (keyPart row) (turned t k row)) ≤ 24 * length row + 1
-  unfolding shownOf bytes
+  unfolding shownOf codes
   shown-turned [] = subst (λ (m : Moved). length (shownOf (keyPart []) m) ≤ 24 * 0 + 1) (sym turned-none) (omega arith)
   shown-turned (x ∷ row) =
       omega (arith, shown-most (keyPart (x ∷ row)) (turned t k (x ∷ row)), length-take (upTo 32 (x ∷ row)) (x ∷ row))

@@ -6,7 +6,8 @@ use Prim.Native.Nat.{ℕ, _≤_}
 use native.Mathlib.Omega.{arith}
 use lib.ListN.{length, drop}
 use lib.Seq.{sets-eq, length-take-le}
-use Rattle.print.specs.Print.{Wrote, bytes}
+use Rattle.lists.specs.Codes.{codes}
+use Rattle.print.specs.Print.{Wrote}
 use Rattle.script.specs.declared.Begin.the-variants.{At, Refused}
 use Rattle.script.specs.Parts.{textOf, isRefused, beginOf}
 use Rattle.script.proofs.Inputs.{taken-short, begin-refused, begin-taken}
@@ -16,7 +17,7 @@ use Rattle.session.proofs.Lengths.{lines-fit}
 
 -- what an input prints
 module _ (input : List ℕ) where
-  pub session-refused : Refused ≡ beginOf input → sessionOf input ≡ bytes "refused\n"
+  pub session-refused : Refused ≡ beginOf input → sessionOf input ≡ codes "refused\n"
   unfolding sessionOf
   session-refused e = rw (begin-refused input e)
 
@@ -29,10 +30,10 @@ module _ (input : List ℕ) where
 
   -- the room of the public call is enough for every input
   pub session-fits : length (sessionOf input) ≤ 393240
-  unfolding sessionOf bytes
+  unfolding sessionOf codes
   session-fits = go (isRefused input) refl
     where
-      go : (b : Bool) → isRefused input ≡ b → length (cond b (bytes "refused\n") (outputOf (textOf input) input)) ≤ 393240
+      go : (b : Bool) → isRefused input ≡ b → length (cond b (codes "refused\n") (outputOf (textOf input) input)) ≤ 393240
       go true e = omega arith
       go false e = lines-fit (textOf input) input (taken-short input e)
 

@@ -11,7 +11,8 @@ use Rattle.commands.specs.Commands.{keyPart, Ends}
 use Rattle.motions.specs.declared.Caret.{Caret}
 use Rattle.motions.specs.Carets.{caretAfter}
 use Rattle.script.specs.Parts.{isStop, commandRows}
-use Rattle.script.proofs.Rows.{rowsFrom, rows-start, rows-end, rows-step}
+use Rattle.lists.proofs.Splits.{splitFrom, split-from-end}
+use Rattle.script.proofs.Rows.{rows-start, rows-step}
 use Rattle.session.specs.Session.{turned, shownOf, lineOf, linesOf, start, outputOf}
 use Rattle.session.proofs.Lengths.{lines-fit}
 
@@ -19,7 +20,7 @@ use Rattle.session.proofs.Lengths.{lines-fit}
 pub record Progress (input t out₀ : List ℕ) (k : Caret) (at i : ℕ) (out : List ℕ) : Type 0 where
   pub so-far : List ℕ
   pub wrote : Wrote out₀ 0 so-far at out
-  pub rest : outputOf t input ≡ so-far ++ linesOf t k (commandRows (rowsFrom input i))
+  pub rest : outputOf t input ≡ so-far ++ linesOf t k (commandRows (splitFrom 10 input i))
   pub near : i ≤ length input + 1
 
 pub progress-start : (input t out : List ℕ) → Progress input t out start 0 0 out
@@ -32,7 +33,7 @@ progress-start input t out =
     }
 
 pub progress-end :
-    {input t out₀ out : List ℕ} {k : Caret} {at i : ℕ} (p : Progress input t out₀ k at i out) → commandRows (rowsFrom input i) ≡ [] →
+    {input t out₀ out : List ℕ} {k : Caret} {at i : ℕ} (p : Progress input t out₀ k at i out) → commandRows (splitFrom 10 input i) ≡ [] →
     Wrote out₀ 0 (outputOf t input) at out
 unfolding linesOf
 progress-end {input} {t} {out₀} {out} {k} {at} p e =
@@ -43,11 +44,11 @@ module _ {input t out₀ out : List ℕ} {k : Caret} {at i e : ℕ} (p : Progres
   abbrev here : List ℕ
   here = take (e - i) (drop i input)
 
-  pub commands-stop : isStop here ≡ true → commandRows (rowsFrom input i) ≡ []
+  pub commands-stop : isStop here ≡ true → commandRows (splitFrom 10 input i) ≡ []
   unfolding commandRows
   commands-stop s = rw (rows-step input i e h w, s)
 
-  commands-on : isStop here ≡ false → commandRows (rowsFrom input i) ≡ here ∷ commandRows (rowsFrom input (e + 1))
+  commands-on : isStop here ≡ false → commandRows (splitFrom 10 input i) ≡ here ∷ commandRows (splitFrom 10 input (e + 1))
   unfolding commandRows
   commands-on s = rw (rows-step input i e h w, s)
 
@@ -57,14 +58,14 @@ module _ {input t out₀ out : List ℕ} {k : Caret} {at i e : ℕ} (p : Progres
   abbrev shows : List ℕ
   shows = lineOf (shownOf (keyPart here) (turned t k here)) next
 
-  rest-on : isStop here ≡ false → outputOf t input ≡ p .so-far ++ (shows ++ linesOf t next (commandRows (rowsFrom input (e + 1))))
+  rest-on : isStop here ≡ false → outputOf t input ≡ p .so-far ++ (shows ++ linesOf t next (commandRows (splitFrom 10 input (e + 1))))
   unfolding linesOf
   rest-on s = p .rest ∙ ap (λ (rs : List (List ℕ)). p .so-far ++ linesOf t k rs) (commands-on s)
 
   -- there is room for this line
   pub progress-room : isStop here ≡ false → length input ≤ 16384 → at + length shows ≤ 393240
   progress-room s small =
-      let rest = linesOf t next (commandRows (rowsFrom input (e + 1))) in
+      let rest = linesOf t next (commandRows (splitFrom 10 input (e + 1))) in
       omega (arith, lines-fit t input small, ap length (rest-on s), length-append (p .so-far) (shows ++ rest), length-append shows rest, p .wrote .next)
 
   pub progress-on : isStop here ≡ false → {at′ : ℕ} {out′ : List ℕ} → Wrote out at shows at′ out′ → Progress input t out₀ next at′ (e + 1) out′
@@ -72,10 +73,10 @@ module _ {input t out₀ out : List ℕ} {k : Caret} {at i e : ℕ} (p : Progres
       record {
         so-far = p .so-far ++ shows;
         wrote = wrote-then (p .wrote) v;
-        rest = rest-on s ∙ sym (append-assoc (p .so-far) shows (linesOf t next (commandRows (rowsFrom input (e + 1)))));
+        rest = rest-on s ∙ sym (append-assoc (p .so-far) shows (linesOf t next (commandRows (splitFrom 10 input (e + 1)))));
         near = omega (arith, w .within);
       }
 
-pub commands-end : (input : List ℕ) (i : ℕ) → length input < i → commandRows (rowsFrom input i) ≡ []
+pub commands-end : (input : List ℕ) (i : ℕ) → length input < i → commandRows (splitFrom 10 input i) ≡ []
 unfolding commandRows
-commands-end input i h = rw (rows-end input i h)
+commands-end input i h = rw (split-from-end 10 input i h)

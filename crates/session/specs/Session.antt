@@ -5,7 +5,8 @@ use mathlib.Core.List.{List, [], _∷_, _++_}
 use mathlib.Core.Bool.{cond}
 use lib.Dec.{eqb}
 use Rattle.text.specs.Text.{rows}
-use Rattle.print.specs.Print.{bytes, decimal}
+use Rattle.lists.specs.Codes.{codes}
+use Rattle.print.specs.Print.{decimal}
 use Rattle.commands.specs.Commands.{keyPart, countIn}
 use Rattle.commands.specs.declared.Count.{Count}
 use Rattle.commands.specs.declared.Count.the-variants.{Of, Malformed}
@@ -29,10 +30,10 @@ turned t k row = counted (keyPart row) (countIn row) t k
 -- what stands in the key's place
 unfoldable pub shownOf : List ℕ → Moved → List ℕ
 shownOf name (To k) = name
-shownOf name (Refused f) = cond (eqb f 0) (bytes "?") (bytes "!" ++ decimal f)
+shownOf name (Refused f) = cond (eqb f 0) (codes "?") (codes "!" ++ decimal f)
 
 unfoldable pub lineOf : List ℕ → Caret → List ℕ
-lineOf what k = what ++ bytes " " ++ decimal (k .row) ++ bytes " " ++ decimal (k .col) ++ bytes "\n"
+lineOf what k = what ++ codes " " ++ decimal (k .row) ++ codes " " ++ decimal (k .col) ++ codes "\n"
 
 -- the lines of command rows, one after another from a caret on. A refused row leaves the caret as it was
 unfoldable pub linesOf : List ℕ → Caret → List (List ℕ) → List ℕ
@@ -49,4 +50,4 @@ abbrev pub outputOf : List ℕ → List ℕ → List ℕ
 outputOf t input = linesOf t start (commandRows (rows input))
 
 unfoldable pub sessionOf : List ℕ → List ℕ
-sessionOf input = cond (isRefused input) (bytes "refused\n") (outputOf (textOf input) input)
+sessionOf input = cond (isRefused input) (codes "refused\n") (outputOf (textOf input) input)

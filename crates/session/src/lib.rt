@@ -12,7 +12,8 @@ use vertical::Sticky;
 ghost use mathlib.Core.Path.{_≡_};
 ghost use Prim.Native.Nat.{_+_, _≤_};
 ghost use lib.ListN.{length, drop};
-ghost use Rattle.print.specs.Print.{Wrote, bytes};
+ghost use Rattle.lists.specs.Codes.{codes};
+ghost use Rattle.print.specs.Print.{Wrote};
 ghost use Rattle.motions.specs.Carets.{caretAfter};
 ghost use Rattle.session.specs.Session.{turned, shownOf, lineOf, outputOf, sessionOf};
 ghost use Rattle.session.specs.Written.{Printed};
@@ -111,7 +112,7 @@ fn run(input: &[u8], from: usize, out: &mut [u8]) -> usize
 // What an input that is not taken prints.
 fn refuse(out: &mut [u8]) -> usize
     requires { ⌜ 393240 ≤ length (now out) ⌝ }
-    ensures { λ r. ⌜ Wrote (now (out .entry)) 0 (bytes "refused\n") r (now (out .exit)) ⌝ }
+    ensures { λ r. ⌜ Wrote (now (out .entry)) 0 (codes "refused\n") r (now (out .exit)) ⌝ }
 {
     put_bytes(out, 0, b"refused\n")
 }

@@ -1,4 +1,3 @@
 -- Laws of steps, which the proofs of this crate and of the crates above it cite.
-pub mod Rounds
 pub mod Stepping
 pub mod Staying

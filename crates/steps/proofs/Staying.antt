@@ -3,7 +3,7 @@
 use mathlib.Core.Path.{_≡_, refl}
 use mathlib.Core.List.{List}
 use mathlib.Core.Bool.{Bool, true, false, cond}
-use Prim.Native.Nat.{ℕ, zero, suc, _+_, _-_, _≤_, _<_, _^_}
+use Prim.Native.Nat.{ℕ, _+_, _-_, _≤_, _<_, _^_}
 use native.Mathlib.Omega.{arith}
 use lib.Dec.{ltb}
 use lib.ListN.{length}
@@ -13,7 +13,7 @@ use Rattle.text.proofs.Parts.{count-le, row-fits}
 use Rattle.positions.specs.declared.Position.{Position}
 use Rattle.positions.specs.declared.Entry.{Entry}
 use Rattle.positions.specs.Positions.{position, Accepted, Inside}
-use Rattle.steps.specs.Steps.{rounds, spaceFwd, backspaceBack}
+use Rattle.steps.specs.Steps.{spaceFwd, backspaceBack}
 
 -- an accepted position, and the numbers of any in its text
 pub accepted-in : {t : List ℕ} {p : Position} {e : Entry} → Accepted t p e → Inside t p
@@ -30,13 +30,6 @@ either-in t false p q h l = l
 
 pub position-in : (t : List ℕ) (r c : ℕ) → r < rowCount t → c ≤ rowLen t r → Inside t (position r c)
 position-in t r c h l = record { in-row = h; in-col = l }
-
--- rounds of steps
-pub rounds-in : (t : List ℕ) (f : Position → Position) → ((p : Position) → Inside t p → Inside t (f p)) → (n : ℕ) (p : Position) → Inside t p →
-    Inside t (rounds f n p)
-unfolding rounds
-rounds-in t f h zero p i = i
-rounds-in t f h (suc n) p i = rounds-in t f h n (f p) (h p i)
 
 module _ (t : List ℕ) (p : Position) (i : Inside t p) where
   pub space-in : Inside t (spaceFwd t p)

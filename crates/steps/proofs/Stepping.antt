@@ -15,8 +15,9 @@ use Rattle.text.proofs.Before.{on-first, behind-char}
 use Rattle.text.proofs.Stands.{stands-at, step-char, back-nl}
 use Rattle.positions.specs.declared.Position.{Position}
 use Rattle.positions.specs.Positions.{position}
-use Rattle.steps.specs.Steps.{rounds, spaceFwd, backspaceBack}
-use Rattle.steps.proofs.Rounds.{rounds-on, rounds-none, rounds-still}
+use Rattle.lists.specs.Rounds.{rounds}
+use Rattle.steps.specs.Steps.{spaceFwd, backspaceBack}
+use Rattle.lists.proofs.Rounds.{rounds-on, rounds-none, rounds-still}
 
 -- n rounds from p are `left` rounds from the place of the walk
 pub record Going (f : Position → Position) (p : Position) (n : ℕ) (t : List ℕ) (row start at left : ℕ) : Type 0 where

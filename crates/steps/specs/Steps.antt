@@ -1,22 +1,16 @@
 -- One character on or back from row to row, as motions.rs has it under "Horizontal motions".
--- Definitions only; the laws are in `proofs/Rounds.antt` and `proofs/Stepping.antt`. Assumes nothing.
-use Prim.Native.Nat.{ℕ, zero, suc, _+_, _-_, max}
+-- Definitions only; the laws are in `proofs/Stepping.antt`. Assumes nothing.
+use Prim.Native.Nat.{ℕ, _+_, _-_, max}
 use mathlib.Core.List.{List}
 use mathlib.Core.Bool.{cond}
 use lib.Dec.{ltb}
-use Rattle.text.specs.Text.{rowCount}
-use Rattle.margins.specs.Margins.{lastCol}
+use Rattle.text.specs.Text.{rowCount, lastCol}
 use Rattle.positions.specs.declared.Position.{Position}
 use Rattle.positions.specs.Positions.{position}
 
 -- count 0 acts as 1
 abbrev pub times : ℕ → ℕ
 times n = max n 1
-
--- a round, so many times over. A round that stops leaves the position as it is, and so do all that would follow
-unfoldable pub rounds : (Position → Position) → ℕ → Position → Position
-rounds f zero p = p
-rounds f (suc n) p = rounds f n (f p)
 
 -- the next column; from the last one on, the first column of the next row, where there is one
 unfoldable pub spaceFwd : List ℕ → Position → Position

@@ -5,7 +5,8 @@ use positions::Position;
 use text::most;
 ghost use mathlib.Core.Path.{_≡_};
 ghost use Rattle.positions.specs.Positions.{Accepted};
-ghost use Rattle.steps.specs.Steps.{times, rounds, spaceFwd, backspaceBack};
+ghost use Rattle.lists.specs.Rounds.{rounds};
+ghost use Rattle.steps.specs.Steps.{times, spaceFwd, backspaceBack};
 
 pub fn space_fwd(t: &[u32], p: Position, e: Entry, count: u32) -> Position
     requires { ⌜ Accepted (now t) p e ⌝ }

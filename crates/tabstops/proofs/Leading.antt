@@ -5,7 +5,7 @@ use Prim.Native.Nat.{ℕ, _+_, _-_, _*_, _%_, _≤_, _<_}
 use native.Mathlib.Omega.{arith}
 use lib.ListN.{length, getD, drop, drop-of-length-le}
 use borrow.Author.Tests.{eq-eqb, ne-eqb}
-use Rattle.chars.proofs.Lists.{drop-at}
+use Rattle.lists.proofs.Lists.{drop-at}
 use Rattle.tabstops.specs.Indents.{leadingFrom}
 
 module _ (tab v x : ℕ) (row : List ℕ) where

@@ -2,7 +2,7 @@
 -- The rows of a text, and what a text is refused for. Assumes nothing.
 use mathlib.Core.Path.{_≡_, refl}
 use mathlib.Core.List.{[], _∷_}
-use Rattle.chars.specs.Scalar.{any}
+use Rattle.lists.specs.Lists.{any}
 use Rattle.accept.specs.Accept.{textRefusal}
 use Rattle.text.specs.Text.{onFirst, rows, contentRowCount}
 use Rattle.text.specs.Offsets.{startIn, rowStart}

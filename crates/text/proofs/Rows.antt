@@ -12,7 +12,8 @@ use lib.ListN.{length, getD, drop, drop-of-length-le}
 use borrow.Author.Tests.{eq-eqb, ne-eqb}
 use Rattle.text.specs.Text.{onFirst, rows, rowCount, rowLen}
 use Rattle.text.specs.Offsets.{startIn, rowStart}
-use Rattle.chars.proofs.Lists.{drop-at}
+use Rattle.lists.specs.Lists.{split}
+use Rattle.lists.proofs.Lists.{drop-at}
 
 -- what a code point in front does to the rows
 pub rows-nl : (x : ℕ) (t : List ℕ) → x ≡ 10 → rows (x ∷ t) ≡ [] ∷ rows t
@@ -26,6 +27,12 @@ rows-on x t n = rw (ne-eqb x 10 n)
 pub rows-nil : rows [] ≡ [] ∷ []
 unfolding rows
 rows-nil = refl
+
+-- the rows are the parts between separators
+pub rows-split : (t : List ℕ) → rows t ≡ split 10 t
+unfolding rows split
+rows-split [] = refl
+rows-split (x ∷ t) = rw (rows-split t)
 
 -- a text has a row
 pub rows-pos : (t : List ℕ) → 0 < length (rows t)

@@ -5,14 +5,10 @@ use mathlib.Core.List.{List, [], _∷_}
 use mathlib.Core.Bool.{cond, _&&_}
 use lib.ListN.{length, getD}
 use lib.Dec.{eqb, ltb}
+unfoldable pub use Rattle.lists.specs.Lists.{onFirst}
 use Rattle.accept.specs.Accept.{textRefusal}
 use Rattle.text.specs.declared.Counted.{Counted}
 use Rattle.text.specs.declared.Counted.the-variants.{Rows, Refused}
-
--- x in front of the first of the rows
-unfoldable pub onFirst : ℕ → List (List ℕ) → List (List ℕ)
-onFirst x [] = (x ∷ []) ∷ []
-onFirst x (row ∷ rest) = (x ∷ row) ∷ rest
 
 -- the rows of a text: the empty text has one empty row, and each U+000A ends a row and begins the next
 unfoldable pub rows : List ℕ → List (List ℕ)
@@ -28,9 +24,17 @@ rowAt t r = getD (rows t) r []
 abbrev pub rowLen : List ℕ → ℕ → ℕ
 rowLen t r = length (rowAt t r)
 
+-- the last column of a row: 0 of an empty one
+abbrev pub lastCol : List ℕ → ℕ → ℕ
+lastCol t r = rowLen t r - 1
+
 -- one fewer than the rows if the last row is empty and isn't row 0, else all of them
 abbrev pub contentRows : List ℕ → ℕ
 contentRows t = cond (ltb 1 (rowCount t) && eqb (rowLen t (rowCount t - 1)) 0) (rowCount t - 1) (rowCount t)
+
+-- the last row with content
+abbrev pub lastRow : List ℕ → ℕ
+lastRow t = contentRows t - 1
 
 -- the answer of `content_row_count`
 abbrev pub contentRowCount : List ℕ → Counted

@@ -5,7 +5,7 @@ use Prim.Native.Nat.{ℕ, suc, _+_, _-_, _≤_, _<_}
 use native.Mathlib.Omega.{arith}
 use lib.ListN.{length, getD, take, drop, set, replicate, length-map, length-append}
 use lib.Seq.{getD-take, length-take-le, set-append-seam}
-use Rattle.chars.proofs.Lists.{drop-at-of as drop-at}
+use Rattle.lists.proofs.Lists.{drop-at-of as drop-at}
 
 -- what stands at i among the first n, and what stands after it
 pub drop-at-take : {X : Type 0} (l : List X) (n i : ℕ) (d : X) → i < n → n ≤ length l → drop i (take n l) ≡ getD l i d ∷ drop (i + 1) (take n l)

@@ -13,11 +13,12 @@ use Rattle.tokens.specs.declared.Token.{Token}
 use Rattle.tokens.specs.declared.tokens.Step.{Step}
 use Rattle.parts.specs.declared.numbers.Number.{Number}
 use Rattle.parts.specs.Numbers.{numberOf}
-use Rattle.parts.specs.Parts.{trim, upTo}
+use Rattle.lists.specs.Lists.{upTo, any}
+use Rattle.parts.specs.Parts.{trim}
 use Rattle.tokens.specs.Grammar.{noToken, codes, isAt, single, between, rangeOf, tokenOf}
-use Rattle.tokens.specs.Tokens.{tokensIn, tokenHolds, any, anyToken, stepOf}
+use Rattle.tokens.specs.Tokens.{tokensIn, tokenHolds, anyToken, stepOf}
 use Rattle.tokens.proofs.Lists.{drop-at-take}
-use Rattle.parts.proofs.PartLaws.{partsFrom, parts-from-step, parts-from-end, next-most}
+use Rattle.lists.proofs.Splits.{splitFrom, split-from-step, split-from-end, next-most}
 
 pub single-not : (p : List ℕ) → (length p ≡ 1 → ⊥) → noToken ≡ single p
 single-not [] h = refl
@@ -82,21 +83,21 @@ step-is l i e t h w =
 
 module _ (l : List ℕ) (i : ℕ) (h : i ≤ length l) (s : Step) (w : s ≡ stepOf l i) where
   pub step-next : (i < s .next) × (s .next ≤ length l + 1)
-  step-next = let e = ap (λ (x : Step). x .next) w in (omega arith, omega (arith, next-most l i h))
+  step-next = let e = ap (λ (x : Step). x .next) w in (omega arith, omega (arith, next-most 44 l i h))
 
-  pub step-skip : s .token .kind ≡ 0 → tokensIn (partsFrom l i) ≡ tokensIn (partsFrom l (s .next))
-  step-skip z = rw (w, parts-from-step l i h) (tokens-skip _ _ (rw w at z))
+  pub step-skip : s .token .kind ≡ 0 → tokensIn (splitFrom 44 l i) ≡ tokensIn (splitFrom 44 l (s .next))
+  step-skip z = rw (w, split-from-step 44 l i h) (tokens-skip _ _ (rw w at z))
 
-  pub step-keep : (s .token .kind ≡ 0 → ⊥) → tokensIn (partsFrom l i) ≡ s .token ∷ tokensIn (partsFrom l (s .next))
-  step-keep z = rw (w, parts-from-step l i h) (tokens-keep _ _ (rw w at z))
+  pub step-keep : (s .token .kind ≡ 0 → ⊥) → tokensIn (splitFrom 44 l i) ≡ s .token ∷ tokensIn (splitFrom 44 l (s .next))
+  step-keep z = rw (w, split-from-step 44 l i h) (tokens-keep _ _ (rw w at z))
 
-  pub step-any : (c : ℕ) → anyToken (tokensIn (partsFrom l i)) c ≡ (tokenHolds (s .token) c || anyToken (tokensIn (partsFrom l (s .next))) c)
-  step-any c = rw (w, parts-from-step l i h) (any-token-part _ _ c)
+  pub step-any : (c : ℕ) → anyToken (tokensIn (splitFrom 44 l i)) c ≡ (tokenHolds (s .token) c || anyToken (tokensIn (splitFrom 44 l (s .next))) c)
+  step-any c = rw (w, split-from-step 44 l i h) (any-token-part _ _ c)
 
 -- past the end there are no parts, and nothing is held
-pub parts-none : (l : List ℕ) (i c : ℕ) → length l < i → anyToken (tokensIn (partsFrom l i)) c ≡ false
+pub parts-none : (l : List ℕ) (i c : ℕ) → length l < i → anyToken (tokensIn (splitFrom 44 l i)) c ≡ false
 unfolding any tokensIn
-parts-none l i c h = rw (parts-from-end l i h)
+parts-none l i c h = rw (split-from-end 44 l i h)
 
 -- the tokens of a table's first n places, one after the other
 module _ (f : Token → Bool) (ts : List Token) (n i : ℕ) where

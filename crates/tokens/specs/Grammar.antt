@@ -9,7 +9,7 @@ use Rattle.tokens.specs.declared.Token.{Token}
 use Rattle.parts.specs.declared.numbers.Number.{Number}
 use Rattle.parts.specs.declared.numbers.Number.the-variants.{Value, Not}
 use Rattle.parts.specs.Numbers.{numberOf}
-use Rattle.parts.specs.Parts.{upTo}
+use Rattle.lists.specs.Lists.{upTo}
 
 abbrev pub noToken : Token
 noToken = record { kind = 0; lo = 0; hi = 0 }

@@ -2,13 +2,14 @@
 -- Definitions only; the laws are in `proofs/TokenLaws.antt`. Assumes nothing.
 use Prim.Native.Nat.{ℕ, _+_}
 use mathlib.Core.List.{List, [], _∷_}
-use mathlib.Core.Bool.{Bool, false, cond, _&&_, _||_}
+use mathlib.Core.Bool.{Bool, cond, _&&_}
 use lib.Dec.{eqb, leb}
 use lib.ListN.{take, drop}
+use Rattle.lists.specs.Lists.{any, upTo}
 use Rattle.letters.specs.Letters.{isLetter}
 use Rattle.tokens.specs.declared.Token.{Token}
 use Rattle.tokens.specs.declared.tokens.Step.{Step}
-use Rattle.parts.specs.Parts.{parts, trim, upTo}
+use Rattle.parts.specs.Parts.{parts, trim}
 use Rattle.tokens.specs.Grammar.{isToken, tokenOf}
 
 -- the tokens of parts in order, trimmed; what is none is left out
@@ -28,11 +29,6 @@ lowOf t = cond (eqb (t .kind) 2) (t .lo) 1
 
 abbrev pub highOf : Token → ℕ
 highOf t = cond (eqb (t .kind) 2) (t .hi) 0
-
--- f holds of one of the tokens
-unfoldable pub any : (Token → Bool) → List Token → Bool
-any f [] = false
-any f (t ∷ ts) = f t || any f ts
 
 abbrev pub anyToken : List Token → ℕ → Bool
 anyToken ts c = any (λ t. tokenHolds t c) ts

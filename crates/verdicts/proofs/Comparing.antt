@@ -1,61 +1,36 @@
 -- Laws of comparing an answer with the stored one. Assumes nothing.
 use mathlib.Core.Path.{_≡_, refl, ap, sym, _∙_}
 use mathlib.Core.List.{List, [], _∷_, _++_}
-use mathlib.Core.Bool.{Bool, true, false, _&&_}
 use Prim.Native.Nat.{ℕ, zero, suc, _+_, _-_, _≤_, _<_}
 use native.Mathlib.Omega.{arith}
-use lib.ListN.{length, getD, take, drop, replicate, drop-of-length-le, length-drop}
+use lib.ListN.{length, getD, take, drop, replicate, length-drop}
 use lib.Seq.{take-all}
-use lib.Dec.{eqb}
 use borrow.Author.Tests.{eq-eqb, ne-eqb}
-use Rattle.chars.proofs.Lists.{drop-at}
+use Rattle.lists.specs.Lists.{isSame}
+use Rattle.lists.proofs.Lists.{drop-at}
+use Rattle.lists.proofs.Same.{same-long}
 use Rattle.lent.specs.declared.Told.{Told}
 use Rattle.lent.specs.declared.Told.the-variants.{Value, Refused as Told·Refused}
 use Rattle.lent.specs.Reply.{Reply, Replied, number, left, told}
 use Rattle.verdicts.specs.declared.Verdict.{Verdict}
 use Rattle.verdicts.specs.declared.Verdict.the-variants.{Differs}
-use Rattle.verdicts.specs.Answers.{same, compared, filler, shown}
-
-pub same-length : (a b : List ℕ) → (length a ≡ length b → ⊥) → same a b ≡ false
-unfolding same
-same-length [] [] n = absurd (n refl)
-same-length [] (y ∷ b) n = refl
-same-length (x ∷ a) [] n = refl
-same-length (x ∷ a) (y ∷ b) n = rw (same-length a b (λ e. n (ap suc e))) (go (eqb x y))
-  where
-    go : (t : Bool) → (t && false) ≡ false
-    go true = refl
-    go false = refl
-
--- at an index of both
-module _ (a b : List ℕ) (i : ℕ) (ha : i < length a) (hb : i < length b) where
-  pub same-off : (getD a i 0 ≡ getD b i 0 → ⊥) → same (drop i a) (drop i b) ≡ false
-  unfolding same
-  same-off n = rw (drop-at a i ha, drop-at b i hb, ne-eqb (getD a i 0) (getD b i 0) n)
-
-  pub same-on : getD a i 0 ≡ getD b i 0 → same (drop i a) (drop i b) ≡ same (drop (i + 1) a) (drop (i + 1) b)
-  unfolding same
-  same-on e = rw (drop-at a i ha, drop-at b i hb, eq-eqb (getD a i 0) (getD b i 0) e)
-
-pub same-end : (a b : List ℕ) (i : ℕ) → length a ≤ i → length b ≤ i → same (drop i a) (drop i b) ≡ true
-unfolding same
-same-end a b i ha hb = rw (drop-of-length-le a {i = i} ha, drop-of-length-le b {i = i} hb)
+use Rattle.verdicts.specs.Answers.{compared, filler, shown}
 
 -- a number in front, against what stands first
 module _ (x : ℕ) (a s : List ℕ) where
   pub compared-none : length s ≡ 0 → Differs ≡ compared (x ∷ a) s
   unfolding compared
-  compared-none e = rw (same-length (x ∷ a) s (λ q. absurd (omega arith)))
+  compared-none e = rw (same-long (x ∷ a) s (λ q. absurd (omega arith)))
 
   first-of : 0 < length s → s ≡ getD s 0 0 ∷ take (length s - 1) (drop 1 s)
   first-of h = drop-at s 0 h ∙ ap (λ (l : List ℕ). getD s 0 0 ∷ l) (sym (take-all (length s - 1) (drop 1 s) (omega (arith, length-drop 1 s))))
 
   pub compared-other : 0 < length s → (getD s 0 0 ≡ x → ⊥) → Differs ≡ compared (x ∷ a) s
-  unfolding compared same
+  unfolding compared isSame
   compared-other h n = rw (first-of h, ne-eqb x (getD s 0 0) (λ e. n (sym e)))
 
   pub compared-first : 0 < length s → getD s 0 0 ≡ x → compared (x ∷ a) s ≡ compared a (take (length s - 1) (drop 1 s))
-  unfolding compared same
+  unfolding compared isSame
   compared-first h e = ap (compared (x ∷ a)) (first-of h) ∙ rw (eq-eqb x (getD s 0 0) (sym e)) refl
 
 -- a call, compared by its number and by what it leaves

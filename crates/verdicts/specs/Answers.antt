@@ -1,24 +1,17 @@
 -- What a call answers and leaves, as the list has it, and when that is the stored answer. What the contracts of `verdicts::answers` cite.
 -- Definitions only; the laws are in `proofs/Comparing.antt`. Assumes nothing.
 use Prim.Native.Nat.{ℕ}
-use mathlib.Core.List.{List, [], _∷_}
-use mathlib.Core.Bool.{Bool, true, false, cond, _&&_}
+use mathlib.Core.List.{List, _∷_}
+use mathlib.Core.Bool.{cond}
 use lib.ListN.{replicate}
-use lib.Dec.{eqb}
+use Rattle.lists.specs.Lists.{isSame}
 use Rattle.lent.specs.Reply.{Reply, number, left}
 use Rattle.verdicts.specs.declared.Verdict.{Verdict}
 use Rattle.verdicts.specs.declared.Verdict.the-variants.{Agrees, Differs}
 
--- the same numbers
-unfoldable pub same : List ℕ → List ℕ → Bool
-same [] [] = true
-same [] (y ∷ b) = false
-same (x ∷ a) [] = false
-same (x ∷ a) (y ∷ b) = eqb x y && same a b
-
 -- an answer against the stored one
 unfoldable pub compared : List ℕ → List ℕ → Verdict
-compared answer stored = cond (same answer stored) Agrees Differs
+compared answer stored = cond (isSame answer stored) Agrees Differs
 
 -- what lent places hold before a call
 abbrev pub filler : ℕ

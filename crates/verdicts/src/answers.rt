@@ -2,7 +2,7 @@
 use crate::Verdict;
 ghost use mathlib.Core.Path.{_≡_};
 ghost use mathlib.Core.List.{_∷_};
-ghost use Rattle.verdicts.specs.Answers.{same};
+ghost use Rattle.lists.specs.Lists.{isSame};
 ghost use Rattle.verdicts.specs.Answers.{compared as Answers·compared};
 
 // What lent places hold before a call.
@@ -10,7 +10,7 @@ pub const FILLER: u32 = 2779096485;
 
 // Whether both have the same numbers.
 fn equal(a: &[u32], b: &[u32]) -> bool
-    ensures { λ r. ⌜ r ≡ same (now (a .entry)) (now (b .entry)) ⌝ }
+    ensures { λ r. ⌜ r ≡ isSame (now (a .entry)) (now (b .entry)) ⌝ }
 {
     if a.len() != b.len() {
         return false;

@@ -8,7 +8,7 @@ use Rattle.columns.specs.Columns.{visualFrom, charFrom}
 use Rattle.text.specs.Text.{onFirst, rows}
 use Rattle.folds.specs.Folds.{anyFold, visibleFrom, prevVisible}
 use Rattle.vertical.specs.declared.Sticky.the-variants.{Absent}
-use Rattle.visible.specs.Rounds.{rounds}
+use Rattle.lists.specs.Rounds.{rounds}
 use Rattle.visible.specs.Visible.{verticalRow, deltaOf}
 use Rattle.vertical.specs.Moves.{landed, moveVertical}
 

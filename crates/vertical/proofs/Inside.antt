@@ -3,7 +3,7 @@
 use mathlib.Core.Path.{_≡_, refl, ap}
 use mathlib.Core.List.{List}
 use mathlib.Core.Bool.{Bool, true, false, cond}
-use Prim.Native.Nat.{ℕ, zero, suc, _≤_, _<_}
+use Prim.Native.Nat.{ℕ, suc, _≤_, _<_}
 use native.Mathlib.Decide.{ℕ-discrete}
 use native.Mathlib.Omega.{arith}
 use lib.IntN.{ℤ, pos, negsuc}
@@ -13,7 +13,7 @@ use Rattle.folds.specs.Folds.{hidden}
 use Rattle.folds.specs.declared.Visible.{Visible}
 use Rattle.folds.specs.declared.Visible.the-variants.{Row, NoRow}
 use Rattle.vertical.specs.declared.Sticky.{Sticky}
-use Rattle.visible.specs.Rounds.{rounds}
+use Rattle.lists.proofs.Rounds.{rounds-keep}
 use Rattle.visible.specs.Visible.{toward, rowOr, stepRow, shownRow, verticalRow}
 use Rattle.vertical.specs.Moves.{landed, moveVertical}
 use Rattle.visible.proofs.Visible.{toward-within}
@@ -21,12 +21,6 @@ use Rattle.visible.proofs.Visible.{toward-within}
 pub record Inside (t : List ℕ) (row col : ℕ) : Type 0 where
   pub in-row : row < rowCount t
   pub in-col : col ≤ rowLen t row
-
--- what a round keeps, its rounds keep
-pub rounds-keep : {A : Type 0} (P : A → Type 0) (f : A → A) → ((p : A) → P p → P (f p)) → (n : ℕ) (p : A) → P p → P (rounds f n p)
-unfolding rounds
-rounds-keep P f k zero p h = h
-rounds-keep P f k (suc n) p h = rounds-keep P f k n (f p) (k p h)
 
 -- rows
 module _ (folds : List ℕ) (rows : ℕ) where

@@ -8,7 +8,7 @@ use lib.Dec.{eqb}
 use lib.IntN.{ℤ}
 use lib.ListN.{length}
 use Rattle.columns.specs.Columns.{cursorCol, charCol}
-use Rattle.text.specs.Text.{rowCount, rowAt, rowLen}
+use Rattle.text.specs.Text.{rowCount, rowAt, lastCol}
 use Rattle.text.specs.Offsets.{Stands, IsLine}
 use Rattle.folds.specs.Folds.{foldRefusal}
 use Rattle.text.specs.declared.Line.{Line}
@@ -21,9 +21,6 @@ use Rattle.visible.specs.Visible.{verticalRow}
 abbrev pub wantedCol : (ℕ → ℕ) → List ℕ → ℕ → ℕ → ℕ → Sticky → ℕ
 wantedCol w t tabstop row col Absent = cursorCol w tabstop (rowAt t row) col
 wantedCol w t tabstop row col (At want) = want
-
-abbrev pub lastCol : List ℕ → ℕ → ℕ
-lastCol t row = rowLen t row - 1
 
 -- the character of a row at a visual column, and no further than the row's last
 abbrev pub aimedCol : (ℕ → ℕ) → List ℕ → ℕ → ℕ → ℕ → ℕ

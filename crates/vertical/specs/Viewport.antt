@@ -2,13 +2,9 @@
 -- Definitions only. Assumes nothing.
 use Prim.Native.Nat.{ℕ, _+_, _-_, _/_, min, max}
 use mathlib.Core.List.{List}
-use Rattle.text.specs.Text.{contentRows}
+use Rattle.text.specs.Text.{lastRow}
 use Rattle.vertical.specs.declared.Edge.{Edge}
 use Rattle.vertical.specs.declared.Edge.the-variants.{Top, Middle, Bottom}
-
--- the last row with content
-abbrev pub lastRow : List ℕ → ℕ
-lastRow t = contentRows t - 1
 
 -- the last row that a viewport shows; a height of 0 acts as 1
 abbrev pub bottomRow : List ℕ → ℕ → ℕ → ℕ

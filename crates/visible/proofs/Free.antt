@@ -9,8 +9,7 @@ use lib.ListN.{length, getD, drop}
 use borrow.Author.Tests.{ne-eqb, le-ltb, lt-leb}
 use Rattle.folds.specs.Folds.{anyFold, foldHides, hidden}
 use Rattle.folds.proofs.Hiding.{any-fold-on, any-fold-end}
-use Rattle.visible.specs.Rounds.{shift}
-use Rattle.visible.specs.Visible.{restOf, Clear, Free}
+use Rattle.visible.specs.Visible.{rowsBeyond, Clear, Free, shift}
 
 -- no row up to a fold's first is hidden by it, and none after its last
 hides-low : (x s e closed : ℕ) → x ≤ s → foldHides x s e closed ≡ false
@@ -39,7 +38,7 @@ module _ {down : Bool} {row s e closed free : ℕ} where
 
 -- the first i numbers of the folds hide none of the next `free` rows
 pub record FreeTo (folds : List ℕ) (rows : ℕ) (down : Bool) (row free i : ℕ) : Type 0 where
-  pub within : free ≤ restOf down rows row
+  pub within : free ≤ rowsBeyond down rows row
   pub shown : (k : ℕ) → 0 < k → k ≤ free → hidden folds (shift down row k) ≡ anyFold (foldHides (shift down row k)) (drop i folds)
 
 module _ {folds : List ℕ} {rows : ℕ} {down : Bool} {row free i : ℕ} (so-far : FreeTo folds rows down row free i) where

@@ -1,5 +1,4 @@
 -- Laws of the walks among visible rows, which the proofs of this crate and of the crates above it cite.
-pub mod Rounds
 pub mod Free
 pub mod Visible
 pub mod Signed

@@ -12,7 +12,7 @@ use borrow.Author.Tests.{le-ltb}
 use mir.Syntax.{w64}
 use mir.Val.{Fits, SFits, toZ, ofZ}
 use mir.Facts.{toZ-ofZ}
-use Rattle.visible.specs.Rounds.{rounds}
+use Rattle.lists.specs.Rounds.{rounds}
 use Rattle.visible.specs.Visible.{stepRow, shownRow, verticalRow, deltaOf}
 
 -- a number that is not below 0 can be read unsigned

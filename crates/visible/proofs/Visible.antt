@@ -8,13 +8,13 @@ use native.Mathlib.Omega.{arith}
 use Rattle.folds.specs.Folds.{hidden}
 use Rattle.folds.specs.declared.Visible.the-variants.{Row, NoRow}
 use Rattle.folds.proofs.Past.{next-here, prev-here, visible-within, prev-within}
-use Rattle.visible.specs.Rounds.{rounds, shift}
-use Rattle.visible.specs.Visible.{toward, rowOr, stepRow, restOf, Free, HopTo}
-use Rattle.visible.proofs.Rounds.{rounds-on, rounds-none, rounds-still, rounds-add}
+use Rattle.lists.specs.Rounds.{rounds}
+use Rattle.visible.specs.Visible.{toward, rowOr, stepRow, rowsBeyond, Free, HopTo, shift}
+use Rattle.lists.proofs.Rounds.{rounds-on, rounds-none, rounds-still, rounds-add}
 
 module _ (folds : List ℕ) (rows : ℕ) where
   -- the next row, where no fold hides it
-  pub toward-next : (down : Bool) (row : ℕ) → 0 < restOf down rows row → hidden folds (shift down row 1) ≡ false →
+  pub toward-next : (down : Bool) (row : ℕ) → 0 < rowsBeyond down rows row → hidden folds (shift down row 1) ≡ false →
       toward folds rows down row ≡ Row (shift down row 1)
   toward-next true row h v = next-here folds rows (row + 1) v (omega arith)
   toward-next false row h v = prev-here folds row v h
@@ -24,11 +24,11 @@ module _ (folds : List ℕ) (rows : ℕ) where
   toward-within true row x h e = omega (arith, visible-within folds (row + 1) (rows - (row + 1)) x e)
   toward-within false row x h e = omega (arith, prev-within folds row x e)
 
-pub shift-within : (down : Bool) (rows row k : ℕ) → row < rows → k ≤ restOf down rows row → shift down row k < rows
+pub shift-within : (down : Bool) (rows row k : ℕ) → row < rows → k ≤ rowsBeyond down rows row → shift down row k < rows
 shift-within true rows row k h l = omega arith
 shift-within false rows row k h l = omega arith
 
-pub shift-small : (down : Bool) (rows row k : ℕ) → row < rows → k ≤ restOf down rows row → row + k < 2 * rows
+pub shift-small : (down : Bool) (rows row k : ℕ) → row < rows → k ≤ rowsBeyond down rows row → row + k < 2 * rows
 shift-small true rows row k h l = omega arith
 shift-small false rows row k h l = omega arith
 
@@ -40,7 +40,7 @@ shift-none : (down : Bool) (row : ℕ) → shift down row 0 ≡ row
 shift-none true row = add-zero row
 shift-none false row = omega arith
 
-shift-rest : (down : Bool) (rows row k : ℕ) → suc k ≤ restOf down rows row → 0 < restOf down rows (shift down row k)
+shift-rest : (down : Bool) (rows row k : ℕ) → suc k ≤ rowsBeyond down rows row → 0 < rowsBeyond down rows (shift down row k)
 shift-rest true rows row k h = omega arith
 shift-rest false rows row k h = omega arith
 

@@ -1,6 +1,6 @@
 -- From visible row to visible row, as `move_vertical` of motions.rs goes, down or up.
 -- Definitions only; the laws are in `proofs/Visible.antt`. Assumes nothing.
-use Prim.Native.Nat.{ℕ, suc, _-_, _≤_, _<_, max}
+use Prim.Native.Nat.{ℕ, suc, _+_, _-_, _≤_, _<_, max}
 use mathlib.Core.Path.{_≡_}
 use mathlib.Core.List.{List}
 use mathlib.Core.Bool.{Bool, true, false, cond}
@@ -9,7 +9,11 @@ use Rattle.folds.specs.Folds.{foldHides, hidden, nextVisible, prevVisible}
 use Rattle.folds.specs.declared.Visible.{Visible}
 use Rattle.folds.specs.declared.Visible.the-variants.{Row, NoRow}
 use Rattle.visible.specs.declared.Hop.{Hop}
-use Rattle.visible.specs.Rounds.{rounds, shift}
+use Rattle.lists.specs.Rounds.{rounds}
+
+-- so many rows or segments further, down or up
+abbrev pub shift : Bool → ℕ → ℕ → ℕ
+shift down i n = cond down (i + n) (i - n)
 
 -- the nearest visible row below or above
 abbrev pub toward : List ℕ → ℕ → Bool → ℕ → Visible
@@ -37,9 +41,9 @@ unfoldable pub verticalRow : List ℕ → ℕ → ℤ → ℕ → ℕ
 verticalRow folds rows (pos n) row = rounds (stepRow folds rows true) n row
 verticalRow folds rows (negsuc n) row = rounds (stepRow folds rows false) (suc n) (shownRow folds rows row)
 
--- the rows that there are below or above
-abbrev pub restOf : Bool → ℕ → ℕ → ℕ
-restOf down rows row = cond down (rows - 1 - row) row
+-- how many of a text's rows are below or above
+abbrev pub rowsBeyond : Bool → ℕ → ℕ → ℕ
+rowsBeyond down rows row = cond down (rows - 1 - row) row
 
 -- this fold hides none of the first r of the next `free` rows
 pub record Clear (down : Bool) (row s e closed free r : ℕ) : Type 0 where
@@ -48,7 +52,7 @@ pub record Clear (down : Bool) (row s e closed free r : ℕ) : Type 0 where
 
 -- no fold hides the next `free` rows, by which the code passes them at once
 pub record Free (folds : List ℕ) (rows : ℕ) (down : Bool) (row free : ℕ) : Type 0 where
-  pub within : free ≤ restOf down rows row
+  pub within : free ≤ rowsBeyond down rows row
   pub shown : (k : ℕ) → 0 < k → k ≤ free → hidden folds (shift down row k) ≡ false
 
 -- the next visible row, and rows after it that no fold hides

@@ -14,9 +14,9 @@ ghost use lib.Signed.{ltZ};
 ghost use mir.Syntax.{w64};
 ghost use mir.Val.{SFits};
 ghost use Rattle.folds.specs.Folds.{foldRefusal};
-ghost use Rattle.visible.specs.Rounds.{rounds, shift};
-ghost use Rattle.visible.specs.Visible.{toward, stepRow, shownRow, verticalRow, deltaOf};
-ghost use Rattle.visible.specs.Visible.{restOf, Clear, Free, HopTo};
+ghost use Rattle.lists.specs.Rounds.{rounds};
+ghost use Rattle.visible.specs.Visible.{toward, stepRow, shownRow, verticalRow, deltaOf, shift};
+ghost use Rattle.visible.specs.Visible.{rowsBeyond, Clear, Free, HopTo};
 
 // So many rows or segments further, down or up, where up stops at 0.
 pub fn shifted(down: bool, i: usize, n: usize) -> usize
@@ -26,10 +26,10 @@ pub fn shifted(down: bool, i: usize, n: usize) -> usize
     if down { i + n } else { minus(i, n) }
 }
 
-// The rows that there are below or above.
-fn rest_of(down: bool, rows: usize, row: usize) -> usize
+// How many of a text's rows are below or above.
+fn rows_beyond(down: bool, rows: usize, row: usize) -> usize
     requires { ⌜ row < rows ⌝ }
-    ensures { λ r. ⌜ r ≡ restOf down rows row ⌝ }
+    ensures { λ r. ⌜ r ≡ rowsBeyond down rows row ⌝ }
 {
     if down { rows - 1 - row } else { row }
 }
@@ -58,7 +58,7 @@ pub fn free_rows(folds: &[u32], rows: usize, down: bool, row: usize) -> usize
     requires { ⌜ row < rows ⌝ }
     ensures { λ r. ⌜ Free (now (folds .entry)) rows down row r ⌝ }
 {
-    let mut free = rest_of(down, rows, row);
+    let mut free = rows_beyond(down, rows, row);
     let mut i: usize = 0;
     while i + 2 < folds.len() {
         free = clear_of(down, row, folds[i], folds[i + 1], folds[i + 2], free);

@@ -5,6 +5,7 @@ use mathlib.Core.Bool.{true, false, _&&_}
 use Prim.Native.Nat.{ℕ, _+_, _-_, _≤_, min, max}
 use native.Mathlib.Omega.{arith}
 use lib.Dec.{eqb, ltb, leb}
+use Rattle.lists.proofs.Rounds.{rounds-keep}
 use Rattle.text.specs.Text.{rowAt, rowLen, contentRows}
 use Rattle.text.proofs.Rows.{rows-pos}
 use Rattle.margins.specs.Margins.{indentOf, solidOf}
@@ -14,7 +15,7 @@ use Rattle.lines.proofs.Leading.{paragraphs-in}
 use Rattle.positions.specs.declared.Position.{Position}
 use Rattle.positions.specs.Positions.{inRow, Inside}
 use Rattle.steps.specs.Steps.{spaceFwd, backspaceBack}
-use Rattle.steps.proofs.Staying.{either-in, position-in, rounds-in, space-in, backspace-in}
+use Rattle.steps.proofs.Staying.{either-in, position-in, space-in, backspace-in}
 use Rattle.jumps.proofs.Staying.{row-in, content-in, bottom-in, back-in, on-in, up-at-in, down-at-in}
 use Rattle.ways.specs.declared.Step.{Step}
 use Rattle.ways.specs.declared.Step.the-variants.{Left, RightInLine, RightToEnd, LineStart, LineEnd, GotoColumn, FirstNonBlank, LastNonBlank}
@@ -37,8 +38,8 @@ stepped-in t LineEnd n p i = col-in t p i (rowLen t (p .row) - 1) (omega arith)
 stepped-in t GotoColumn n p i = col-in t p i (min (n - 1) (rowLen t (p .row) - 1)) (omega arith)
 stepped-in t FirstNonBlank n p i = col-in t p i (min (indentOf (rowAt t (p .row))) (rowLen t (p .row) - 1)) (omega arith)
 stepped-in t LastNonBlank n p i = col-in t p i (solidOf (rowAt t (p .row)) - 1) (omega (arith, solid-le (rowAt t (p .row))))
-stepped-in t SpaceFwd n p i = rounds-in t (spaceFwd t) (space-in t) (max n 1) p i
-stepped-in t BackspaceBack n p i = rounds-in t (backspaceBack t) (backspace-in t) (max n 1) p i
+stepped-in t SpaceFwd n p i = rounds-keep (Inside t) (spaceFwd t) (space-in t) (max n 1) p i
+stepped-in t BackspaceBack n p i = rounds-keep (Inside t) (backspaceBack t) (backspace-in t) (max n 1) p i
 
 -- every jump
 pub jumped-in : (t : List ℕ) (j : Jump) (n : ℕ) (p : Position) → Inside t p → Inside t (jumped t j n p)

@@ -2,11 +2,12 @@
 -- Definitions only; the laws are in `proofs/Staying.antt`. Assumes nothing.
 use Prim.Native.Nat.{ℕ, _+_, _-_, min}
 use mathlib.Core.List.{List}
-use Rattle.text.specs.Text.{rowLen}
-use Rattle.margins.specs.Margins.{lastCol, firstNonBlank, lastNonBlank}
+use Rattle.text.specs.Text.{rowLen, lastCol}
+use Rattle.margins.specs.Margins.{firstNonBlank, lastNonBlank}
 use Rattle.positions.specs.declared.Position.{Position}
 use Rattle.positions.specs.Positions.{inRow}
-use Rattle.steps.specs.Steps.{times, rounds, spaceFwd, backspaceBack}
+use Rattle.lists.specs.Rounds.{rounds}
+use Rattle.steps.specs.Steps.{times, spaceFwd, backspaceBack}
 use Rattle.ways.specs.declared.Step.{Step}
 use Rattle.ways.specs.declared.Step.the-variants.{Left, RightInLine, RightToEnd, LineStart, LineEnd, GotoColumn, FirstNonBlank, LastNonBlank}
 use Rattle.ways.specs.declared.Step.the-variants.{SpaceFwd, BackspaceBack}

@@ -14,7 +14,7 @@ use text::offsets::row_len;
 ghost use mathlib.Core.Path.{_≡_};
 ghost use Prim.Native.Nat.{min};
 ghost use Rattle.text.specs.Offsets.{IsLine};
-ghost use Rattle.margins.specs.Margins.{lastCol};
+ghost use Rattle.text.specs.Text.{lastCol};
 ghost use Rattle.positions.specs.Positions.{inRow, Accepted};
 ghost use Rattle.ways.specs.Ways.{stepped};
 

@@ -4,7 +4,7 @@ use mathlib.Core.Path.{_≡_}
 use mathlib.Core.List.{List}
 use mathlib.Core.Bool.{Bool}
 use lib.ListN.{length}
-use Rattle.chars.specs.Scalar.{any}
+use Rattle.lists.specs.Lists.{any}
 use Rattle.tokens.specs.Tokens.{anyToken}
 use Rattle.keywords.specs.declared.KeywordSpec.{KeywordSpec}
 use Rattle.keywords.specs.Table.{kept}

@@ -4,7 +4,7 @@ use keywords::KeywordSpec;
 use places::Setting;
 ghost use mathlib.Core.Path.{_≡_};
 ghost use Prim.Native.Nat.{_≤_};
-ghost use Rattle.chars.specs.Scalar.{any};
+ghost use Rattle.lists.specs.Lists.{any};
 ghost use Rattle.places.specs.Lent.{isHigh};
 ghost use Rattle.words.specs.Prepared.{Prepares};
 

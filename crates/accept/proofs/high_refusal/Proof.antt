@@ -6,8 +6,9 @@ use mathlib.Core.Bool.{_||_}
 use lib.ListN.{length, drop}
 use borrow.Author.Needs.{needs}
 use borrow.Author.Tests.{not-true, not-false}
-use Rattle.chars.specs.Scalar.{any, notScalar}
-use Rattle.chars.proofs.Scalars.{any-on, any-end}
+use Rattle.lists.specs.Lists.{any}
+use Rattle.chars.specs.Scalar.{notScalar}
+use Rattle.lists.proofs.Any.{any-on, any-end}
 use Rattle.accept.specs.Accept.{isSeparator, highRefusal}
 use Rattle.accept.proofs.high_refusal.Statement.{statement}
 use Rattle.accept.proofs.high_refusal.Tie as tie

@@ -6,8 +6,8 @@ use mathlib.Core.Bool.{_||_}
 use lib.ListN.{length, drop}
 use borrow.Author.Needs.{needs}
 use borrow.Author.Tests.{lt-ltb, eq-eqb, ne-eqb}
-use Rattle.chars.specs.Scalar.{any}
-use Rattle.chars.proofs.Scalars.{any-on, any-end}
+use Rattle.lists.specs.Lists.{any}
+use Rattle.lists.proofs.Any.{any-on, any-end}
 use Rattle.accept.specs.Accept.{isHigh, isLow, textRefusal}
 use Rattle.accept.proofs.Accepted.{each-its-own, by-passes}
 use Rattle.accept.proofs.text_refusal.Statement.{statement}

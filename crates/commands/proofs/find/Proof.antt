@@ -5,8 +5,8 @@ use mathlib.Core.Path.{_≡_}
 use native.Mathlib.Omega.{arith}
 use borrow.Author.Needs.{needs}
 use lib.ListN.{length, drop}
-use Rattle.commands.specs.Commands.{upTo}
-use Rattle.commands.proofs.Laws.{up-to-stop, up-to-on, up-to-end}
+use Rattle.lists.specs.Lists.{upTo}
+use Rattle.lists.proofs.Finding.{up-to-stop, up-to-on, up-to-end}
 use Rattle.commands.proofs.find.Statement.{statement}
 use Rattle.commands.proofs.find.Tie as tie
 

@@ -4,8 +4,9 @@ use mathlib.Core.Path.{_≡_, refl, _∙_}
 use native.Mathlib.Omega.{arith}
 use borrow.Author.Needs.{needs}
 use lib.ListN.{length, drop}
-use Rattle.commands.specs.Commands.{isSame}
-use Rattle.commands.proofs.Laws.{same-on, same-stop, same-end, same-long, same-told}
+use Rattle.lists.specs.Lists.{isSame}
+use Rattle.lists.proofs.Same.{same-on, same-stop, same-end, same-long}
+use Rattle.commands.proofs.Laws.{same-told}
 use Rattle.commands.proofs.same.Statement.{statement}
 use Rattle.commands.proofs.same.Tie as tie
 

@@ -3,15 +3,15 @@
 use mathlib.Core.Path.{ap, sym, _∙_}
 use mathlib.Core.List.{_++_}
 use borrow.Author.Needs.{needs}
-use Rattle.print.specs.Print.{bytes}
-use Rattle.commands.specs.Commands.{isSame}
+use Rattle.lists.specs.Codes.{codes}
+use Rattle.lists.specs.Lists.{isSame}
 use Rattle.keys.specs.Keys.{lineKeys, placeKeys, found}
 use Rattle.keys.proofs.by_line.Statement.{statement}
 use Rattle.keys.proofs.by_line.Tie as tie
 
 -- none of them
 none : tie.Need-returns-9
-unfolding lineKeys found bytes
+unfolding lineKeys found codes
 none c =
     let at8 = c .before in
     let at7 = at8 .before .before .before in
@@ -33,7 +33,7 @@ none c =
     ) (c .by-place .ensures)
 
 pub by-line-spec : {M : Type 1} → statement M
-unfolding lineKeys found isSame bytes
+unfolding lineKeys found isSame codes
 by-line-spec =
     tie.close
     (tie.spec

@@ -2,15 +2,15 @@
 -- Assumes nothing.
 use mathlib.Core.Path.{ap, sym, _∙_}
 use borrow.Author.Needs.{needs}
-use Rattle.print.specs.Print.{bytes}
-use Rattle.commands.specs.Commands.{isSame}
+use Rattle.lists.specs.Codes.{codes}
+use Rattle.lists.specs.Lists.{isSame}
 use Rattle.keys.specs.Keys.{placeKeys, found}
 use Rattle.keys.proofs.by_place.Statement.{statement}
 use Rattle.keys.proofs.by_place.Tie as tie
 
 -- none of them
 none : tie.Need-returns-6
-unfolding placeKeys found bytes
+unfolding placeKeys found codes
 none c =
     let at5 = c in
     let at4 = at5 .before .before .before in
@@ -26,7 +26,7 @@ none c =
     )
 
 pub by-place-spec : {M : Type 1} → statement M
-unfolding placeKeys found isSame bytes
+unfolding placeKeys found isSame codes
 by-place-spec =
     tie.close
     (tie.spec

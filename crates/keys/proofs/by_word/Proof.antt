@@ -3,15 +3,15 @@
 use mathlib.Core.Path.{ap, sym, _∙_}
 use mathlib.Core.List.{_++_}
 use borrow.Author.Needs.{needs}
-use Rattle.print.specs.Print.{bytes}
-use Rattle.commands.specs.Commands.{isSame}
+use Rattle.lists.specs.Codes.{codes}
+use Rattle.lists.specs.Lists.{isSame}
 use Rattle.keys.specs.Keys.{wordKeys, lineKeys, placeKeys, found}
 use Rattle.keys.proofs.by_word.Statement.{statement}
 use Rattle.keys.proofs.by_word.Tie as tie
 
 -- none of them
 none : tie.Need-returns-9
-unfolding wordKeys found bytes
+unfolding wordKeys found codes
 none c =
     let at8 = c .before in
     let at7 = at8 .before .before .before in
@@ -33,7 +33,7 @@ none c =
     ) (c .by-line .ensures)
 
 pub by-word-spec : {M : Type 1} → statement M
-unfolding wordKeys found isSame bytes
+unfolding wordKeys found isSame codes
 by-word-spec =
     tie.close
     (tie.spec

@@ -1,16 +1,16 @@
 -- `keys::keeps` meets its contract. Assumes nothing.
 use mathlib.Core.Path.{sym, _∙_}
 use borrow.Author.Needs.{needs}
-use Rattle.print.specs.Print.{bytes}
+use Rattle.lists.specs.Codes.{codes}
 use Rattle.keys.proofs.keeps.Statement.{statement}
 use Rattle.keys.proofs.keeps.Tie as tie
 
 returns : tie.Need-returns
-unfolding bytes
+unfolding codes
 returns c = rw (sym (c .before .same .ensures .is) ∙ c .if1 .taken)
 
 returns-2 : tie.Need-returns-2
-unfolding bytes
+unfolding codes
 returns-2 c = rw (sym (c .before .before .before .same .ensures .is) ∙ c .before .before .if1 .left) (c .same2 .ensures .is)
 
 pub keeps-spec : {M : Type 1} → statement M

@@ -2,15 +2,15 @@
 -- Assumes nothing.
 use mathlib.Core.Path.{ap, sym, _∙_}
 use borrow.Author.Needs.{needs}
-use Rattle.print.specs.Print.{bytes}
-use Rattle.commands.specs.Commands.{isSame}
+use Rattle.lists.specs.Codes.{codes}
+use Rattle.lists.specs.Lists.{isSame}
 use Rattle.keys.specs.Keys.{twoBytes, found, keyOf}
 use Rattle.keys.proofs.key_of.Statement.{statement}
 use Rattle.keys.proofs.key_of.Tie as tie
 
 -- none of them
 none : tie.Need-returns-9
-unfolding twoBytes found bytes
+unfolding twoBytes found codes
 none c =
     let at8 = c .before in
     let at7 = at8 .before .before .before in
@@ -32,7 +32,7 @@ none c =
     ) (c .by-word .ensures)
 
 pub key-of-spec : {M : Type 1} → statement M
-unfolding twoBytes found isSame bytes
+unfolding twoBytes found isSame codes
 key-of-spec =
     tie.close
     (tie.spec

@@ -1,11 +1,11 @@
 -- `presses::word` meets its contract, by the four motions. Assumes nothing.
 use borrow.Author.Needs.{needs}
-use Rattle.print.specs.Print.{bytes}
+use Rattle.lists.specs.Codes.{codes}
 use Rattle.presses.proofs.word.Statement.{statement}
 use Rattle.presses.proofs.word.Tie as tie
 
 pub word-spec : {M : Type 1} → statement M
-unfolding bytes
+unfolding codes
 word-spec =
     tie.close
     (tie.spec

@@ -2,7 +2,8 @@
 use mathlib.Core.Path.{sym, _∙_}
 use borrow.Author.Tests.{lt-ltb, le-ltb, not-true, not-false}
 use borrow.Author.Needs.{needs}
-use Rattle.chars.specs.Scalar.{any, notScalar}
+use Rattle.lists.specs.Lists.{any}
+use Rattle.chars.specs.Scalar.{notScalar}
 use Rattle.row.specs.Row.{rowRefusal}
 use Rattle.row.proofs.row_refusal.Statement.{statement}
 use Rattle.row.proofs.row_refusal.Tie as tie

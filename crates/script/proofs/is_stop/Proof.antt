@@ -1,11 +1,11 @@
 -- `script::is_stop` meets its contract. Assumes nothing.
 use borrow.Author.Needs.{needs}
-use Rattle.print.specs.Print.{bytes}
+use Rattle.lists.specs.Codes.{codes}
 use Rattle.script.proofs.is_stop.Statement.{statement}
 use Rattle.script.proofs.is_stop.Tie as tie
 
 returns : tie.Need-returns
-unfolding bytes
+unfolding codes
 returns c = c .same .ensures .is
 
 pub is-stop-spec : {M : Type 1} → statement M

@@ -4,8 +4,8 @@ use mathlib.Core.Path.{_≡_, refl, ap, sym}
 use mathlib.Core.Bool.{not, _||_}
 use lib.ListN.{length, drop}
 use borrow.Author.Needs.{needs}
-use Rattle.chars.specs.Scalar.{any}
-use Rattle.chars.proofs.Scalars.{any-on, any-end}
+use Rattle.lists.specs.Lists.{any}
+use Rattle.lists.proofs.Any.{any-on, any-end}
 use Rattle.script.specs.Parts.{isAbove}
 use Rattle.script.proofs.plain.Statement.{statement}
 use Rattle.script.proofs.plain.Tie as tie

@@ -1,11 +1,11 @@
 -- `session::refuse` meets its contract. Assumes nothing.
 use borrow.Author.Needs.{needs}
-use Rattle.print.specs.Print.{bytes}
+use Rattle.lists.specs.Codes.{codes}
 use Rattle.session.proofs.refuse.Statement.{statement}
 use Rattle.session.proofs.refuse.Tie as tie
 
 returns : tie.Need-returns
-unfolding bytes
+unfolding codes
 returns c = c .before .before .put-bytes .ensures
 
 pub refuse-spec : {M : Type 1} → statement M

@@ -5,8 +5,9 @@ use mathlib.Core.Path.{_≡_, refl, ap, sym}
 use mathlib.Core.Bool.{not, _||_}
 use lib.ListN.{length, drop}
 use borrow.Author.Needs.{needs}
-use Rattle.chars.specs.Scalar.{any, notScalar}
-use Rattle.chars.proofs.Scalars.{any-on, any-end}
+use Rattle.lists.specs.Lists.{any}
+use Rattle.chars.specs.Scalar.{notScalar}
+use Rattle.lists.proofs.Any.{any-on, any-end}
 use Rattle.chars.proofs.scalar.all_scalar.Statement.{statement}
 use Rattle.chars.proofs.scalar.all_scalar.Tie as tie
 

@@ -7,13 +7,13 @@ use native.Mathlib.Omega.{arith}
 use borrow.Author.Needs.{needs}
 use lib.ListN.{length}
 use Rattle.tokens.specs.Tokens.{inList, tokensIn, anyToken}
-use Rattle.parts.proofs.PartLaws.{partsFrom, parts-from-start}
+use Rattle.lists.proofs.Splits.{splitFrom, split-from-start}
 use Rattle.tokens.proofs.TokenLaws.{step-next, step-any, parts-none}
 use Rattle.keywords.proofs.keyword_spec.list_holds.Statement.{statement}
 use Rattle.keywords.proofs.keyword_spec.list_holds.Tie as tie
 
 abbrev Inv-loop : tie.InvT-loop
-Inv-loop list c letter from₀ from = (from ≤ length list + 1) × (inList list c ≡ anyToken (tokensIn (partsFrom list from)) c)
+Inv-loop list c letter from₀ from = (from ≤ length list + 1) × (inList list c ≡ anyToken (tokensIn (splitFrom 44 list from)) c)
 
 abbrev μ-loop : tie.MeasureT-loop
 μ-loop list c letter from₀ from = length list + 1 - from
@@ -21,7 +21,7 @@ abbrev μ-loop : tie.MeasureT-loop
 loop-holds : tie.Need-loop-holds Inv-loop μ-loop
 loop-holds c =
     let a = c .before .before .args in
-    (search needs, ap (λ (ps : List (List ℕ)). anyToken (tokensIn ps) a.c) (sym (parts-from-start a.list.now)))
+    (search needs, ap (λ (ps : List (List ℕ)). anyToken (tokensIn ps) a.c) (sym (split-from-start 44 a.list.now)))
 
 holds-requires : tie.Need-holds-requires Inv-loop μ-loop
 holds-requires c κs = c .before .before .before .before .is-letter .ensures

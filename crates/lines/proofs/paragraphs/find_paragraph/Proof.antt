@@ -6,7 +6,8 @@ use lib.ListN.{length}
 use borrow.Author.Needs.{needs}
 use Rattle.text.specs.Offsets.{IsLine}
 use Rattle.text.proofs.Rows.{rows-pos}
-use Rattle.lines.specs.Paragraphs.{lastRow, atLast, goOn, paragraphs}
+use Rattle.text.specs.Text.{lastRow}
+use Rattle.lines.specs.Paragraphs.{atLast, goOn, paragraphs}
 use Rattle.lines.proofs.Walks.{last-round, one-round}
 use Rattle.lines.proofs.paragraphs.find_paragraph.Statement.{statement}
 use Rattle.lines.proofs.paragraphs.find_paragraph.Tie as tie

@@ -4,7 +4,7 @@ use native.Mathlib.Omega.{arith}
 use borrow.Author.Needs.{needs}
 use Rattle.text.proofs.Parts.{count-le}
 use Rattle.text.proofs.Content.{content-near}
-use Rattle.lines.specs.Toward.{restOf}
+use Rattle.lines.specs.Toward.{rowsLeft}
 use Rattle.lines.proofs.Ways.{fits-pos}
 use Rattle.lines.proofs.Rounding.{Rounding, rounding-start, rounding-fits, rounding-line, rounding-found}
 use Rattle.lines.proofs.Rounding.{rounding-next, rounding-back, rounding-back-fits, rounding-off, rounding-in, rounding-less, rounding-on}
@@ -15,7 +15,7 @@ abbrev Inv-loop : tie.InvT-loop
 Inv-loop t forward last end dir curr₀ start₀ skip₀ curr start skip = Rounding t forward last curr₀ curr start skip
 
 abbrev μ-loop : tie.MeasureT-loop
-μ-loop t forward last end dir curr₀ start₀ skip₀ curr start skip = restOf forward last curr
+μ-loop t forward last end dir curr₀ start₀ skip₀ curr start skip = rowsLeft forward last curr
 
 cast-end : tie.Need-cast-end Inv-loop μ-loop
 cast-end c =

@@ -5,8 +5,8 @@ use mathlib.Core.Path.{_≡_}
 use native.Mathlib.Omega.{arith}
 use borrow.Author.Needs.{needs}
 use lib.ListN.{length, drop}
-use Rattle.parts.specs.Parts.{upTo}
-use Rattle.parts.proofs.PartLaws.{up-to-stop, up-to-on, up-to-end}
+use Rattle.lists.specs.Lists.{upTo}
+use Rattle.lists.proofs.Finding.{up-to-stop, up-to-on, up-to-end}
 use Rattle.parts.proofs.parts.find.Statement.{statement}
 use Rattle.parts.proofs.parts.find.Tie as tie
 

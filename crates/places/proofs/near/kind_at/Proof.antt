@@ -2,7 +2,7 @@
 use mathlib.Core.Path.{_∙_}
 use native.Mathlib.Omega.{arith}
 use Rattle.places.specs.Lent.{isHigh}
-use Rattle.places.proofs.High.{any-there}
+use Rattle.lists.proofs.Any.{any-there}
 use Rattle.places.proofs.Ahead.{end-kind, nl-kind, char-kind}
 use borrow.Author.Needs.{needs}
 use Rattle.places.proofs.near.kind_at.Statement.{statement}

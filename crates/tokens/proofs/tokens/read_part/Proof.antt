@@ -3,7 +3,7 @@ use mathlib.Core.Path.{ap, _∙_}
 use native.Mathlib.Omega.{arith}
 use borrow.Author.Needs.{needs}
 use Rattle.tokens.specs.Grammar.{tokenOf}
-use Rattle.parts.proofs.PartLaws.{next-most}
+use Rattle.lists.proofs.Splits.{next-most}
 use Rattle.tokens.proofs.TokenLaws.{step-is}
 use Rattle.tokens.proofs.tokens.read_part.Statement.{statement}
 use Rattle.tokens.proofs.tokens.read_part.Tie as tie
@@ -11,13 +11,13 @@ use Rattle.tokens.proofs.tokens.read_part.Tie as tie
 part-trimmed-end : tie.Need-part-trimmed-end
 part-trimmed-end c =
     let a = c .before .before .args in
-    let m = next-most a.list.now a.from (c .before .before .pre) in
+    let m = next-most 44 a.list.now a.from (c .before .before .pre) in
     search needs
 
 add-t6 : tie.Need-add-t6
 add-t6 c =
     let s = c .before .before .before .before .before in
-    omega (arith, next-most s.args.list.now s.args.from s.pre)
+    omega (arith, next-most 44 s.args.list.now s.args.from s.pre)
 
 returns : tie.Need-returns
 returns c =

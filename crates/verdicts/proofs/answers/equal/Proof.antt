@@ -5,19 +5,19 @@ use mathlib.Core.Path.{_≡_, refl, sym, _∙_}
 use native.Mathlib.Omega.{arith}
 use borrow.Author.Needs.{needs}
 use lib.ListN.{length, drop}
-use Rattle.verdicts.specs.Answers.{same}
-use Rattle.verdicts.proofs.Comparing.{same-length, same-off, same-on, same-end}
+use Rattle.lists.specs.Lists.{isSame}
+use Rattle.lists.proofs.Same.{same-long, same-stop, same-on, same-end}
 use Rattle.verdicts.proofs.answers.equal.Statement.{statement}
 use Rattle.verdicts.proofs.answers.equal.Tie as tie
 
 abbrev Inv-loop : tie.InvT-loop
-Inv-loop a b i₀ i = (i ≤ length a) × (same a b ≡ same (drop i a) (drop i b))
+Inv-loop a b i₀ i = (i ≤ length a) × (isSame a b ≡ isSame (drop i a) (drop i b))
 
 abbrev μ-loop : tie.MeasureT-loop
 μ-loop a b i₀ i = length a - i
 
 returns : tie.Need-returns Inv-loop μ-loop
-returns c = sym (same-length (c .before .args .a .now) (c .before .args .b .now) (c .if1 .taken))
+returns c = sym (same-long (c .before .args .a .now) (c .before .args .b .now) (c .if1 .taken))
 
 loop-holds : tie.Need-loop-holds Inv-loop μ-loop
 loop-holds c = (omega arith, refl)
@@ -27,7 +27,7 @@ returns-2 : tie.Need-returns-2 Inv-loop μ-loop
 returns-2 c =
     let l = c .before .before .before .before in
     let g = l .before .before .args in
-    sym (l .loop .inv .1 ∙ same-off (g .a .now) (g .b .now) (l .loop .i) (omega arith) (omega arith) (c .if2 .taken))
+    sym (l .loop .inv .1 ∙ same-stop (g .a .now) (g .b .now) (l .loop .i) (omega arith) (omega arith) (c .if2 .taken))
 
 loop-again : tie.Need-loop-again Inv-loop μ-loop
 loop-again c =

@@ -16,7 +16,7 @@ abbrev μ-loop : tie.MeasureT-loop
 μ-loop folds rows down row free₀ i₀ free i = length folds + 3 - i
 
 loop-holds : tie.Need-loop-holds Inv-loop μ-loop
-loop-holds c = (record { within = omega (arith, c .rest-of .ensures); shown = λ k p l. refl }, omega arith)
+loop-holds c = (record { within = omega (arith, c .rows-beyond .ensures); shown = λ k p l. refl }, omega arith)
 
 loop-again : tie.Need-loop-again Inv-loop μ-loop
 loop-again c =

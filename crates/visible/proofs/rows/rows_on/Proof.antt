@@ -4,9 +4,9 @@ use Prim.Native.Nat.{_<_}
 use mathlib.Core.Path.{_≡_, refl, sym, ap, _∙_}
 use native.Mathlib.Omega.{arith}
 use borrow.Author.Needs.{needs}
-use Rattle.visible.specs.Rounds.{rounds}
+use Rattle.lists.specs.Rounds.{rounds}
 use Rattle.visible.specs.Visible.{stepRow, toward}
-use Rattle.visible.proofs.Rounds.{rounds-none}
+use Rattle.lists.proofs.Rounds.{rounds-none}
 use Rattle.visible.proofs.Visible.{toward-within, shift-within, shift-small, free-rounds, free-hop, free-edge}
 use Rattle.visible.proofs.rows.rows_on.Statement.{statement}
 use Rattle.visible.proofs.rows.rows_on.Tie as tie

@@ -2,7 +2,7 @@
 use mathlib.Core.Path.{ap, _∙_}
 use mathlib.Core.Bool.{false}
 use borrow.Author.Needs.{needs}
-use Rattle.visible.specs.Rounds.{rounds}
+use Rattle.lists.specs.Rounds.{rounds}
 use Rattle.visible.specs.Visible.{stepRow}
 use Rattle.visible.proofs.Signed.{goes-down, counts-up, goes-up}
 use Rattle.visible.proofs.rows.vertical_row.Statement.{statement}

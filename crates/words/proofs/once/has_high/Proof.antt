@@ -4,8 +4,8 @@ use Prim.Native.Nat.{_-_, _≤_}
 use mathlib.Core.Path.{_≡_, refl, sym}
 use mathlib.Core.Bool.{_||_}
 use lib.ListN.{length, drop}
-use Rattle.chars.specs.Scalar.{any}
-use Rattle.chars.proofs.Scalars.{any-on, any-end}
+use Rattle.lists.specs.Lists.{any}
+use Rattle.lists.proofs.Any.{any-on, any-end}
 use Rattle.places.specs.Lent.{isHigh}
 use borrow.Author.Needs.{needs}
 use Rattle.words.proofs.once.has_high.Statement.{statement}

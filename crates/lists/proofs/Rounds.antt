@@ -1,10 +1,9 @@
--- Laws of a round that is gone through so many times.
--- Assumes nothing.
+-- Laws of a round that is gone through so many times. Assumes nothing.
 use mathlib.Core.Path.{_≡_, refl, ap, _∙_}
 use Prim.Native.Nat.{ℕ, zero, suc, _+_, _-_, _≤_, _<_}
 use native.Mathlib.Nat.{zero-add}
 use native.Mathlib.Omega.{arith}
-use Rattle.visible.specs.Rounds.{rounds}
+use Rattle.lists.specs.Rounds.{rounds}
 
 module _ {A : Type 0} (f : A → A) where
   -- one round of those that are left
@@ -33,3 +32,9 @@ module _ {A : Type 0} (f : A → A) where
   rounds-add (suc m) n p =
       let one : suc m + n ≡ suc (m + n) = omega arith in
       rw one (rounds-add m n (f p))
+
+-- what each round keeps, all of them keep
+pub rounds-keep : {A : Type 0} (P : A → Type 0) (f : A → A) → ((p : A) → P p → P (f p)) → (n : ℕ) (p : A) → P p → P (rounds f n p)
+unfolding rounds
+rounds-keep P f h zero p i = i
+rounds-keep P f h (suc n) p i = rounds-keep P f h n (f p) (h p i)

@@ -1,0 +1,7 @@
+-- Laws of plain lists, which the proofs of the crates above cite.
+pub mod Lists
+pub mod Any
+pub mod Finding
+pub mod Splits
+pub mod Same
+pub mod Rounds
