@@ -8,25 +8,25 @@ use native.Mathlib.Decide.{decLt}
 use native.Mathlib.Omega.{arith}
 use lib.ListN.{getD}
 use borrow.Author.Tests.{eq-eqb, ne-eqb, lt-ltb, le-ltb}
-use Rattle.accept.specs.Accept.{textRefusal}
+use Rattle.text_check.specs.Accept.{textRefusal}
 use Rattle.text.specs.Text.{rowCount, rowAt, rowLen}
 use Rattle.text.specs.Offsets.{rowStart, lineAt, IsLine}
 use Rattle.text.specs.declared.Line.{Line}
-use Rattle.accept.proofs.Accepted.{accepted-short}
+use Rattle.text_check.proofs.Accepted.{accepted-short}
 use Rattle.text.proofs.Parts.{row-fits}
 use Rattle.text.proofs.Stands.{line-there, stands-in}
-use Rattle.scans.specs.declared.Found.{Found}
-use Rattle.scans.specs.declared.Found.the-variants.{At, Nothing}
-use Rattle.partners.specs.declared.Partner.{Partner}
-use Rattle.partners.specs.declared.Partner.the-variants.{None, Refused}
-use Rattle.partners.specs.Matching.{partnerOf, placed}
+use Rattle.row_search.specs.declared.Found.{Found}
+use Rattle.row_search.specs.declared.Found.the-variants.{At, Nothing}
+use Rattle.bracket_walks.specs.declared.Partner.{Partner}
+use Rattle.bracket_walks.specs.declared.Partner.the-variants.{None, Refused}
+use Rattle.bracket_walks.specs.Matching.{partnerOf, placed}
 use Rattle.brackets.specs.Matching.{matchingBracketPos, Inside}
-use Rattle.partners.specs.Walk.{Starts}
+use Rattle.bracket_walks.specs.Walk.{Starts}
 use Rattle.brackets.specs.Walk.{columnOf}
-use Rattle.signs.specs.Kinds.{keyBracket}
-use Rattle.signs.specs.Find.{firstBracket}
+use Rattle.bracket_kinds.specs.Kinds.{keyBracket}
+use Rattle.bracket_kinds.specs.Find.{firstBracket}
 use Rattle.brackets.specs.Find.{keyTo, keyFrom}
-use Rattle.scans.proofs.Told.{first-told}
+use Rattle.row_search.proofs.Told.{first-told}
 use Rattle.brackets.proofs.Columns.{column-told, column-none}
 
 module _ (t : List ℕ) (row col : ℕ) where

@@ -12,9 +12,9 @@ use Rattle.text.specs.Text.{rowLen}
 use Rattle.text.specs.Offsets.{rowStart, Stands}
 use Rattle.text.proofs.At.{on-char, on-nl, on-end}
 use Rattle.text.proofs.Stands.{stands-at}
-use Rattle.scans.specs.declared.Found.the-variants.{At, Nothing}
+use Rattle.row_search.specs.declared.Found.the-variants.{At, Nothing}
 use Rattle.brackets.specs.Walk.{columnOf}
-use Rattle.scans.proofs.Told.{at-once, at-some}
+use Rattle.row_search.proofs.Told.{at-once, at-some}
 
 -- from the offset i of a row, `left` columns before the one sought: it is there, or the row ends, at a separator or with the text
 module _ {t : List ℕ} {row start i : ℕ} (s : Stands t row start i) (col left : ℕ) (e : i + left ≡ start + col) where

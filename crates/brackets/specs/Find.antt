@@ -3,11 +3,11 @@
 use mathlib.Core.List.{List}
 use Prim.Native.Nat.{ℕ}
 use Rattle.text.specs.Text.{rowAt}
-use Rattle.scans.specs.declared.Found.{Found}
-use Rattle.scans.specs.declared.Found.the-variants.{At, Nothing}
-use Rattle.signs.specs.Find.{firstBracket}
-use Rattle.partners.specs.declared.Partner.{Partner}
-use Rattle.partners.specs.declared.Partner.the-variants.{None}
+use Rattle.row_search.specs.declared.Found.{Found}
+use Rattle.row_search.specs.declared.Found.the-variants.{At, Nothing}
+use Rattle.bracket_kinds.specs.Find.{firstBracket}
+use Rattle.bracket_walks.specs.declared.Partner.{Partner}
+use Rattle.bracket_walks.specs.declared.Partner.the-variants.{None}
 use Rattle.brackets.specs.Matching.{matchingBracketPos}
 
 -- the partner of what stands in the row at an index, where there is one

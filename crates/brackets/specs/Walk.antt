@@ -5,8 +5,8 @@ use Prim.Native.Nat.{ℕ, _+_}
 use lib.Dec.{ltb}
 use Rattle.text.specs.Text.{rowLen}
 use Rattle.text.specs.Offsets.{rowStart}
-use Rattle.scans.specs.declared.Found.{Found}
-use Rattle.scans.specs.declared.Found.the-variants.{At, Nothing}
+use Rattle.row_search.specs.declared.Found.{Found}
+use Rattle.row_search.specs.declared.Found.the-variants.{At, Nothing}
 
 -- the offset of a column of the row, where a code point stands there
 unfoldable pub columnOf : List ℕ → ℕ → ℕ → Found

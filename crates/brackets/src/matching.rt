@@ -1,12 +1,12 @@
 // The partner of a bracket, and where the % key goes to: `matching_bracket_pos` and `match_bracket`
-// of motions.rs. The text is checked and the row found; the walk to the partner is in `partners`.
-use partners::Partner;
-use partners::walks;
-use scans::Found;
-use signs::find;
+// of motions.rs. The text is checked and the row found; the walk to the partner is in `bracket_walks`.
+use bracket_kinds::find;
+use bracket_walks::Partner;
+use bracket_walks::walks;
+use row_search::Found;
 use text::Line;
 ghost use mathlib.Core.Path.{_≡_};
-ghost use Rattle.accept.specs.Accept.{textRefusal};
+ghost use Rattle.text_check.specs.Accept.{textRefusal};
 ghost use Rattle.text.specs.Offsets.{Stands, IsLine};
 ghost use Rattle.brackets.specs.Matching.{matchingBracketPos};
 ghost use Rattle.brackets.specs.Walk.{columnOf};
@@ -38,7 +38,7 @@ fn offset_of(t: &[u32], row: usize, start: usize, col: usize) -> Found
 pub fn matching_bracket_pos(t: &[u32], row: u32, col: u32) -> Partner
     ensures { λ r. ⌜ r ≡ matchingBracketPos (now (t .entry)) row col ⌝ }
 {
-    let f = accept::text_refusal(t);
+    let f = text_check::text_refusal(t);
     if f != 0 {
         return Partner::Refused(f);
     }

@@ -1,8 +1,8 @@
 // Keyword lists.
-use lent::fill;
-ghost use Rattle.codec.specs.Points.{points};
-ghost use Rattle.lent.specs.Reply.{Replied, Answered};
-ghost use Rattle.row_calls.specs.Lists.{keywords};
+use call_bytes::fill;
+ghost use Rattle.call_points.specs.Points.{points};
+ghost use Rattle.call_bytes.specs.Reply.{Replied, Answered};
+ghost use Rattle.call_rows.specs.Lists.{keywords};
 
 // A keyword list of code points and a character.
 #[no_mangle]
@@ -10,7 +10,7 @@ pub extern "C" fn tsivareza_keywords_u32(op: u32, list: &[u32], x: u32, out: &mu
     ensures { λ r. ⌜ Replied (keywords op x (now (list .entry))) (now (out .entry)) r
         (now (out .exit)) ⌝ }
 {
-    row_calls::keywords(op, list, x, out)
+    call_rows::keywords(op, list, x, out)
 }
 
 // A keyword list of bytes and a character.
@@ -30,5 +30,5 @@ pub extern "C" fn tsivareza_keywords(
         return f;
     }
     let n = list.len() / 4;
-    row_calls::keywords(op, &room[..n], x, out)
+    call_rows::keywords(op, &room[..n], x, out)
 }

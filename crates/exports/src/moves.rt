@@ -1,9 +1,9 @@
 // Motions of a text and a caret.
-use lent::fill;
-ghost use Rattle.codec.specs.Points.{points};
-ghost use Rattle.lent.specs.Reply.{Replied, Answered};
-ghost use Rattle.text_calls.specs.Carets.{caretOf};
-ghost use Rattle.text_calls.specs.Moves.{motions};
+use call_bytes::fill;
+ghost use Rattle.call_points.specs.Points.{points};
+ghost use Rattle.call_bytes.specs.Reply.{Replied, Answered};
+ghost use Rattle.call_texts.specs.Carets.{caretOf};
+ghost use Rattle.call_texts.specs.Moves.{motions};
 
 // A motion over a text of code points.
 #[no_mangle]
@@ -20,7 +20,7 @@ pub extern "C" fn tsivareza_motion_u32(
     ensures { λ r. ⌜ Replied (motions op count (caretOf row col held sticky) (now (text .entry)))
         (now (out .entry)) r (now (out .exit)) ⌝ }
 {
-    text_calls::motion(op, text, row, col, held, sticky, count, out)
+    call_texts::motion(op, text, row, col, held, sticky, count, out)
 }
 
 // A motion over a text of bytes.
@@ -45,5 +45,5 @@ pub extern "C" fn tsivareza_motion(
         return f;
     }
     let n = text.len() / 4;
-    text_calls::motion(op, &room[..n], row, col, held, sticky, count, out)
+    call_texts::motion(op, &room[..n], row, col, held, sticky, count, out)
 }

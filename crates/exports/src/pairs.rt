@@ -1,8 +1,8 @@
 // Brackets and their partners.
-use lent::fill;
-ghost use Rattle.codec.specs.Points.{points};
-ghost use Rattle.lent.specs.Reply.{Replied, Answered};
-ghost use Rattle.text_calls.specs.Partners.{partner};
+use call_bytes::fill;
+ghost use Rattle.call_points.specs.Points.{points};
+ghost use Rattle.call_bytes.specs.Reply.{Replied, Answered};
+ghost use Rattle.call_texts.specs.Partners.{partner};
 
 // `matching_bracket_pos` on code points.
 #[no_mangle]
@@ -15,7 +15,7 @@ pub extern "C" fn tsivareza_matching_bracket_pos_u32(
     ensures { λ r. ⌜ Replied (partner row col (now (text .entry))) (now (out .entry)) r
         (now (out .exit)) ⌝ }
 {
-    text_calls::matching_bracket_pos(text, row, col, out)
+    call_texts::matching_bracket_pos(text, row, col, out)
 }
 
 // `matching_bracket_pos` on bytes.
@@ -35,5 +35,5 @@ pub extern "C" fn tsivareza_matching_bracket_pos(
         return f;
     }
     let n = text.len() / 4;
-    text_calls::matching_bracket_pos(&room[..n], row, col, out)
+    call_texts::matching_bracket_pos(&room[..n], row, col, out)
 }

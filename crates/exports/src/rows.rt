@@ -1,8 +1,8 @@
 // Rows of a text.
-use lent::fill;
-ghost use Rattle.codec.specs.Points.{points};
-ghost use Rattle.lent.specs.Reply.{Replied, Answered};
-ghost use Rattle.text_calls.specs.Rows.{rowCount};
+use call_bytes::fill;
+ghost use Rattle.call_points.specs.Points.{points};
+ghost use Rattle.call_bytes.specs.Reply.{Replied, Answered};
+ghost use Rattle.call_texts.specs.Rows.{rowCount};
 
 // `content_row_count` on code points.
 #[no_mangle]
@@ -10,7 +10,7 @@ pub extern "C" fn tsivareza_content_row_count_u32(text: &[u32], out: &mut [u32; 
     ensures { λ r. ⌜ Replied (rowCount (now (text .entry))) (now (out .entry)) r
         (now (out .exit)) ⌝ }
 {
-    text_calls::content_row_count(text, out)
+    call_texts::content_row_count(text, out)
 }
 
 // `content_row_count` on bytes.
@@ -28,5 +28,5 @@ pub extern "C" fn tsivareza_content_row_count(
         return f;
     }
     let n = text.len() / 4;
-    text_calls::content_row_count(&room[..n], out)
+    call_texts::content_row_count(&room[..n], out)
 }

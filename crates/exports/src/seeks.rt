@@ -1,9 +1,9 @@
 // `%` and the finds within a row.
-use lent::fill;
-ghost use Rattle.codec.specs.Points.{points};
-ghost use Rattle.lent.specs.Reply.{Replied, Answered};
-ghost use Rattle.text_calls.specs.Carets.{caretOf};
-ghost use Rattle.text_calls.specs.Seeks.{seeks};
+use call_bytes::fill;
+ghost use Rattle.call_points.specs.Points.{points};
+ghost use Rattle.call_bytes.specs.Reply.{Replied, Answered};
+ghost use Rattle.call_texts.specs.Carets.{caretOf};
+ghost use Rattle.call_texts.specs.Seeks.{seeks};
 
 // A search over a text of code points.
 #[no_mangle]
@@ -20,7 +20,7 @@ pub extern "C" fn tsivareza_seek_u32(
     ensures { λ r. ⌜ Replied (seeks op x (caretOf row col held sticky) (now (text .entry)))
         (now (out .entry)) r (now (out .exit)) ⌝ }
 {
-    text_calls::seek(op, text, row, col, held, sticky, x, out)
+    call_texts::seek(op, text, row, col, held, sticky, x, out)
 }
 
 // A search over a text of bytes.
@@ -45,5 +45,5 @@ pub extern "C" fn tsivareza_seek(
         return f;
     }
     let n = text.len() / 4;
-    text_calls::seek(op, &room[..n], row, col, held, sticky, x, out)
+    call_texts::seek(op, &room[..n], row, col, held, sticky, x, out)
 }

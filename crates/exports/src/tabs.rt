@@ -1,8 +1,8 @@
 // Tab columns of one row.
-use lent::fill;
-ghost use Rattle.codec.specs.Points.{points};
-ghost use Rattle.lent.specs.Reply.{Replied, Answered};
-ghost use Rattle.row_calls.specs.Tabs.{tabColumns};
+use call_bytes::fill;
+ghost use Rattle.call_points.specs.Points.{points};
+ghost use Rattle.call_bytes.specs.Reply.{Replied, Answered};
+ghost use Rattle.call_rows.specs.Tabs.{tabColumns};
 
 // A column of a row of code points.
 #[no_mangle]
@@ -16,7 +16,7 @@ pub extern "C" fn tsivareza_columns_u32(
     ensures { λ r. ⌜ Replied (tabColumns op col tabstop (now (row .entry))) (now (out .entry)) r
         (now (out .exit)) ⌝ }
 {
-    row_calls::columns(op, row, col, tabstop, out)
+    call_rows::columns(op, row, col, tabstop, out)
 }
 
 // A column of a row of bytes.
@@ -37,5 +37,5 @@ pub extern "C" fn tsivareza_columns(
         return f;
     }
     let n = row.len() / 4;
-    row_calls::columns(op, &room[..n], col, tabstop, out)
+    call_rows::columns(op, &room[..n], col, tabstop, out)
 }

@@ -1,11 +1,11 @@
 // Word motions.
-use lent::fill_three;
+use call_bytes::fill_three;
 ghost use mathlib.Core.List.{[], _∷_};
-ghost use Rattle.codec.specs.Points.{points};
-ghost use Rattle.lent.specs.Reply.{Replied};
-ghost use Rattle.lent.specs.Joined.{AnsweredAll};
-ghost use Rattle.text_calls.specs.Carets.{caretOf};
-ghost use Rattle.fold_calls.specs.Terms.{isBig, words};
+ghost use Rattle.call_points.specs.Points.{points};
+ghost use Rattle.call_bytes.specs.Reply.{Replied};
+ghost use Rattle.call_bytes.specs.Joined.{AnsweredAll};
+ghost use Rattle.call_texts.specs.Carets.{caretOf};
+ghost use Rattle.call_folds.specs.Terms.{isBig, words};
 
 // A word motion over a text of code points, with folds and a keyword list; big words where `big` is
 // not 0.
@@ -27,7 +27,7 @@ pub extern "C" fn tsivareza_word_u32(
         (now (text .entry)) (now (folds .entry)) (now (list .entry))) (now (out .entry)) r
         (now (out .exit)) ⌝ }
 {
-    fold_calls::word(
+    call_folds::word(
         op,
         text,
         folds,
@@ -71,7 +71,7 @@ pub extern "C" fn tsivareza_word(
     let m = n + folds.len() / 4;
     let end = m + list.len() / 4;
     let all: &[u32] = room;
-    fold_calls::word(
+    call_folds::word(
         op,
         &all[..n],
         &all[n..m],

@@ -1,13 +1,13 @@
 // Up, down, the screen and the viewport.
-use lent::fill;
-use lent::fill_two;
+use call_bytes::fill;
+use call_bytes::fill_two;
 ghost use mathlib.Core.List.{[], _∷_};
-ghost use Rattle.codec.specs.Points.{points};
-ghost use Rattle.lent.specs.Reply.{Replied, Answered};
-ghost use Rattle.lent.specs.Joined.{AnsweredAll};
-ghost use Rattle.text_calls.specs.Carets.{caretOf};
-ghost use Rattle.text_calls.specs.Viewports.{viewports};
-ghost use Rattle.fold_calls.specs.Upright.{verticals};
+ghost use Rattle.call_points.specs.Points.{points};
+ghost use Rattle.call_bytes.specs.Reply.{Replied, Answered};
+ghost use Rattle.call_bytes.specs.Joined.{AnsweredAll};
+ghost use Rattle.call_texts.specs.Carets.{caretOf};
+ghost use Rattle.call_texts.specs.Viewports.{viewports};
+ghost use Rattle.call_folds.specs.Upright.{verticals};
 
 // A vertical or screen motion over a text of code points, with folds.
 #[no_mangle]
@@ -28,7 +28,7 @@ pub extern "C" fn tsivareza_vertical_u32(
     ensures { λ r. ⌜ Replied (verticals op mode width count tabstop (caretOf row col held sticky)
         (now (text .entry)) (now (folds .entry))) (now (out .entry)) r (now (out .exit)) ⌝ }
 {
-    fold_calls::vertical(
+    call_folds::vertical(
         op,
         text,
         folds,
@@ -73,7 +73,7 @@ pub extern "C" fn tsivareza_vertical(
     let n = text.len() / 4;
     let end = n + folds.len() / 4;
     let all: &[u32] = room;
-    fold_calls::vertical(
+    call_folds::vertical(
         op,
         &all[..n],
         &all[n..end],
@@ -107,7 +107,7 @@ pub extern "C" fn tsivareza_viewport_u32(
         (viewports op top height offset (caretOf row col held sticky) (now (text .entry)))
         (now (out .entry)) r (now (out .exit)) ⌝ }
 {
-    text_calls::viewport(op, text, row, col, held, sticky, top, height, offset, out)
+    call_texts::viewport(op, text, row, col, held, sticky, top, height, offset, out)
 }
 
 // A viewport motion over a text of bytes.
@@ -134,7 +134,7 @@ pub extern "C" fn tsivareza_viewport(
         return f;
     }
     let n = text.len() / 4;
-    text_calls::viewport(
+    call_texts::viewport(
         op,
         &room[..n],
         row,

@@ -1,9 +1,9 @@
 // Segments of one row.
-use lent::fill;
+use call_bytes::fill;
 ghost use mathlib.Core.Path.{_≡_};
-ghost use Rattle.codec.specs.Points.{points};
-ghost use Rattle.lent.specs.Reply.{Replied, Answered, told, unfitOne, fitting};
-ghost use Rattle.row_calls.specs.Wraps.{offsets, segmentOf, segmented, segmentsLeft};
+ghost use Rattle.call_points.specs.Points.{points};
+ghost use Rattle.call_bytes.specs.Reply.{Replied, Answered, told, unfitOne, fitting};
+ghost use Rattle.call_rows.specs.Wraps.{offsets, segmentOf, segmented, segmentsLeft};
 
 // Cells within a segment of a row of code points.
 #[no_mangle]
@@ -18,7 +18,7 @@ pub extern "C" fn tsivareza_offsets_u32(
     ensures { λ r. ⌜ Replied (offsets op start end at (now (row .entry))) (now (out .entry)) r
         (now (out .exit)) ⌝ }
 {
-    row_calls::offsets(op, row, start, end, at, out)
+    call_rows::offsets(op, row, start, end, at, out)
 }
 
 // Cells within a segment of a row of bytes.
@@ -40,7 +40,7 @@ pub extern "C" fn tsivareza_offsets(
         return f;
     }
     let n = row.len() / 4;
-    row_calls::offsets(op, &room[..n], start, end, at, out)
+    call_rows::offsets(op, &room[..n], start, end, at, out)
 }
 
 // `segment_for_col` on numbers.
@@ -53,7 +53,7 @@ pub extern "C" fn tsivareza_segment_for_col_u32(
     ensures { λ r. ⌜ Replied (segmentOf col (now (segments .entry))) (now (out .entry)) r
         (now (out .exit)) ⌝ }
 {
-    row_calls::segment_for_col(segments, col, out)
+    call_rows::segment_for_col(segments, col, out)
 }
 
 // `segment_for_col` on bytes, four to a number.
@@ -72,7 +72,7 @@ pub extern "C" fn tsivareza_segment_for_col(
         return f;
     }
     let n = segments.len() / 4;
-    row_calls::segment_for_col(&room[..n], col, out)
+    call_rows::segment_for_col(&room[..n], col, out)
 }
 
 // `wrap_segments` on code points.
@@ -89,7 +89,7 @@ pub extern "C" fn tsivareza_wrap_segments_u32(
     ensures { λ _. ⌜ now (segments .exit) ≡ segmentsLeft mode width (now (segments .entry))
         (now (row .entry)) ⌝ }
 {
-    row_calls::wrap_segments(mode, row, width, segments, out)
+    call_rows::wrap_segments(mode, row, width, segments, out)
 }
 
 // `wrap_segments` on bytes.
@@ -114,5 +114,5 @@ pub extern "C" fn tsivareza_wrap_segments(
         return f;
     }
     let n = row.len() / 4;
-    row_calls::wrap_segments(mode, &room[..n], width, segments, out)
+    call_rows::wrap_segments(mode, &room[..n], width, segments, out)
 }

@@ -7,10 +7,10 @@ use native.Mathlib.Omega.{arith}
 use lib.ListN.{length}
 use lib.Dec.{leb}
 use borrow.Author.Tests.{ne-eqb, leb-true}
-use Rattle.tokens.specs.declared.Token.{Token}
+use Rattle.list_tokens.specs.declared.Token.{Token}
 use Rattle.keywords.specs.declared.Parsed.{Parsed}
-use Rattle.parts.specs.Refusals.{listRefusal, tableRefusal, lowest}
-use Rattle.tokens.specs.Tokens.{tokens, inList}
+use Rattle.list_parts.specs.Refusals.{listRefusal, tableRefusal, lowest}
+use Rattle.list_tokens.specs.Tokens.{tokens, inList}
 use Rattle.keywords.specs.Table.{table, kept, parsed, parseOf}
 use Rattle.keywords.specs.Flat.{flatOf}
 use Rattle.keywords.specs.Agree.{Agree}

@@ -11,12 +11,12 @@ use lib.ListN.{length, length-append, getD, take, drop, set, replicate, drop-of-
 use lib.Seq.{length-take-le, take-suc, take-append-seam}
 use borrow.Author.Tests.{ne-eqb, lt-leb}
 use Rattle.letters.specs.Letters.{isLetter}
-use Rattle.tokens.specs.declared.Token.{Token}
-use Rattle.tokens.specs.Grammar.{noToken}
+use Rattle.list_tokens.specs.declared.Token.{Token}
+use Rattle.list_tokens.specs.Grammar.{noToken}
 use Rattle.lists.specs.Lists.{any}
-use Rattle.tokens.specs.Tokens.{lowOf, highOf, anyToken, tokenHolds}
+use Rattle.list_tokens.specs.Tokens.{lowOf, highOf, anyToken, tokenHolds}
 use Rattle.keywords.specs.Flat.{flat, padded, anyAlpha, within, flatHolds}
-use Rattle.tokens.proofs.Lists.{drop-at-take, fill-push}
+use Rattle.list_tokens.proofs.Lists.{drop-at-take, fill-push}
 
 flat-snoc : (ts : List Token) (t : Token) → flat (ts ++ (t ∷ [])) ≡ (flat ts ++ (lowOf t ∷ [])) ++ (highOf t ∷ [])
 unfolding flat

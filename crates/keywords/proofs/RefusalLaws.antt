@@ -4,9 +4,9 @@ use mathlib.Core.List.{List}
 use mathlib.Core.Bool.{Bool}
 use Prim.Native.Nat.{ℕ, zero, suc}
 use borrow.Author.Tests.{ne-eqb}
-use Rattle.tokens.specs.declared.Token.{Token}
+use Rattle.list_tokens.specs.declared.Token.{Token}
 use Rattle.keywords.specs.declared.Matched.the-variants.{Refused}
-use Rattle.parts.specs.Refusals.{lowest}
+use Rattle.list_parts.specs.Refusals.{lowest}
 use Rattle.keywords.specs.Table.{matched, parsed, refusedBy}
 
 -- a refusal is given by its number

@@ -5,15 +5,15 @@ use Prim.Native.Nat.{ℕ, _-_, _≤_, _<_}
 use native.Mathlib.Omega.{arith}
 use lib.ListN.{length, length-append, replicate}
 use lib.Seq.{take-append-seam}
-use Rattle.tokens.specs.declared.Token.{Token}
-use Rattle.tokens.specs.declared.tokens.Step.{Step}
+use Rattle.list_tokens.specs.declared.Token.{Token}
+use Rattle.list_tokens.specs.declared.tokens.Step.{Step}
 use Rattle.keywords.specs.declared.KeywordSpec.{KeywordSpec}
-use Rattle.tokens.specs.Grammar.{noToken}
-use Rattle.tokens.specs.Tokens.{tokens, tokensIn, stepOf}
+use Rattle.list_tokens.specs.Grammar.{noToken}
+use Rattle.list_tokens.specs.Tokens.{tokens, tokensIn, stepOf}
 use Rattle.keywords.specs.Table.{table, kept, pushed}
-use Rattle.tokens.proofs.Lists.{fill-push}
+use Rattle.list_tokens.proofs.Lists.{fill-push}
 use Rattle.lists.proofs.Splits.{splitFrom, split-from-start, split-from-end}
-use Rattle.tokens.proofs.TokenLaws.{step-skip, step-keep}
+use Rattle.list_tokens.proofs.TokenLaws.{step-skip, step-keep}
 
 pub table-push : (ts : List Token) (t : Token) → length ts < 128 → pushed (table ts) t ≡ table (ts ++ (t ∷ []))
 table-push ts t h = λ i. record { tokens = fill-push 128 noToken ts t h i; len = sym (length-append ts (t ∷ [])) i }

@@ -8,9 +8,9 @@ use lib.Dec.{eqb, leb}
 use borrow.Author.Tests.{le-leb, lt-leb, eq-eqb, ne-eqb}
 use Rattle.lists.specs.Lists.{any, upTo, onFirst, split}
 use Rattle.chars.specs.White.{whites, isWhite}
-use Rattle.parts.specs.Numbers.{allDigits, value}
-use Rattle.parts.specs.Parts.{trimStart, trimEnd}
-use Rattle.tokens.specs.Tokens.{tokensIn}
+use Rattle.list_parts.specs.Numbers.{allDigits, value}
+use Rattle.list_parts.specs.Parts.{trimStart, trimEnd}
+use Rattle.list_tokens.specs.Tokens.{tokensIn}
 use Rattle.keywords.specs.Worked.{P11}
 
 module _ (lo hi c : ℕ) where

@@ -6,7 +6,7 @@ use mathlib.Core.List.{List}
 use mathlib.Core.Bool.{true}
 use Rattle.chars.specs.Scalar.{isScalar}
 use Rattle.keywords.specs.declared.Matched.the-variants.{Is}
-use Rattle.tokens.specs.Tokens.{tokens, inList}
+use Rattle.list_tokens.specs.Tokens.{tokens, inList}
 use Rattle.keywords.specs.Table.{kept, parseOf, matchesOf, keywordChar}
 use Rattle.keywords.specs.Flat.{flatOf}
 

@@ -6,10 +6,10 @@ use mathlib.Core.Bool.{Bool, false, _&&_, _||_}
 use lib.Dec.{eqb, leb}
 use lib.ListN.{length, take, replicate}
 use Rattle.letters.specs.Letters.{isLetter}
-use Rattle.tokens.specs.declared.Token.{Token}
+use Rattle.list_tokens.specs.declared.Token.{Token}
 use Rattle.keywords.specs.declared.KeywordSpec.{KeywordSpec}
 use Rattle.lists.specs.Lists.{any}
-use Rattle.tokens.specs.Tokens.{lowOf, highOf}
+use Rattle.list_tokens.specs.Tokens.{lowOf, highOf}
 use Rattle.keywords.specs.Table.{kept}
 
 unfoldable pub flat : List Token → List ℕ

@@ -4,14 +4,14 @@ use Prim.Native.Nat.{ℕ, zero, suc, _+_, _-_}
 use mathlib.Core.List.{List, [], _++_}
 use mathlib.Core.Bool.{Bool}
 use lib.ListN.{length, take, set, replicate}
-use Rattle.tokens.specs.declared.Token.{Token}
+use Rattle.list_tokens.specs.declared.Token.{Token}
 use Rattle.keywords.specs.declared.KeywordSpec.{KeywordSpec}
 use Rattle.keywords.specs.declared.Parsed.{Parsed}
 use Rattle.keywords.specs.declared.Matched.{Matched}
 use Rattle.keywords.specs.declared.Matched.the-variants.{Is, Refused}
-use Rattle.tokens.specs.Grammar.{noToken}
-use Rattle.tokens.specs.Tokens.{tokens, anyToken, inList}
-use Rattle.parts.specs.Refusals.{charRefusal, listRefusal, tableRefusal, lowest}
+use Rattle.list_tokens.specs.Grammar.{noToken}
+use Rattle.list_tokens.specs.Tokens.{tokens, anyToken, inList}
+use Rattle.list_parts.specs.Refusals.{charRefusal, listRefusal, tableRefusal, lowest}
 
 -- the table of a list of tokens: they, and then empty places up to 128
 abbrev pub table : List Token → KeywordSpec

@@ -4,7 +4,7 @@ use mathlib.Core.Path.{_≡_}
 use mathlib.Core.List.{[], _∷_}
 use mathlib.Core.Bool.{false, _&&_}
 use lib.Dec.{eqb, leb}
-use Rattle.tokens.specs.Tokens.{inList}
+use Rattle.list_tokens.specs.Tokens.{inList}
 
 pub record P11 : Type 0 where
   -- `+48-57` holds 48 to 57

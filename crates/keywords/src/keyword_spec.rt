@@ -6,7 +6,7 @@ use crate::Parsed;
 ghost use mathlib.Core.Path.{_≡_};
 ghost use mathlib.Core.List.{[]};
 ghost use Prim.Native.Nat.{_≤_};
-ghost use Rattle.tokens.specs.Tokens.{anyToken, inList};
+ghost use Rattle.list_tokens.specs.Tokens.{anyToken, inList};
 ghost use Rattle.keywords.specs.Table.{table, kept, refusedBy, readAll, parseOf};
 ghost use Rattle.keywords.specs.Table.{matchesOf, keywordChar};
 
@@ -16,7 +16,7 @@ impl KeywordSpec {
         ensures { λ r. ⌜ r ≡ table [] ⌝ }
     {
         KeywordSpec {
-            tokens: [tokens::EMPTY; 128],
+            tokens: [list_tokens::EMPTY; 128],
             len: 0,
         }
     }
@@ -25,7 +25,7 @@ impl KeywordSpec {
     pub fn parse(list: &[u32]) -> Parsed
         ensures { λ r. ⌜ r ≡ parseOf (now (list .entry)) ⌝ }
     {
-        let n = parts::refused_list(list);
+        let n = list_parts::refused_list(list);
         if n != 0 {
             return refused(n);
         }
@@ -54,7 +54,7 @@ impl KeywordSpec {
     pub fn matches(self, c: u32) -> Matched
         ensures { λ r. ⌜ r ≡ matchesOf self c ⌝ }
     {
-        let n = parts::refused_char(c);
+        let n = list_parts::refused_char(c);
         if n != 0 {
             return Matched::Refused(n);
         }
@@ -83,7 +83,7 @@ fn read_all(list: &[u32]) -> Parsed
     let mut spec = KeywordSpec::new();
     let mut from: usize = 0;
     while from <= list.len() {
-        let step = tokens::read_part(list, from);
+        let step = list_tokens::read_part(list, from);
         let t = step.token;
         if t.kind == 0 {
             from = step.next;
@@ -110,7 +110,7 @@ fn list_holds(list: &[u32], c: u32) -> bool
     let letter = letters::is_letter(c);
     let mut from: usize = 0;
     while from <= list.len() {
-        let step = tokens::read_part(list, from);
+        let step = list_tokens::read_part(list, from);
         let t = step.token;
         if t.holds(letter, c) {
             return true;
@@ -124,11 +124,11 @@ fn list_holds(list: &[u32], c: u32) -> bool
 pub fn is_keyword_char(c: u32, list: &[u32]) -> Matched
     ensures { λ r. ⌜ r ≡ keywordChar c (now (list .entry)) ⌝ }
 {
-    let n = parts::refused_char(c);
+    let n = list_parts::refused_char(c);
     if n != 0 {
         return Matched::Refused(n);
     }
-    let m = parts::refused_list(list);
+    let m = list_parts::refused_list(list);
     if m != 0 {
         return Matched::Refused(m);
     }

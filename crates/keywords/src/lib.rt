@@ -8,8 +8,8 @@ pub use flat::holds;
 pub use flat::in_bounds;
 pub use flat::letters_of;
 pub use keyword_spec::is_keyword_char;
-pub use tokens::EMPTY;
-pub use tokens::Token;
+pub use list_tokens::EMPTY;
+pub use list_tokens::Token;
 
 // The table of a list's tokens: the first `len` places, and after them EMPTY.
 pub struct KeywordSpec {

@@ -4,7 +4,7 @@ use mathlib.Core.Path.{_≡_, refl}
 use mathlib.Core.List.{[], _∷_}
 use Prim.Native.Nat.{ℕ}
 use Rattle.lists.specs.Lists.{any}
-use Rattle.accept.specs.Accept.{textRefusal}
+use Rattle.text_check.specs.Accept.{textRefusal}
 use Rattle.text.specs.Text.{onFirst, rows}
 use Rattle.text.specs.Offsets.{startIn}
 use Rattle.margins.specs.Margins.{indentOf}

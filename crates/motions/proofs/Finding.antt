@@ -6,10 +6,10 @@ use Prim.Native.Nat.{ℕ, _≤_, _<_, _^_}
 use native.Mathlib.Omega.{arith}
 use lib.ListN.{length}
 use borrow.Author.Tests.{eq-eqb, ne-eqb}
-use Rattle.scans.specs.declared.Found.{Found}
-use Rattle.scans.specs.declared.Found.the-variants.{At}
-use Rattle.scans.specs.Find.{findOnRow}
-use Rattle.scans.proofs.Finds.{find-within}
+use Rattle.row_search.specs.declared.Found.{Found}
+use Rattle.row_search.specs.declared.Found.the-variants.{At}
+use Rattle.row_search.specs.Find.{findOnRow}
+use Rattle.row_search.proofs.Finds.{find-within}
 use Rattle.motions.specs.declared.Sought.{Sought}
 use Rattle.motions.specs.declared.Sought.the-variants.{Refused}
 use Rattle.motions.specs.Finds.{seeking}

@@ -7,15 +7,15 @@ use Prim.Native.Nat.{ℕ}
 use native.Mathlib.Omega.{arith}
 use lib.Dec.{eqb}
 use borrow.Author.Tests.{eqb-true}
-use Rattle.ways.specs.declared.Step.{Step}
-use Rattle.ways.specs.Ways.{stepped}
+use Rattle.text_moves.specs.declared.Step.{Step}
+use Rattle.text_moves.specs.Ways.{stepped}
 use Rattle.positions.specs.Positions.{lowest}
 use Rattle.positions.proofs.Lowest.{lowest-none}
 use Rattle.positions.proofs.Checks.{inside, inside-at}
-use Rattle.ways.proofs.Staying.{stepped-in}
-use Rattle.ways.specs.declared.Jump.{Jump}
-use Rattle.ways.specs.Ways.{jumped}
-use Rattle.ways.proofs.Staying.{jumped-in}
+use Rattle.text_moves.proofs.Staying.{stepped-in}
+use Rattle.text_moves.specs.declared.Jump.{Jump}
+use Rattle.text_moves.specs.Ways.{jumped}
+use Rattle.text_moves.proofs.Staying.{jumped-in}
 use Rattle.motions.specs.declared.Caret.{Caret}
 use Rattle.motions.specs.declared.Moved.{Moved}
 use Rattle.motions.specs.declared.Moved.the-variants.{To, Refused}

@@ -4,16 +4,16 @@ use mathlib.Core.List.{List, [], _∷_}
 use mathlib.Core.Bool.{Bool}
 use Prim.Native.Nat.{ℕ}
 use Rattle.chars.specs.Width.{widthOf}
-use Rattle.accept.specs.Accept.{textRefusal}
+use Rattle.text_check.specs.Accept.{textRefusal}
 use Rattle.text.specs.Text.{rowCount}
 use Rattle.folds.specs.Folds.{foldRefusal}
-use Rattle.wrap.specs.declared.Wrap.{Wrap}
-use Rattle.visible.specs.Visible.{deltaOf}
+use Rattle.row_wrap.specs.declared.Wrap.{Wrap}
+use Rattle.visible_rows.specs.Visible.{deltaOf}
 use Rattle.vertical.proofs.Inside.{rows-inside}
 use Rattle.vertical.proofs.Edges.{viewport-within}
 use Rattle.vertical.specs.declared.Edge.{Edge}
 use Rattle.screen.proofs.Inside.{move-inside}
-use Rattle.jumps.proofs.Staying.{row-in}
+use Rattle.row_moves.proofs.Staying.{row-in}
 use Rattle.motions.specs.declared.Caret.{Caret}
 use Rattle.motions.specs.Carets.{refusalOf, Inside}
 use Rattle.motions.specs.UpDown.{stopRefusal, verticalRefusal, moveRows, moveScreenRows}

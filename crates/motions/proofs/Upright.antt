@@ -7,7 +7,7 @@ use native.Mathlib.Omega.{arith}
 use borrow.Author.Tests.{lt-ltb, le-ltb}
 use Rattle.chars.specs.Width.{widthOf}
 use Rattle.text.proofs.Parts.{count-le, row-fits}
-use Rattle.wrap.specs.declared.Wrap.{Wrap}
+use Rattle.row_wrap.specs.declared.Wrap.{Wrap}
 use Rattle.vertical.specs.declared.Sticky.{Sticky}
 use Rattle.vertical.specs.declared.Sticky.the-variants.{At}
 use Rattle.vertical.specs.declared.Target.{Target}

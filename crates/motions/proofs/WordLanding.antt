@@ -3,16 +3,16 @@ use mathlib.Core.Path.{_≡_}
 use mathlib.Core.List.{List, [], _∷_}
 use mathlib.Core.Bool.{Bool}
 use Prim.Native.Nat.{ℕ}
-use Rattle.accept.specs.Accept.{textRefusal}
+use Rattle.text_check.specs.Accept.{textRefusal}
 use Rattle.text.specs.Text.{rowCount}
 use Rattle.folds.specs.Folds.{foldRefusal}
-use Rattle.tokens.specs.Tokens.{inList}
+use Rattle.list_tokens.specs.Tokens.{inList}
 use Rattle.keywords.specs.Table.{parseOf}
-use Rattle.places.specs.Places.{place, kindOf}
-use Rattle.loops.proofs.Within.{In}
-use Rattle.turns.specs.declared.Motion.{Motion}
-use Rattle.turns.specs.Rounds.{wordMotion}
-use Rattle.turns.proofs.Inside.{word-motion-in}
+use Rattle.word_kinds.specs.Places.{place, kindOf}
+use Rattle.word_loops.proofs.Within.{In}
+use Rattle.word_rounds.specs.declared.Motion.{Motion}
+use Rattle.word_rounds.specs.Rounds.{wordMotion}
+use Rattle.word_rounds.proofs.Inside.{word-motion-in}
 use Rattle.motions.specs.declared.Caret.{Caret}
 use Rattle.motions.specs.Carets.{Inside}
 use Rattle.motions.specs.WordMoves.{wordRefusal, wordCaret, moveWord}

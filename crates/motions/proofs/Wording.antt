@@ -10,10 +10,10 @@ use Rattle.text.proofs.Parts.{count-le}
 use Rattle.folds.specs.Folds.{foldRefusal}
 use Rattle.positions.specs.declared.Entry.{Entry}
 use Rattle.positions.specs.Positions.{Accepted}
-use Rattle.places.specs.declared.Spot.{Spot}
-use Rattle.places.specs.Places.{Place, place}
-use Rattle.places.specs.Spots.{placeOf, IsSpot}
-use Rattle.turns.specs.Turns.{Folded}
+use Rattle.word_kinds.specs.declared.Spot.{Spot}
+use Rattle.word_kinds.specs.Places.{Place, place}
+use Rattle.word_kinds.specs.Spots.{placeOf, IsSpot}
+use Rattle.word_rounds.specs.Turns.{Folded}
 use Rattle.motions.specs.declared.Caret.{Caret}
 use Rattle.motions.specs.Carets.{here, placed}
 use Rattle.motions.specs.WordMoves.{atPlace}

@@ -5,11 +5,11 @@ use mathlib.Core.List.{List}
 use mathlib.Core.Bool.{Bool, cond}
 use lib.Dec.{eqb}
 use Rattle.text.specs.Text.{rowAt}
-use Rattle.scans.specs.declared.Found.{Found}
-use Rattle.scans.specs.declared.Found.the-variants.{At, Nothing}
-use Rattle.partners.specs.declared.Partner.{Partner}
-use Rattle.partners.specs.declared.Partner.the-variants.{There, None, Refused as Partner·Refused}
-use Rattle.scans.specs.Find.{findOnRow}
+use Rattle.row_search.specs.declared.Found.{Found}
+use Rattle.row_search.specs.declared.Found.the-variants.{At, Nothing}
+use Rattle.bracket_walks.specs.declared.Partner.{Partner}
+use Rattle.bracket_walks.specs.declared.Partner.the-variants.{There, None, Refused as Partner·Refused}
+use Rattle.row_search.specs.Find.{findOnRow}
 use Rattle.brackets.specs.Find.{keyFrom}
 use Rattle.positions.specs.Positions.{refusalWith}
 use Rattle.motions.specs.declared.Caret.{Caret}

@@ -5,13 +5,13 @@ use mathlib.Core.List.{List, [], _∷_}
 use mathlib.Core.Bool.{Bool, cond}
 use lib.Dec.{ltb}
 use Rattle.chars.specs.Width.{widthOf}
-use Rattle.accept.specs.Accept.{textRefusal}
+use Rattle.text_check.specs.Accept.{textRefusal}
 use Rattle.text.specs.Text.{rowCount}
 use Rattle.folds.specs.Folds.{foldRefusal}
-use Rattle.wrap.specs.declared.Wrap.{Wrap}
+use Rattle.row_wrap.specs.declared.Wrap.{Wrap}
 use Rattle.vertical.specs.declared.Sticky.the-variants.{At}
 use Rattle.vertical.specs.declared.Target.{Target}
-use Rattle.visible.specs.Visible.{deltaOf}
+use Rattle.visible_rows.specs.Visible.{deltaOf}
 use Rattle.vertical.specs.Moves.{moveVertical}
 use Rattle.vertical.specs.Moves
 use Rattle.screen.specs.Screen.{moveScreen}

@@ -3,14 +3,14 @@
 use Prim.Native.Nat.{ℕ}
 use mathlib.Core.List.{List, [], _∷_}
 use mathlib.Core.Bool.{Bool}
-use Rattle.accept.specs.Accept.{textRefusal}
+use Rattle.text_check.specs.Accept.{textRefusal}
 use Rattle.text.specs.Text.{rowCount}
 use Rattle.folds.specs.Folds.{foldRefusal}
-use Rattle.tokens.specs.Tokens.{inList}
+use Rattle.list_tokens.specs.Tokens.{inList}
 use Rattle.keywords.specs.Table.{parseOf}
-use Rattle.places.specs.Places.{Place, place, kindOf}
-use Rattle.turns.specs.declared.Motion.{Motion}
-use Rattle.turns.specs.Rounds.{wordMotion}
+use Rattle.word_kinds.specs.Places.{Place, place, kindOf}
+use Rattle.word_rounds.specs.declared.Motion.{Motion}
+use Rattle.word_rounds.specs.Rounds.{wordMotion}
 use Rattle.positions.specs.Positions.{lowest}
 use Rattle.motions.specs.declared.Caret.{Caret}
 use Rattle.motions.specs.declared.Moved.{Moved}

@@ -1,9 +1,9 @@
 // `%`, and `f`, `F`, `t`, `T`: motions.rs, "Find / match".
 use crate::Caret;
 use crate::Sought;
-use partners::Partner;
+use bracket_walks::Partner;
 use positions::Position;
-use scans::Found;
+use row_search::Found;
 use text::Line;
 ghost use mathlib.Core.Path.{_≡_};
 ghost use Rattle.motions.specs.Finds.{matchBracket, findCharOnLine};
@@ -56,7 +56,7 @@ impl Caret {
         };
         let row = text::offsets::row(t, l);
         let col = self.col as usize;
-        match scans::find_on_row(row, col, x, forward, till, skip) {
+        match row_search::find_on_row(row, col, x, forward, till, skip) {
             Found::At(i) => Sought::Found(self.placed(self.row as usize, i)),
             Found::Nothing => Sought::Missing(self),
         }

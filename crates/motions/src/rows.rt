@@ -1,11 +1,11 @@
 // Motions to other rows: `+`, `-`, `_`, `gg` and `G`, by sections and by paragraphs, of motions.rs.
-// The moves are those of `jumps`.
+// The moves are those of `row_moves`.
 use crate::Caret;
 use crate::Moved;
 use positions::Position;
-use ways::Jump;
+use text_moves::Jump;
 ghost use mathlib.Core.Path.{_≡_};
-ghost use Rattle.ways.specs.Ways.{jumped};
+ghost use Rattle.text_moves.specs.Ways.{jumped};
 ghost use Rattle.motions.specs.Carets.{here, leads};
 ghost use Rattle.motions.specs.Lines.{moveTop, moveBottom, moveFirstNonBlankNextLine};
 ghost use Rattle.motions.specs.Lines.{moveFirstNonBlankPrevLine, moveFirstNonBlankLine};
@@ -27,7 +27,7 @@ impl Caret {
             row: self.row as usize,
             col: self.col as usize,
         };
-        let q = ways::across::jump(t, p, e, j, count);
+        let q = text_moves::across::jump(t, p, e, j, count);
         Moved::To(self.placed(q.row, q.col))
     }
 

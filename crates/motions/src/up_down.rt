@@ -2,9 +2,9 @@
 // are lent the tables of widths. `j` and `k` are the screen moves of a viewport that doesn't wrap.
 use crate::Caret;
 use crate::Moved;
+use row_wrap::Wrap;
 use text::Line;
 use vertical::Sticky;
-use wrap::Wrap;
 ghost use mathlib.Core.Path.{_≡_};
 ghost use mathlib.Core.Bool.{true, false};
 ghost use Rattle.motions.specs.UpDown.{moveRows, moveScreenRows};

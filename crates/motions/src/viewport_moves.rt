@@ -16,7 +16,7 @@ impl Caret {
             return Moved::Refused(e.refusal);
         }
         let l = vertical::viewport::viewport_line(t, e.rows, e.content, edge, top, height, offset);
-        let q = jumps::rows::at_line(t, l);
+        let q = row_moves::rows::at_line(t, l);
         Moved::To(self.placed(q.row, q.col))
     }
 

@@ -2,8 +2,8 @@
 // steps are those of `steps`.
 use crate::Caret;
 use crate::Moved;
-use ways::Jump;
-use ways::Step;
+use text_moves::Jump;
+use text_moves::Step;
 ghost use mathlib.Core.Path.{_≡_};
 ghost use Rattle.motions.specs.Columns.{moveLeft, moveRightInLine, moveRightToEnd};
 ghost use Rattle.motions.specs.Columns.{moveLineStart, moveLineEnd, moveGotoColumn};

@@ -3,8 +3,8 @@
 use crate::Caret;
 use crate::Moved;
 use keywords::KeywordSpec;
-use places::Spot;
-use turns::Motion;
+use word_kinds::Spot;
+use word_rounds::Motion;
 ghost use mathlib.Core.Path.{_≡_};
 ghost use mathlib.Core.Bool.{false};
 ghost use mathlib.Core.List.{[]};

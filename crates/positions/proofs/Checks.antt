@@ -8,11 +8,11 @@ use native.Mathlib.Omega.{arith}
 use lib.Dec.{eqb, ltb, leb}
 use borrow.Author.Tests.{eq-eqb, ne-eqb, eqb-true, ltb-true, leb-true, lt-ltb, le-ltb, le-leb, lt-leb}
 use Rattle.chars.specs.Scalar.{isScalar}
-use Rattle.accept.specs.Accept.{textRefusal}
+use Rattle.text_check.specs.Accept.{textRefusal}
 use Rattle.text.specs.Text.{rowCount, rowLen}
 use Rattle.text.specs.Offsets.{rowStart}
 use Rattle.folds.specs.Folds.{foldRefusal}
-use Rattle.accept.proofs.Accepted.{accepted-short}
+use Rattle.text_check.proofs.Accepted.{accepted-short}
 use Rattle.text.proofs.Parts.{row-fits}
 use Rattle.text.proofs.Stands.{line-at, stands-in}
 use Rattle.positions.specs.declared.Position.{Position}

@@ -6,7 +6,7 @@ use Prim.Native.Nat.{ℕ, _+_, _≤_, _<_}
 use native.Mathlib.Omega.{arith}
 use lib.Dec.{eqb}
 use Rattle.chars.specs.Scalar.{isScalar}
-use Rattle.accept.specs.Accept.{textRefusal}
+use Rattle.text_check.specs.Accept.{textRefusal}
 use Rattle.text.specs.Text.{rowCount}
 use Rattle.text.proofs.Content.{content-near}
 use Rattle.folds.specs.Folds.{foldRefusal}

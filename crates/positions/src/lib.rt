@@ -35,7 +35,7 @@ fn refused(f: u32) -> Entry
 pub fn enter(t: &[u32], p: Position) -> Entry
     ensures { λ r. ⌜ r ≡ entryOf (now (t .entry)) p ⌝ }
 {
-    let f = accept::text_refusal(t);
+    let f = text_check::text_refusal(t);
     if f != 0 {
         return refused(f);
     }

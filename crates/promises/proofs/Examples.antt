@@ -6,58 +6,58 @@ use Rattle.lists.specs.Rounds.{rounds}
 use Rattle.letters.specs.Letters.{letters, isLetter}
 use Rattle.chars.specs.White.{whites, isWhite}
 use Rattle.chars.specs.Width.{zeroWidths, doubleWidths, widthBy, widthOf}
-use Rattle.row.specs.Row.{rowRefusal}
-use Rattle.row.specs.Row.{columnOf as columnAt}
-use Rattle.tabstops.specs.Cells.{columnRefusal, stopOf}
-use Rattle.tabstops.specs.Indents.{leadingFrom}
-use Rattle.columns.specs.Columns.{visualFrom, charFrom}
-use Rattle.cells.specs.Cells.{fits}
-use Rattle.cuts.specs.Segments.{afterWhite, firstSegment}
-use Rattle.wrap.specs.Segments.{segmentsFrom}
-use Rattle.wrap.specs.Modes.{segmentsOf}
-use Rattle.wrap.specs.Calls.{wrapRefusal}
-use Rattle.cells.specs.Offsets.{cellsIn, pairsBefore}
-use Rattle.wrap.specs.Room.{countOf, roomRefusal}
-use Rattle.accept.specs.Accept.{textRefusal}
+use Rattle.row_check.specs.Row.{rowRefusal}
+use Rattle.row_check.specs.Row.{columnOf as columnAt}
+use Rattle.row_tabs.specs.Cells.{columnRefusal, stopOf}
+use Rattle.row_tabs.specs.Indents.{leadingFrom}
+use Rattle.row_columns.specs.Columns.{visualFrom, charFrom}
+use Rattle.row_cells.specs.Cells.{fits}
+use Rattle.row_segment.specs.Segments.{afterWhite, firstSegment}
+use Rattle.row_wrap.specs.Segments.{segmentsFrom}
+use Rattle.row_wrap.specs.Modes.{segmentsOf}
+use Rattle.row_wrap.specs.Calls.{wrapRefusal}
+use Rattle.row_cells.specs.Offsets.{cellsIn, pairsBefore}
+use Rattle.row_wrap.specs.Room.{countOf, roomRefusal}
+use Rattle.text_check.specs.Accept.{textRefusal}
 use Rattle.text.specs.Text.{rows}
 use Rattle.text.specs.Offsets.{startIn, rowOf}
 use Rattle.folds.specs.Folds.{anyFold, foldRefusal, visibleFrom, prevVisible}
-use Rattle.parts.specs.Numbers.{allDigits, value}
-use Rattle.parts.specs.Parts.{trimStart, trimEnd}
-use Rattle.tokens.specs.Tokens.{tokensIn}
+use Rattle.list_parts.specs.Numbers.{allDigits, value}
+use Rattle.list_parts.specs.Parts.{trimStart, trimEnd}
+use Rattle.list_tokens.specs.Tokens.{tokensIn}
 use Rattle.keywords.proofs.Worked.{p11}
-use Rattle.signs.specs.Kinds.{sideOf, keyBracket}
-use Rattle.scans.specs.Nearest.{firstFrom, lastBelow}
-use Rattle.partners.specs.Pairs.{count, stretch}
-use Rattle.partners.specs.Matching.{nearestOf, placed}
+use Rattle.bracket_kinds.specs.Kinds.{sideOf, keyBracket}
+use Rattle.row_search.specs.Nearest.{firstFrom, lastBelow}
+use Rattle.bracket_walks.specs.Pairs.{count, stretch}
+use Rattle.bracket_walks.specs.Matching.{nearestOf, placed}
 use Rattle.brackets.specs.Matching.{matchingBracketPos}
-use Rattle.scans.specs.Find.{landing, findAhead}
+use Rattle.row_search.specs.Find.{landing, findAhead}
 use Rattle.brackets.specs.Find.{keyTo}
-use Rattle.lines.specs.Paragraphs.{roundFrom, paragraphs}
-use Rattle.lines.specs.Sections.{sectionUp, sectionDown}
-use Rattle.places.specs.Places.{kindOf, kindAt, onEmptyRow, nextRow, stepForward, inc, dec, endOfBuffer}
-use Rattle.loops.specs.Walks.{walk, goesOn}
-use Rattle.visible.specs.Visible.{verticalRow}
+use Rattle.row_walks.specs.Paragraphs.{roundFrom, paragraphs}
+use Rattle.row_walks.specs.Sections.{sectionUp, sectionDown}
+use Rattle.word_kinds.specs.Places.{kindOf, kindAt, onEmptyRow, nextRow, stepForward, inc, dec, endOfBuffer}
+use Rattle.word_loops.specs.Walks.{walk, goesOn}
+use Rattle.visible_rows.specs.Visible.{verticalRow}
 use Rattle.vertical.specs.Moves.{landed}
 use Rattle.screen.specs.Screen.{stepScreen}
-use Rattle.strides.specs.Words.{nextWordStart, prevWordStart, nextWordEnd, prevWordEnd, atWordEnd}
-use Rattle.turns.specs.Rounds.{roundOf, counted, wordMotion}
+use Rattle.word_edges.specs.Words.{nextWordStart, prevWordStart, nextWordEnd, prevWordEnd, atWordEnd}
+use Rattle.word_rounds.specs.Rounds.{roundOf, counted, wordMotion}
 use Rattle.positions.specs.Positions.{positionRefusal, lowest, orSought}
 use Rattle.steps.specs.Steps.{spaceFwd, backspaceBack}
 use Rattle.motions.specs.Carets.{moving}
 use Rattle.margins.specs.Margins.{indentOf, solidOf}
 use Rattle.motions.specs.Finds.{partnerTo, seeking, landsOn}
-use Rattle.text_calls.specs.Carets.{moved}
-use Rattle.row_calls.specs.Characters.{fact}
-use Rattle.row_calls.specs.Lists.{tokenCount, byTable, inTable, keyword}
-use Rattle.text_calls.specs.Moves.{motion}
-use Rattle.text_calls.specs.Partners.{partnered}
-use Rattle.text_calls.specs.Seeks.{sought, seek}
-use Rattle.row_calls.specs.Tabs.{toldColumn, tabColumn}
-use Rattle.fold_calls.specs.Terms.{word}
-use Rattle.text_calls.specs.Viewports.{viewport}
-use Rattle.fold_calls.specs.Upright.{upright, vertical}
-use Rattle.row_calls.specs.Wraps.{toldSegment, toldSegments, offset, modeOf, segmented, segmentsLeft}
+use Rattle.call_texts.specs.Carets.{moved}
+use Rattle.call_rows.specs.Characters.{fact}
+use Rattle.call_rows.specs.Lists.{tokenCount, byTable, inTable, keyword}
+use Rattle.call_texts.specs.Moves.{motion}
+use Rattle.call_texts.specs.Partners.{partnered}
+use Rattle.call_texts.specs.Seeks.{sought, seek}
+use Rattle.call_rows.specs.Tabs.{toldColumn, tabColumn}
+use Rattle.call_folds.specs.Terms.{word}
+use Rattle.call_texts.specs.Viewports.{viewport}
+use Rattle.call_folds.specs.Upright.{upright, vertical}
+use Rattle.call_rows.specs.Wraps.{toldSegment, toldSegments, offset, modeOf, segmented, segmentsLeft}
 use Rattle.promises.specs.Table.{table, given, asked, Examples}
 use Rattle.promises.specs.Calls.{calls, judged, good}
 

@@ -1,18 +1,18 @@
 -- The % key: the statement of `specs/KeyMoves.antt` holds of every text and caret. Where no check refuses the call, its answer is where the key
--- goes to from the caret's row and column, and the laws of `pairing` say where that is. Assumes nothing.
+-- goes to from the caret's row and column, and the laws of `bracket_laws` say where that is. Assumes nothing.
 use mathlib.Core.Path.{_≡_, refl, sym, _∙_, ap, subst}
 use mathlib.Core.List.{List, [], _∷_}
 use Prim.Native.Nat.{ℕ}
 use native.Mathlib.Decide.{ℕ-discrete}
 use native.Mathlib.Omega.{arith}
 use borrow.Author.Tests.{eq-eqb, ne-eqb}
-use Rattle.accept.specs.Accept.{textRefusal}
-use Rattle.partners.specs.declared.Pos.{Pos}
-use Rattle.partners.specs.declared.Partner.{Partner}
-use Rattle.partners.specs.declared.Partner.the-variants.{There, None, Refused as Partner·Refused}
+use Rattle.text_check.specs.Accept.{textRefusal}
+use Rattle.bracket_walks.specs.declared.Pos.{Pos}
+use Rattle.bracket_walks.specs.declared.Partner.{Partner}
+use Rattle.bracket_walks.specs.declared.Partner.the-variants.{There, None, Refused as Partner·Refused}
 use Rattle.brackets.specs.Find.{keyFrom}
-use Rattle.pairing.specs.Jump.{posAt, KeyGoes}
-use Rattle.pairing.proofs.Jump.{key-goes}
+use Rattle.bracket_laws.specs.Jump.{posAt, KeyGoes}
+use Rattle.bracket_laws.proofs.Jump.{key-goes}
 use Rattle.positions.specs.declared.Position.{Position}
 use Rattle.positions.proofs.Lowest.{lowest-none}
 use Rattle.motions.specs.declared.Caret.{Caret}

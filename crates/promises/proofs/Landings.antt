@@ -5,15 +5,15 @@ use mathlib.Core.Bool.{Bool, true, false, cond}
 use Prim.Native.Nat.{ℕ}
 use native.Mathlib.Omega.{arith}
 use lib.Dec.{eqb}
-use Rattle.ways.specs.declared.Step.the-variants as step
-use Rattle.ways.specs.declared.Jump.the-variants as jump
+use Rattle.text_moves.specs.declared.Step.the-variants as step
+use Rattle.text_moves.specs.declared.Jump.the-variants as jump
 use Rattle.motions.specs.declared.Caret.{Caret}
 use Rattle.motions.specs.declared.Moved.the-variants.{Refused}
 use Rattle.motions.proofs.Landing.{Lands, step-lands, jump-lands}
 use Rattle.motions.proofs.Reaching.{viewport-lands}
 use Rattle.vertical.specs.declared.Edge.the-variants.{Top, Middle, Bottom}
-use Rattle.text_calls.specs.Moves.{motion}
-use Rattle.text_calls.specs.Viewports.{viewport}
+use Rattle.call_texts.specs.Moves.{motion}
+use Rattle.call_texts.specs.Viewports.{viewport}
 
 -- one of two answers
 pub either : {A : Type 0} (P : A → Type 0) (b : Bool) (x y : A) → P x → P y → P (cond b x y)

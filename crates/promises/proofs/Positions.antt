@@ -1,18 +1,18 @@
 -- Every position that a call writes stands in the text, and the last is that of its answer: the laws of the motions, over all calls. Assumes nothing.
 use mathlib.Core.Path.{_≡_, refl}
-use Rattle.tokens.specs.Tokens.{inList}
-use Rattle.places.specs.Places.{kindOf}
-use Rattle.partners.specs.declared.Partner.{Partner}
-use Rattle.partners.specs.declared.Partner.the-variants.{There, None, Refused as Partner·Refused}
+use Rattle.list_tokens.specs.Tokens.{inList}
+use Rattle.word_kinds.specs.Places.{kindOf}
+use Rattle.bracket_walks.specs.declared.Partner.{Partner}
+use Rattle.bracket_walks.specs.declared.Partner.the-variants.{There, None, Refused as Partner·Refused}
 use Rattle.brackets.specs.Matching.{matchingBracketPos}
 use Rattle.motions.specs.declared.Sought.{Sought}
 use Rattle.motions.specs.declared.Sought.the-variants.{Found, Missing, Refused as Sought·Refused}
-use Rattle.row_calls.specs.Wraps.{modeOf}
-use Rattle.text_calls.specs.Moves.{motion}
-use Rattle.text_calls.specs.Seeks.{seek}
-use Rattle.text_calls.specs.Viewports.{viewport}
-use Rattle.fold_calls.specs.Terms.{word}
-use Rattle.fold_calls.specs.Upright.{vertical}
+use Rattle.call_rows.specs.Wraps.{modeOf}
+use Rattle.call_texts.specs.Moves.{motion}
+use Rattle.call_texts.specs.Seeks.{seek}
+use Rattle.call_texts.specs.Viewports.{viewport}
+use Rattle.call_folds.specs.Terms.{word}
+use Rattle.call_folds.specs.Upright.{vertical}
 use Rattle.promises.specs.Positions.{plain, by-word, upright, edge, search, partner, inSought, inPartner, positions}
 use Rattle.promises.specs.Writes.{byRow, plainWrites, termWrites, uprightWrites, written, ends, lastOf, EveryPositionInside}
 use Rattle.promises.proofs.Landings.{edge-lands}

@@ -6,36 +6,36 @@ use Rattle.lists.specs.Rounds.{rounds}
 use Rattle.letters.specs.Letters.{letters, isLetter}
 use Rattle.chars.specs.White.{whites, isWhite}
 use Rattle.chars.specs.Width.{zeroWidths, doubleWidths, widthBy, widthOf}
-use Rattle.row.specs.Row.{rowRefusal, columnOf}
-use Rattle.tabstops.specs.Cells.{columnRefusal, stopOf}
-use Rattle.columns.specs.Columns.{visualFrom, charFrom}
-use Rattle.accept.specs.Accept.{textRefusal}
+use Rattle.row_check.specs.Row.{rowRefusal, columnOf}
+use Rattle.row_tabs.specs.Cells.{columnRefusal, stopOf}
+use Rattle.row_columns.specs.Columns.{visualFrom, charFrom}
+use Rattle.text_check.specs.Accept.{textRefusal}
 use Rattle.text.specs.Text.{rows}
 use Rattle.text.specs.Offsets.{startIn, rowOf}
 use Rattle.folds.specs.Folds.{anyFold, foldRefusal, visibleFrom, prevVisible}
-use Rattle.parts.specs.Numbers.{allDigits, value}
-use Rattle.parts.specs.Parts.{trimStart, trimEnd}
-use Rattle.tokens.specs.Tokens.{tokensIn}
-use Rattle.signs.specs.Kinds.{sideOf, keyBracket}
-use Rattle.scans.specs.Nearest.{firstFrom, lastBelow}
-use Rattle.partners.specs.Pairs.{count, stretch}
-use Rattle.partners.specs.Matching.{nearestOf, placed}
+use Rattle.list_parts.specs.Numbers.{allDigits, value}
+use Rattle.list_parts.specs.Parts.{trimStart, trimEnd}
+use Rattle.list_tokens.specs.Tokens.{tokensIn}
+use Rattle.bracket_kinds.specs.Kinds.{sideOf, keyBracket}
+use Rattle.row_search.specs.Nearest.{firstFrom, lastBelow}
+use Rattle.bracket_walks.specs.Pairs.{count, stretch}
+use Rattle.bracket_walks.specs.Matching.{nearestOf, placed}
 use Rattle.brackets.specs.Matching.{matchingBracketPos}
 use Rattle.brackets.specs.Find.{keyTo}
-use Rattle.places.specs.Places.{kindOf, kindAt, onEmptyRow, nextRow, stepForward, endOfBuffer}
-use Rattle.loops.specs.Walks.{walk, goesOn}
-use Rattle.visible.specs.Visible.{verticalRow}
+use Rattle.word_kinds.specs.Places.{kindOf, kindAt, onEmptyRow, nextRow, stepForward, endOfBuffer}
+use Rattle.word_loops.specs.Walks.{walk, goesOn}
+use Rattle.visible_rows.specs.Visible.{verticalRow}
 use Rattle.vertical.specs.Moves.{landed}
-use Rattle.strides.specs.Words.{nextWordStart}
-use Rattle.turns.specs.Rounds.{roundOf, counted, wordMotion}
+use Rattle.word_edges.specs.Words.{nextWordStart}
+use Rattle.word_rounds.specs.Rounds.{roundOf, counted, wordMotion}
 use Rattle.positions.specs.Positions.{positionRefusal, lowest, orSought}
 use Rattle.motions.specs.Carets.{moving}
 use Rattle.motions.specs.Finds.{partnerTo, seeking, landsOn}
 use Rattle.print.specs.Print.{spell, decimal}
-use Rattle.commands.specs.Commands.{digitsFrom, digitsOf, countIn}
-use Rattle.keys.specs.Keys.{twoBytes, wordKeys, lineKeys, placeKeys, found}
-use Rattle.script.specs.Parts.{commandRows, hasStop, textAt, isRefused}
-use Rattle.presses.specs.Pressed.{does, pressed}
+use Rattle.session_row.specs.Commands.{digitsFrom, digitsOf, countIn}
+use Rattle.session_keys.specs.Keys.{twoBytes, wordKeys, lineKeys, placeKeys, found}
+use Rattle.session_input.specs.Parts.{commandRows, hasStop, textAt, isRefused}
+use Rattle.session_presses.specs.Pressed.{does, pressed}
 use Rattle.session.specs.Session.{shownOf, lineOf, linesOf, sessionOf}
 use Rattle.session.specs.Session.{counted as turned}
 use Rattle.promises.specs.Calls.{sessions, judged, good}

@@ -8,15 +8,15 @@ use lib.Dec.{eqb}
 use borrow.Author.Tests.{eqb-true}
 use Rattle.chars.specs.Scalar.{isScalar}
 use Rattle.text.specs.Text.{rowAt, rowLen}
-use Rattle.scans.specs.declared.Found.{Found as Spotted}
-use Rattle.scans.specs.declared.Found.the-variants.{At, Nothing}
-use Rattle.partners.specs.declared.Partner.{Partner}
-use Rattle.partners.specs.declared.Partner.the-variants.{There, None, Refused as Partner·Refused}
+use Rattle.row_search.specs.declared.Found.{Found as Spotted}
+use Rattle.row_search.specs.declared.Found.the-variants.{At, Nothing}
+use Rattle.bracket_walks.specs.declared.Partner.{Partner}
+use Rattle.bracket_walks.specs.declared.Partner.the-variants.{There, None, Refused as Partner·Refused}
 use Rattle.brackets.specs.Matching.{matchingBracketPos}
-use Rattle.scans.specs.Find.{findOnRow}
-use Rattle.pairing.proofs.Call.{call-accepted}
-use Rattle.pairing.proofs.Demand.{unique}
-use Rattle.scans.proofs.Finds.{find-within}
+use Rattle.row_search.specs.Find.{findOnRow}
+use Rattle.bracket_laws.proofs.Call.{call-accepted}
+use Rattle.bracket_laws.proofs.Demand.{unique}
+use Rattle.row_search.proofs.Finds.{find-within}
 use Rattle.positions.specs.Positions.{refusalWith}
 use Rattle.positions.proofs.Checks.{inside}
 use Rattle.positions.proofs.Entered.{sought-none}
@@ -26,7 +26,7 @@ use Rattle.motions.specs.declared.Sought.{Sought}
 use Rattle.motions.specs.declared.Sought.the-variants.{Found, Missing, Refused as Sought·Refused}
 use Rattle.motions.specs.Carets.{here, Inside, refusalOf}
 use Rattle.motions.specs.Finds.{matchBracket, findCharOnLine, seeking, landsOn}
-use Rattle.text_calls.specs.Seeks.{seek}
+use Rattle.call_texts.specs.Seeks.{seek}
 use Rattle.promises.specs.Positions.{inMoved, inSought, inPartner, AllIn}
 use Rattle.promises.proofs.Landings.{either}
 use Rattle.promises.proofs.KeyMoves.{key}

@@ -4,13 +4,13 @@ use mathlib.Core.List.{List, [], _∷_}
 use mathlib.Core.Bool.{Bool, true, false, cond, _&&_}
 use Prim.Native.Nat.{ℕ, zero, suc, _-_, _<_, max}
 use native.Mathlib.Omega.{arith}
-use Rattle.places.specs.Places.{Place, Went, To, Nowhere}
-use Rattle.loops.proofs.Within
-use Rattle.strides.specs.Words
-use Rattle.turns.specs.declared.Motion.{Motion}
-use Rattle.turns.specs.declared.Motion.the-variants.{Fwd, Back, End, EndBack}
-use Rattle.turns.specs.Rounds.{Turn, On, Off, jumpFwd, jumpBack, turn, roundOf, after, counted, wordMotion}
-use Rattle.turns.proofs.Inside.{Turns, jump-fwd-in, jump-back-in, round-in}
+use Rattle.word_kinds.specs.Places.{Place, Went, To, Nowhere}
+use Rattle.word_loops.proofs.Within
+use Rattle.word_edges.specs.Words
+use Rattle.word_rounds.specs.declared.Motion.{Motion}
+use Rattle.word_rounds.specs.declared.Motion.the-variants.{Fwd, Back, End, EndBack}
+use Rattle.word_rounds.specs.Rounds.{Turn, On, Off, jumpFwd, jumpBack, turn, roundOf, after, counted, wordMotion}
+use Rattle.word_rounds.proofs.Inside.{Turns, jump-fwd-in, jump-back-in, round-in}
 use Rattle.lists.specs.Rounds.{rounds}
 use Rattle.positions.specs.declared.Position.{Position}
 use Rattle.promises.specs.Positions.{In, AllIn}

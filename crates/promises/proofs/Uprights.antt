@@ -6,9 +6,9 @@ use Prim.Native.Nat.{ℕ, max}
 use lib.Dec.{eqb, leb}
 use Rattle.chars.specs.White.{isWhite}
 use Rattle.chars.specs.Width.{widthOf}
-use Rattle.wrap.specs.declared.Wrap.{Wrap}
-use Rattle.wrap.specs.Modes.{isNone, segmentsOf}
-use Rattle.visible.specs.Visible.{deltaOf}
+use Rattle.row_wrap.specs.declared.Wrap.{Wrap}
+use Rattle.row_wrap.specs.Modes.{isNone, segmentsOf}
+use Rattle.visible_rows.specs.Visible.{deltaOf}
 use Rattle.vertical.specs.Moves.{moveVertical}
 use Rattle.vertical.proofs.Inside as Upright
 use Rattle.vertical.proofs.Inside.{rows-inside}
@@ -22,8 +22,8 @@ use Rattle.motions.specs.declared.Moved.{Moved}
 use Rattle.motions.specs.UpDown.{verticalRefusal, atTarget, screenCaret, moveRows, moveScreenRows}
 use Rattle.motions.proofs.Landing.{moving-to}
 use Rattle.motions.proofs.Reaching.{own, rows-lands}
-use Rattle.row_calls.specs.Wraps.{modeOf}
-use Rattle.fold_calls.specs.Upright.{upright, vertical}
+use Rattle.call_rows.specs.Wraps.{modeOf}
+use Rattle.call_folds.specs.Upright.{upright, vertical}
 use Rattle.promises.specs.Positions.{standing}
 use Rattle.promises.specs.Trails.{onScreen, stepOf, screenWrites}
 use Rattle.promises.specs.Writes.{screenMoves, uprightWrites}
@@ -57,12 +57,12 @@ module _ (t : List ℕ) (k : Caret) (n : ℕ) (folds : List ℕ) (tabstop : ℕ)
     }
       where
         go : (b : Bool) → Upright.Inside t (k .row) (k .col) →
-            let c = atTarget (cond b (moveVertical t folds tabstop (deltaOf down n) (k .row) (k .col) (k .sticky))
-            (screenTarget t folds tabstop lay down n (k .row) (k .col) (k .sticky))) in
+            let c = atTarget (cond b (moveVertical widthOf t folds tabstop (deltaOf down n) (k .row) (k .col) (k .sticky))
+            (screenTarget widthOf t folds tabstop lay down n (k .row) (k .col) (k .sticky))) in
             Fits t (cond b (standing c) (screenWrites t folds lay down n (record { row = k .row; col = k .col }))) c
         go true i =
-            let r = rows-inside t folds tabstop (k .row) (k .col) (k .sticky) (deltaOf down n) i in
-            once t (atTarget (moveVertical t folds tabstop (deltaOf down n) (k .row) (k .col) (k .sticky)))
+            let r = rows-inside widthOf t folds tabstop (k .row) (k .col) (k .sticky) (deltaOf down n) i in
+            once t (atTarget (moveVertical widthOf t folds tabstop (deltaOf down n) (k .row) (k .col) (k .sticky)))
             (record { in-row = r .in-row; in-col = r .in-col })
         go false i =
             let j = jump-inside t folds down (record { row = k .row; col = k .col }) i in

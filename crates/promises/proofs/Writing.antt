@@ -8,10 +8,10 @@ use native.Mathlib.Omega.{arith}
 use lib.Dec.{eqb, leb}
 use borrow.Author.Tests.{ne-eqb}
 use Rattle.lists.specs.Rounds.{rounds}
-use Rattle.tokens.specs.Tokens.{inList}
-use Rattle.places.specs.Places.{place, kindOf}
-use Rattle.turns.specs.declared.Motion.{Motion}
-use Rattle.turns.specs.declared.Motion.the-variants.{Fwd, Back, End, EndBack}
+use Rattle.list_tokens.specs.Tokens.{inList}
+use Rattle.word_kinds.specs.Places.{place, kindOf}
+use Rattle.word_rounds.specs.declared.Motion.{Motion}
+use Rattle.word_rounds.specs.declared.Motion.the-variants.{Fwd, Back, End, EndBack}
 use Rattle.positions.specs.declared.Position.{Position}
 use Rattle.positions.specs.Positions.{Inside}
 use Rattle.positions.proofs.Checks.{inside}
@@ -23,8 +23,8 @@ use Rattle.motions.specs.declared.Moved.the-variants.{To, Refused}
 use Rattle.motions.specs.Carets.{here, refusalOf, put, leads}
 use Rattle.motions.specs.WordMoves.{wordRefusal, wordCaret, moveWord}
 use Rattle.motions.proofs.Landing.{moving-to, caret-in}
-use Rattle.text_calls.specs.Moves.{motion}
-use Rattle.fold_calls.specs.Terms.{word}
+use Rattle.call_texts.specs.Moves.{motion}
+use Rattle.call_folds.specs.Terms.{word}
 use Rattle.promises.specs.Positions.{AllIn, standing, inMoved}
 use Rattle.promises.specs.Trails.{trail, wordWrites}
 use Rattle.promises.specs.Writes.{writing, byRow, plainWrites, termWrites, ends, lastOf}

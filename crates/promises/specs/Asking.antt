@@ -4,17 +4,17 @@ use Prim.Native.String.{String}
 use mathlib.Core.List.{List, [], _∷_}
 use mathlib.Core.Bool.{Bool, true, false}
 use Rattle.lists.specs.Codes.{codes}
-use Rattle.lent.specs.declared.Told.{Told}
-use Rattle.lent.specs.declared.Told.the-variants.{Value, Refused}
-use Rattle.lent.specs.Reply.{Reply, answer, refused}
-use Rattle.text_calls.specs.Carets.{caretOf}
-use Rattle.row_calls.specs.Lists.{keywords}
-use Rattle.text_calls.specs.Moves.{motions}
-use Rattle.text_calls.specs.Partners.{partner}
-use Rattle.text_calls.specs.Seeks.{seeks}
-use Rattle.row_calls.specs.Tabs.{tabColumns}
-use Rattle.row_calls.specs.Wraps.{segmented, segmentsLeft}
-use Rattle.fold_calls.specs.Terms.{words}
+use Rattle.call_bytes.specs.declared.Told.{Told}
+use Rattle.call_bytes.specs.declared.Told.the-variants.{Value, Refused}
+use Rattle.call_bytes.specs.Reply.{Reply, answer, refused}
+use Rattle.call_texts.specs.Carets.{caretOf}
+use Rattle.call_rows.specs.Lists.{keywords}
+use Rattle.call_texts.specs.Moves.{motions}
+use Rattle.call_texts.specs.Partners.{partner}
+use Rattle.call_texts.specs.Seeks.{seeks}
+use Rattle.call_rows.specs.Tabs.{tabColumns}
+use Rattle.call_rows.specs.Wraps.{segmented, segmentsLeft}
+use Rattle.call_folds.specs.Terms.{words}
 
 -- brackets: a partner, and the % key
 abbrev pub pair : String → ℕ → ℕ → Reply

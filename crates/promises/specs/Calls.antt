@@ -5,17 +5,17 @@ use Prim.Native.String.{String}
 use mathlib.Core.List.{List, [], _∷_}
 use mathlib.Core.Bool.{Bool, true, false}
 use lib.Dec.{eqb}
-use Rattle.lent.specs.Reply.{Reply, answer, refused, told}
-use Rattle.text_calls.specs.Carets.{caretOf}
-use Rattle.row_calls.specs.Characters.{fact}
-use Rattle.row_calls.specs.Lists.{keywords}
-use Rattle.text_calls.specs.Moves.{motions}
-use Rattle.text_calls.specs.Rows.{rowCount}
-use Rattle.row_calls.specs.Tabs.{tabColumns}
-use Rattle.fold_calls.specs.Terms.{words}
-use Rattle.text_calls.specs.Viewports.{viewports}
-use Rattle.fold_calls.specs.Upright.{verticals}
-use Rattle.row_calls.specs.Wraps.{offsets, segmentOf}
+use Rattle.call_bytes.specs.Reply.{Reply, answer, refused, told}
+use Rattle.call_texts.specs.Carets.{caretOf}
+use Rattle.call_rows.specs.Characters.{fact}
+use Rattle.call_rows.specs.Lists.{keywords}
+use Rattle.call_texts.specs.Moves.{motions}
+use Rattle.call_texts.specs.Rows.{rowCount}
+use Rattle.call_rows.specs.Tabs.{tabColumns}
+use Rattle.call_folds.specs.Terms.{words}
+use Rattle.call_texts.specs.Viewports.{viewports}
+use Rattle.call_folds.specs.Upright.{verticals}
+use Rattle.call_rows.specs.Wraps.{offsets, segmentOf}
 use Rattle.session.specs.Session.{sessionOf}
 use Rattle.lists.specs.Lists.{isSame}
 use Rattle.lists.specs.Codes.{codes}

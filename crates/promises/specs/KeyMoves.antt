@@ -3,7 +3,7 @@
 use Prim.Native.Nat.{ℕ}
 use mathlib.Core.Path.{_≡_}
 use mathlib.Core.List.{List}
-use Rattle.pairing.specs.Jump.{posAt, Lands, Stays}
+use Rattle.bracket_laws.specs.Jump.{posAt, Lands, Stays}
 use Rattle.motions.specs.declared.Caret.{Caret}
 use Rattle.motions.specs.declared.Sought.the-variants.{Found, Missing, Refused}
 use Rattle.motions.specs.Carets.{here, refusalOf}

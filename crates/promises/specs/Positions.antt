@@ -3,8 +3,8 @@
 use Prim.Native.Nat.{ℕ}
 use mathlib.Core.List.{List, [], _∷_}
 use mathlib.Core.Bool.{Bool}
-use Rattle.partners.specs.declared.Partner.{Partner}
-use Rattle.partners.specs.declared.Partner.the-variants.{There, None, Refused as Partner·Refused}
+use Rattle.bracket_walks.specs.declared.Partner.{Partner}
+use Rattle.bracket_walks.specs.declared.Partner.the-variants.{There, None, Refused as Partner·Refused}
 use Rattle.brackets.specs.Matching.{matchingBracketPos}
 use Rattle.positions.specs.declared.Position.{Position}
 use Rattle.positions.specs.Positions.{position, Inside}
@@ -14,11 +14,11 @@ use Rattle.motions.specs.declared.Moved.the-variants.{To, Refused}
 use Rattle.motions.specs.declared.Sought.{Sought}
 use Rattle.motions.specs.declared.Sought.the-variants.{Found, Missing, Refused as Sought·Refused}
 use Rattle.motions.specs.Carets.{here}
-use Rattle.text_calls.specs.Moves.{motion}
-use Rattle.text_calls.specs.Seeks.{seek}
-use Rattle.fold_calls.specs.Terms.{word}
-use Rattle.text_calls.specs.Viewports.{viewport}
-use Rattle.fold_calls.specs.Upright.{vertical}
+use Rattle.call_texts.specs.Moves.{motion}
+use Rattle.call_texts.specs.Seeks.{seek}
+use Rattle.call_folds.specs.Terms.{word}
+use Rattle.call_texts.specs.Viewports.{viewport}
+use Rattle.call_folds.specs.Upright.{vertical}
 
 -- the calls by their argument lists, with all but the text and the caret
 pub data Call : Type 0 where

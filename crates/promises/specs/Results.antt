@@ -3,19 +3,19 @@
 use Prim.Native.Nat.{ℕ}
 use mathlib.Core.Path.{_≡_}
 use mathlib.Core.List.{List}
-use Rattle.wrap.specs.declared.Wrap.{Wrap}
-use Rattle.wrap.specs.declared.Segments.{Segments}
-use Rattle.wrap.specs.Calls.{Wraps}
+use Rattle.row_wrap.specs.declared.Wrap.{Wrap}
+use Rattle.row_wrap.specs.declared.Segments.{Segments}
+use Rattle.row_wrap.specs.Calls.{Wraps}
 use Rattle.session.specs.Written.{Printed}
-use Rattle.lent.specs.Reply.{Reply, Replied, Answered}
-use Rattle.lent.specs.Joined.{AnsweredAll}
+use Rattle.call_bytes.specs.Reply.{Reply, Replied, Answered}
+use Rattle.call_bytes.specs.Joined.{AnsweredAll}
 
 -- a contract allows one result at most
 abbrev pub One : {A : Type 0} → (A → Type 0) → Type 0
 One {A = A} allows = (x y : A) → allows x → allows y → x ≡ y
 
 pub record OneResult : Type 1 where
-  -- `r ≡ definition`: every method of `Caret`; the calls of `chars`, `letters`, `keywords`, `tabstops`, `columns`, `slots`, `text` and `brackets`
+  -- `r ≡ definition`: every method of `Caret`; the calls of `chars`, `letters`, `keywords`, `row_tabs`, `row_columns`, `row_offsets`, `text` and `brackets`
   pub equal : {A : Type 0} (v : A) → One (λ (r : A). r ≡ v)
   -- `wrap_segments`: the answer, and the slice lent for segments
   pub wraps : (mode : Wrap) (width : ℕ) (row out : List ℕ) → One (λ (x : Segments × List ℕ). Wraps mode width row out (x .0) (x .1))

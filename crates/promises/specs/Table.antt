@@ -6,8 +6,8 @@ use mathlib.Core.Path.{_≡_}
 use mathlib.Core.List.{List, [], _∷_}
 use mathlib.Core.Bool.{true, false}
 use Rattle.keywords.specs.Worked.{P11}
-use Rattle.lent.specs.Reply.{Reply, answer}
-use Rattle.text_calls.specs.Rows.{rowCount}
+use Rattle.call_bytes.specs.Reply.{Reply, answer}
+use Rattle.call_texts.specs.Rows.{rowCount}
 use Rattle.lists.specs.Codes.{codes}
 use Rattle.promises.specs.Asking.{pair, key, till, byChar, byWord, cursor, cell, paragraph, word, holds, with, none, at, found, yes, no, branch}
 

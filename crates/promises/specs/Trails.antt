@@ -5,11 +5,11 @@ use Prim.Native.Nat.{ℕ, zero, suc, _-_, max}
 use mathlib.Core.List.{List, [], _∷_}
 use mathlib.Core.Bool.{Bool, false}
 use Rattle.text.specs.Text.{rowAt}
-use Rattle.places.specs.Places
-use Rattle.turns.specs.declared.Motion.{Motion}
-use Rattle.turns.specs.declared.Motion.the-variants.{Fwd, Back, End, EndBack}
-use Rattle.turns.specs.Rounds.{Turn, On, Off, jumpFwd, jumpBack, roundOf}
-use Rattle.segments.specs.Parts.{offsetIn}
+use Rattle.word_kinds.specs.Places
+use Rattle.word_rounds.specs.declared.Motion.{Motion}
+use Rattle.word_rounds.specs.declared.Motion.the-variants.{Fwd, Back, End, EndBack}
+use Rattle.word_rounds.specs.Rounds.{Turn, On, Off, jumpFwd, jumpBack, roundOf}
+use Rattle.screen_segments.specs.Parts.{offsetIn}
 use Rattle.screen.specs.declared.Place.{Place}
 use Rattle.screen.specs.Screen.{stepScreen, jumped}
 use Rattle.positions.specs.declared.Position.{Position}

@@ -7,11 +7,11 @@ use mathlib.Core.Bool.{Bool, true, false, cond, _||_}
 use lib.Dec.{eqb, leb}
 use Rattle.chars.specs.White.{isWhite}
 use Rattle.chars.specs.Width.{widthOf}
-use Rattle.tokens.specs.Tokens.{inList}
-use Rattle.wrap.specs.declared.Wrap.{Wrap}
-use Rattle.wrap.specs.Modes.{isNone, segmentsOf}
-use Rattle.places.specs.Places.{place, kindOf}
-use Rattle.turns.specs.declared.Motion.the-variants.{Fwd, Back, End, EndBack}
+use Rattle.list_tokens.specs.Tokens.{inList}
+use Rattle.row_wrap.specs.declared.Wrap.{Wrap}
+use Rattle.row_wrap.specs.Modes.{isNone, segmentsOf}
+use Rattle.word_kinds.specs.Places.{place, kindOf}
+use Rattle.word_rounds.specs.declared.Motion.the-variants.{Fwd, Back, End, EndBack}
 use Rattle.positions.specs.declared.Position.{Position}
 use Rattle.positions.specs.Positions.{position}
 use Rattle.steps.specs.Steps.{times, spaceFwd, backspaceBack}
@@ -19,13 +19,13 @@ use Rattle.motions.specs.declared.Caret.{Caret}
 use Rattle.motions.specs.declared.Moved.{Moved}
 use Rattle.motions.specs.declared.Moved.the-variants.{To, Refused}
 use Rattle.motions.specs.Carets.{here}
-use Rattle.row_calls.specs.Wraps.{modeOf}
+use Rattle.call_rows.specs.Wraps.{modeOf}
 use Rattle.brackets.specs.Matching.{matchingBracketPos}
-use Rattle.text_calls.specs.Moves.{motion}
-use Rattle.text_calls.specs.Seeks.{seek}
-use Rattle.text_calls.specs.Viewports.{viewport}
-use Rattle.fold_calls.specs.Terms.{word}
-use Rattle.fold_calls.specs.Upright.{vertical}
+use Rattle.call_texts.specs.Moves.{motion}
+use Rattle.call_texts.specs.Seeks.{seek}
+use Rattle.call_texts.specs.Viewports.{viewport}
+use Rattle.call_folds.specs.Terms.{word}
+use Rattle.call_folds.specs.Upright.{vertical}
 use Rattle.promises.specs.Positions.{Call, plain, by-word, upright, edge, search, partner, standing, inSought, inPartner, positions, AllIn}
 use Rattle.promises.specs.Trails.{trail, wordWrites, screenWrites}
 

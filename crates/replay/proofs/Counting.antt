@@ -4,15 +4,15 @@ use mathlib.Core.List.{List}
 use Prim.Native.Nat.{ℕ, _+_, _-_, _≤_, _<_}
 use native.Mathlib.Omega.{arith}
 use lib.ListN.{length, take, drop, drop-of-length-le}
-use Rattle.record.specs.declared.Numbers.{Numbers}
-use Rattle.record.specs.declared.Numbers.the-variants.{Count, Malformed as Numbers·Malformed}
-use Rattle.verdicts.specs.declared.Tally.{Tally}
-use Rattle.verdicts.specs.declared.Verdict.{Verdict}
-use Rattle.verdicts.specs.declared.Verdict.the-variants.{Malformed}
-use Rattle.record.specs.Rows.{RowRead, readRow, rowLength, lines}
-use Rattle.verdicts.specs.Tallies.{counted, none, Countable}
-use Rattle.record.proofs.Lines.{row-within, lines-step}
-use Rattle.verdicts.proofs.Counting.{counted-cases}
+use Rattle.replay_rows.specs.declared.Numbers.{Numbers}
+use Rattle.replay_rows.specs.declared.Numbers.the-variants.{Count, Malformed as Numbers·Malformed}
+use Rattle.replay_verdicts.specs.declared.Tally.{Tally}
+use Rattle.replay_verdicts.specs.declared.Verdict.{Verdict}
+use Rattle.replay_verdicts.specs.declared.Verdict.the-variants.{Malformed}
+use Rattle.replay_rows.specs.Rows.{RowRead, readRow, rowLength, lines}
+use Rattle.replay_verdicts.specs.Tallies.{counted, none, Countable}
+use Rattle.replay_rows.proofs.Lines.{row-within, lines-step}
+use Rattle.replay_verdicts.proofs.Counting.{counted-cases}
 use Rattle.replay.specs.Cases.{verdictOf}
 use Rattle.replay.specs.Tallies.{judged, most, tallied, tallyOf, Judged}
 

@@ -1,17 +1,17 @@
 -- Each kind of reply fills its places. Assumes nothing.
 use mathlib.Core.Path.{_≡_, refl}
 use lib.ListN.{length, replicate}
-use Rattle.partners.specs.declared.Partner.{Partner}
-use Rattle.partners.specs.declared.Partner.the-variants.{There, None, Refused as Partner·Refused}
+use Rattle.bracket_walks.specs.declared.Partner.{Partner}
+use Rattle.bracket_walks.specs.declared.Partner.the-variants.{There, None, Refused as Partner·Refused}
 use Rattle.motions.specs.declared.Moved.{Moved}
 use Rattle.motions.specs.declared.Moved.the-variants.{To, Refused as Moved·Refused}
 use Rattle.motions.specs.declared.Sought.{Sought}
 use Rattle.motions.specs.declared.Sought.the-variants.{Found, Missing, Refused as Sought·Refused}
-use Rattle.lent.specs.Reply.{left}
-use Rattle.text_calls.specs.Partners.{partnered}
-use Rattle.text_calls.specs.Carets.{moved}
-use Rattle.text_calls.specs.Seeks.{sought}
-use Rattle.verdicts.specs.Answers.{filler}
+use Rattle.call_bytes.specs.Reply.{left}
+use Rattle.call_texts.specs.Partners.{partnered}
+use Rattle.call_texts.specs.Carets.{moved}
+use Rattle.call_texts.specs.Seeks.{sought}
+use Rattle.replay_verdicts.specs.Answers.{filler}
 
 pub partnered-sized : (p : Partner) → length (left (partnered p) (replicate 3 filler)) ≡ 3
 unfolding partnered

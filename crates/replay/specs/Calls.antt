@@ -4,24 +4,24 @@ use mathlib.Core.List.{List, [], _∷_, _++_}
 use mathlib.Core.Bool.{cond, _&&_}
 use lib.ListN.{replicate}
 use lib.Dec.{leb}
-use Rattle.lent.specs.Reply.{number, left, told}
-use Rattle.row_calls.specs.Characters.{fact}
-use Rattle.row_calls.specs.Lists.{keywords}
-use Rattle.row_calls.specs.Tabs.{tabColumns}
-use Rattle.row_calls.specs.Wraps.{offsets, segmentOf, segmented, segmentsLeft}
-use Rattle.text_calls.specs.Rows.{rowCount}
-use Rattle.text_calls.specs.Partners.{partner}
-use Rattle.text_calls.specs.Carets.{caretOf}
-use Rattle.text_calls.specs.Moves.{motions}
-use Rattle.text_calls.specs.Seeks.{seeks}
-use Rattle.fold_calls.specs.Terms.{words, isBig}
-use Rattle.text_calls.specs.Viewports.{viewports}
-use Rattle.fold_calls.specs.Upright.{verticals}
+use Rattle.call_bytes.specs.Reply.{number, left, told}
+use Rattle.call_rows.specs.Characters.{fact}
+use Rattle.call_rows.specs.Lists.{keywords}
+use Rattle.call_rows.specs.Tabs.{tabColumns}
+use Rattle.call_rows.specs.Wraps.{offsets, segmentOf, segmented, segmentsLeft}
+use Rattle.call_texts.specs.Rows.{rowCount}
+use Rattle.call_texts.specs.Partners.{partner}
+use Rattle.call_texts.specs.Carets.{caretOf}
+use Rattle.call_texts.specs.Moves.{motions}
+use Rattle.call_texts.specs.Seeks.{seeks}
+use Rattle.call_folds.specs.Terms.{words, isBig}
+use Rattle.call_texts.specs.Viewports.{viewports}
+use Rattle.call_folds.specs.Upright.{verticals}
 use Rattle.motions.specs.declared.Caret.{Caret}
-use Rattle.record.specs.declared.Head.{Head}
-use Rattle.verdicts.specs.declared.Verdict.{Verdict}
-use Rattle.verdicts.specs.declared.Verdict.the-variants.{Malformed}
-use Rattle.verdicts.specs.Answers.{filler, shown, compared}
+use Rattle.replay_rows.specs.declared.Head.{Head}
+use Rattle.replay_verdicts.specs.declared.Verdict.{Verdict}
+use Rattle.replay_verdicts.specs.declared.Verdict.the-variants.{Malformed}
+use Rattle.replay_verdicts.specs.Answers.{filler, shown, compared}
 
 -- a fact about the code point a
 unfoldable pub characterOf : Head → List ℕ

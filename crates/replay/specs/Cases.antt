@@ -4,11 +4,11 @@ use mathlib.Core.List.{List}
 use mathlib.Core.Bool.{cond, _&&_}
 use lib.ListN.{length, getD}
 use lib.Dec.{eqb, leb}
-use Rattle.record.specs.declared.Head.{Head}
-use Rattle.verdicts.specs.declared.Verdict.{Verdict}
-use Rattle.verdicts.specs.declared.Verdict.the-variants.{Malformed}
-use Rattle.verdicts.specs.Answers.{compared}
-use Rattle.record.specs.Cases.{headOf, foldsAt, listAt, storedAt, part}
+use Rattle.replay_rows.specs.declared.Head.{Head}
+use Rattle.replay_verdicts.specs.declared.Verdict.{Verdict}
+use Rattle.replay_verdicts.specs.declared.Verdict.the-variants.{Malformed}
+use Rattle.replay_verdicts.specs.Answers.{compared}
+use Rattle.replay_rows.specs.Cases.{headOf, foldsAt, listAt, storedAt, part}
 use Rattle.replay.specs.Calls.{characterOf, keywordsOf, columnsOf, offsetsOf, segmentForColOf, wrapVerdict}
 use Rattle.replay.specs.Calls.{contentRowCountOf, matchingBracketPosOf, motionOf, seekOf, wordOf, verticalVerdict, viewportVerdict}
 

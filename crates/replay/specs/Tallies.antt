@@ -3,11 +3,11 @@ use Prim.Native.Nat.{ℕ}
 use mathlib.Core.Path.{_≡_}
 use mathlib.Core.List.{List, [], _∷_}
 use lib.ListN.{length}
-use Rattle.verdicts.specs.declared.Tally.{Tally}
-use Rattle.verdicts.specs.declared.Verdict.{Verdict}
-use Rattle.verdicts.specs.declared.Verdict.the-variants.{Malformed}
-use Rattle.record.specs.Rows.{Read, these, malformed, readRow, lines}
-use Rattle.verdicts.specs.Tallies.{counted, none}
+use Rattle.replay_verdicts.specs.declared.Tally.{Tally}
+use Rattle.replay_verdicts.specs.declared.Verdict.{Verdict}
+use Rattle.replay_verdicts.specs.declared.Verdict.the-variants.{Malformed}
+use Rattle.replay_rows.specs.Rows.{Read, these, malformed, readRow, lines}
+use Rattle.replay_verdicts.specs.Tallies.{counted, none}
 use Rattle.replay.specs.Cases.{verdictOf}
 
 -- the verdict of what a row holds

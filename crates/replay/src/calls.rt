@@ -1,12 +1,12 @@
 // The calls for hosts on the numbers of a case, each compared with the stored answer: the number
 // that the call answers, and what it leaves in the places lent to it.
-use record::Head;
-use verdicts::FILLER;
-use verdicts::Verdict;
-use verdicts::compared;
-use verdicts::compared_two;
+use replay_rows::Head;
+use replay_verdicts::FILLER;
+use replay_verdicts::Verdict;
+use replay_verdicts::compared;
+use replay_verdicts::compared_two;
 ghost use mathlib.Core.Path.{_≡_};
-ghost use Rattle.verdicts.specs.Answers.{compared as Answers·compared};
+ghost use Rattle.replay_verdicts.specs.Answers.{compared as Answers·compared};
 ghost use Rattle.replay.specs.Calls.{characterOf, keywordsOf, columnsOf, offsetsOf};
 ghost use Rattle.replay.specs.Calls.{segmentForColOf, wrappedIn, wrapVerdict};
 ghost use Rattle.replay.specs.Calls.{contentRowCountOf, matchingBracketPosOf};
@@ -17,7 +17,7 @@ pub fn character(k: Head, stored: &[u32]) -> Verdict
     ensures { λ r. ⌜ r ≡ Answers·compared (characterOf k) (now (stored .entry)) ⌝ }
 {
     let mut out = [FILLER; 1];
-    let n = row_calls::character(k.op, k.a, &mut out);
+    let n = call_rows::character(k.op, k.a, &mut out);
     compared(n, &out, stored)
 }
 
@@ -26,7 +26,7 @@ pub fn keywords(k: Head, list: &[u32], stored: &[u32]) -> Verdict
         (now (stored .entry)) ⌝ }
 {
     let mut out = [FILLER; 1];
-    let n = row_calls::keywords(k.op, list, k.a, &mut out);
+    let n = call_rows::keywords(k.op, list, k.a, &mut out);
     compared(n, &out, stored)
 }
 
@@ -34,7 +34,7 @@ pub fn columns(k: Head, row: &[u32], stored: &[u32]) -> Verdict
     ensures { λ r. ⌜ r ≡ Answers·compared (columnsOf k (now (row .entry))) (now (stored .entry)) ⌝ }
 {
     let mut out = [FILLER; 1];
-    let n = row_calls::columns(k.op, row, k.a, k.b, &mut out);
+    let n = call_rows::columns(k.op, row, k.a, k.b, &mut out);
     compared(n, &out, stored)
 }
 
@@ -42,7 +42,7 @@ pub fn offsets(k: Head, row: &[u32], stored: &[u32]) -> Verdict
     ensures { λ r. ⌜ r ≡ Answers·compared (offsetsOf k (now (row .entry))) (now (stored .entry)) ⌝ }
 {
     let mut out = [FILLER; 1];
-    let n = row_calls::offsets(k.op, row, k.a, k.b, k.c, &mut out);
+    let n = call_rows::offsets(k.op, row, k.a, k.b, k.c, &mut out);
     compared(n, &out, stored)
 }
 
@@ -51,7 +51,7 @@ pub fn segment_for_col(k: Head, segments: &[u32], stored: &[u32]) -> Verdict
         (now (stored .entry)) ⌝ }
 {
     let mut out = [FILLER; 1];
-    let n = row_calls::segment_for_col(segments, k.a, &mut out);
+    let n = call_rows::segment_for_col(segments, k.a, &mut out);
     compared(n, &out, stored)
 }
 
@@ -61,7 +61,7 @@ fn wrap_into(mode: u32, row: &[u32], width: u16, segments: &mut [u32], stored: &
         (now (row .entry))) (now (stored .entry)) ⌝ }
 {
     let mut out = [FILLER; 1];
-    let n = row_calls::wrap_segments(mode, row, width, segments, &mut out);
+    let n = call_rows::wrap_segments(mode, row, width, segments, &mut out);
     compared_two(n, out[0], segments, stored)
 }
 
@@ -85,7 +85,7 @@ pub fn content_row_count(text: &[u32], stored: &[u32]) -> Verdict
         (now (stored .entry)) ⌝ }
 {
     let mut out = [FILLER; 1];
-    let n = text_calls::content_row_count(text, &mut out);
+    let n = call_texts::content_row_count(text, &mut out);
     compared(n, &out, stored)
 }
 
@@ -94,7 +94,7 @@ pub fn matching_bracket_pos(k: Head, text: &[u32], stored: &[u32]) -> Verdict
         (now (stored .entry)) ⌝ }
 {
     let mut out = [FILLER; 3];
-    let n = text_calls::matching_bracket_pos(text, k.a, k.b, &mut out);
+    let n = call_texts::matching_bracket_pos(text, k.a, k.b, &mut out);
     compared(n, &out, stored)
 }
 
@@ -102,7 +102,7 @@ pub fn motion(k: Head, text: &[u32], stored: &[u32]) -> Verdict
     ensures { λ r. ⌜ r ≡ Answers·compared (motionOf k (now (text .entry))) (now (stored .entry)) ⌝ }
 {
     let mut out = [FILLER; 4];
-    let n = text_calls::motion(k.op, text, k.a, k.b, k.c, k.d, k.e, &mut out);
+    let n = call_texts::motion(k.op, text, k.a, k.b, k.c, k.d, k.e, &mut out);
     compared(n, &out, stored)
 }
 
@@ -110,7 +110,7 @@ pub fn seek(k: Head, text: &[u32], stored: &[u32]) -> Verdict
     ensures { λ r. ⌜ r ≡ Answers·compared (seekOf k (now (text .entry))) (now (stored .entry)) ⌝ }
 {
     let mut out = [FILLER; 5];
-    let n = text_calls::seek(k.op, text, k.a, k.b, k.c, k.d, k.e, &mut out);
+    let n = call_texts::seek(k.op, text, k.a, k.b, k.c, k.d, k.e, &mut out);
     compared(n, &out, stored)
 }
 
@@ -119,7 +119,7 @@ pub fn word(k: Head, text: &[u32], folds: &[u32], list: &[u32], stored: &[u32]) 
         (now (list .entry))) (now (stored .entry)) ⌝ }
 {
     let mut out = [FILLER; 4];
-    let n = fold_calls::word(
+    let n = call_folds::word(
         k.op,
         text,
         folds,
@@ -145,7 +145,7 @@ pub fn vertical(k: Head, text: &[u32], folds: &[u32], stored: &[u32]) -> Verdict
         return Verdict::Malformed;
     }
     let mut out = [FILLER; 4];
-    let n = fold_calls::vertical(
+    let n = call_folds::vertical(
         k.op,
         text,
         folds,
@@ -171,7 +171,7 @@ pub fn viewport(k: Head, text: &[u32], stored: &[u32]) -> Verdict
         return Verdict::Malformed;
     }
     let mut out = [FILLER; 4];
-    let n = text_calls::viewport(
+    let n = call_texts::viewport(
         k.op,
         text,
         k.a,

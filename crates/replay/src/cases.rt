@@ -1,8 +1,8 @@
-// The verdict of a case, a row of numbers as `record` has it.
+// The verdict of a case, a row of numbers as `replay_rows` has it.
 use crate::calls;
-use record::Head;
-use record::head_of;
-use verdicts::Verdict;
+use replay_rows::Head;
+use replay_rows::head_of;
+use replay_verdicts::Verdict;
 ghost use mathlib.Core.Path.{_≡_};
 ghost use Rattle.replay.specs.Cases.{byGroup, verdictOf};
 

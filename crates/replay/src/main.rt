@@ -7,7 +7,7 @@ mod tallies;
 
 use libc::STDIN_FILENO;
 use libc::STDOUT_FILENO;
-use verdicts::Tally;
+use replay_verdicts::Tally;
 
 fn print_number(n: usize) {
     io::print_decimal(STDOUT_FILENO, n as u64);

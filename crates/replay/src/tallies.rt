@@ -1,10 +1,10 @@
 // The verdicts of a list of cases, counted.
 use crate::cases::verdict_of;
-use record::Numbers;
-use record::read_row;
-use record::row_end;
-use verdicts::Tally;
-use verdicts::Verdict;
+use replay_rows::Numbers;
+use replay_rows::read_row;
+use replay_rows::row_end;
+use replay_verdicts::Tally;
+use replay_verdicts::Verdict;
 ghost use mathlib.Core.Path.{_≡_};
 ghost use Rattle.replay.specs.Tallies.{tallyOf, Judged};
 

@@ -5,19 +5,19 @@ use mathlib.Core.Bool.{true, false}
 use Prim.Native.Nat.{ℕ}
 use Rattle.chars.specs.White.{whites, isWhite}
 use Rattle.chars.specs.Width.{zeroWidths, doubleWidths, widthBy, widthOf}
-use Rattle.tabstops.specs.Cells.{stopOf}
-use Rattle.columns.specs.Columns.{visualFrom, charFrom}
-use Rattle.wrap.specs.declared.Wrap.the-variants.{Char}
-use Rattle.cells.specs.Cells.{fits}
-use Rattle.cuts.specs.Segments.{afterWhite, firstSegment}
-use Rattle.wrap.specs.Segments.{segmentsFrom}
-use Rattle.wrap.specs.Modes.{segmentsOf}
-use Rattle.cells.specs.Offsets.{pairsBefore}
+use Rattle.row_tabs.specs.Cells.{stopOf}
+use Rattle.row_columns.specs.Columns.{visualFrom, charFrom}
+use Rattle.row_wrap.specs.declared.Wrap.the-variants.{Char}
+use Rattle.row_cells.specs.Cells.{fits}
+use Rattle.row_segment.specs.Segments.{afterWhite, firstSegment}
+use Rattle.row_wrap.specs.Segments.{segmentsFrom}
+use Rattle.row_wrap.specs.Modes.{segmentsOf}
+use Rattle.row_cells.specs.Offsets.{pairsBefore}
 use Rattle.text.specs.Text.{onFirst, rows}
 use Rattle.folds.specs.Folds.{anyFold, visibleFrom, prevVisible}
 use Rattle.vertical.specs.declared.Sticky.the-variants.{Absent, At}
 use Rattle.lists.specs.Rounds.{rounds}
-use Rattle.visible.specs.Visible.{verticalRow}
+use Rattle.visible_rows.specs.Visible.{verticalRow}
 use Rattle.vertical.specs.Moves.{landed}
 use Rattle.screen.specs.Screen.{stepScreen, moveScreen}
 

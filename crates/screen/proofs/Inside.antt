@@ -8,8 +8,8 @@ use native.Mathlib.Omega.{arith}
 use lib.Dec.{eqb, ltb}
 use borrow.Author.Tests.{eq-eqb, ne-eqb}
 use Rattle.chars.specs.White.{isWhite}
-use Rattle.wrap.specs.declared.Wrap.{Wrap}
-use Rattle.wrap.specs.Modes.{isNone, segmentsOf}
+use Rattle.row_wrap.specs.declared.Wrap.{Wrap}
+use Rattle.row_wrap.specs.Modes.{isNone, segmentsOf}
 use Rattle.text.specs.Text.{rowCount, rowAt, contentRows}
 use Rattle.folds.specs.Folds.{closedFoldAt}
 use Rattle.folds.specs.declared.Span.{Span}
@@ -18,13 +18,13 @@ use Rattle.folds.specs.declared.Visible.{Visible}
 use Rattle.folds.specs.declared.Visible.the-variants.{Row, NoRow}
 use Rattle.text.proofs.Content.{content-near}
 use Rattle.vertical.specs.declared.Sticky.{Sticky}
-use Rattle.visible.specs.Visible.{toward, deltaOf, shift}
+use Rattle.visible_rows.specs.Visible.{toward, deltaOf, shift}
 use Rattle.vertical.specs.Moves.{moveVertical}
-use Rattle.visible.proofs.Visible.{toward-within}
+use Rattle.visible_rows.proofs.Visible.{toward-within}
 use Rattle.lists.proofs.Rounds.{rounds-keep}
 use Rattle.vertical.proofs.Inside.{Inside, rows-inside}
 use Rattle.screen.specs.declared.Place.{Place}
-use Rattle.segments.specs.Parts.{segmentCount, aheadOf}
+use Rattle.screen_segments.specs.Parts.{segmentCount, aheadOf}
 use Rattle.screen.specs.Screen.{seatOf, onSegment, entered, stepScreen, jumpedTo, outOf, jumped}
 use Rattle.screen.specs.Screen.{screenFrom, screenTarget, moveScreen}
 use Rattle.screen.proofs.Spans.{end-within}

@@ -5,15 +5,15 @@ use mathlib.Core.Bool.{Bool}
 use Prim.Native.Nat.{ℕ, _-_, _*_, _≤_, _<_, min}
 use native.Mathlib.Omega.{arith}
 use lib.ListN.{length, getD}
-use Rattle.cells.specs.Offsets.{segmentIndex}
+use Rattle.row_cells.specs.Offsets.{segmentIndex}
 use Rattle.text.specs.Text.{rowCount, rowAt, rowLen}
 use Rattle.folds.specs.declared.Visible.the-variants.{Row, NoRow}
 use Rattle.lists.specs.Rounds.{rounds}
-use Rattle.visible.specs.Visible.{toward}
-use Rattle.segments.specs.declared.Part.{Part}
-use Rattle.segments.specs.Parts.{segmentCount, aheadOf, clampTo, modeOf, layOf, partAt, partFor}
-use Rattle.segments.proofs.Seats.{Laid, laid, seat-last, seat-within, start-within}
-use Rattle.segments.proofs.Finding.{few-segments}
+use Rattle.visible_rows.specs.Visible.{toward}
+use Rattle.screen_segments.specs.declared.Part.{Part}
+use Rattle.screen_segments.specs.Parts.{segmentCount, aheadOf, clampTo, modeOf, layOf, partAt, partFor}
+use Rattle.screen_segments.proofs.Seats.{Laid, laid, seat-last, seat-within, start-within}
+use Rattle.screen_segments.proofs.Finding.{few-segments}
 use Rattle.screen.specs.declared.Place.{Place}
 use Rattle.screen.specs.declared.Seat.{Seat}
 use Rattle.screen.specs.Screen.{seatOf, stepScreen, screenFrom}

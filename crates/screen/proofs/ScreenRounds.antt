@@ -11,12 +11,12 @@ use Rattle.text.specs.Text.{rowCount, rowAt}
 use Rattle.folds.specs.declared.Visible.the-variants.{Row, NoRow}
 use Rattle.screen.specs.declared.Place.{Place}
 use Rattle.lists.specs.Rounds.{rounds}
-use Rattle.visible.specs.Visible.{toward, shift}
-use Rattle.segments.specs.Parts.{segmentCount, aheadOf}
+use Rattle.visible_rows.specs.Visible.{toward, shift}
+use Rattle.screen_segments.specs.Parts.{segmentCount, aheadOf}
 use Rattle.screen.specs.Screen.{onSegment, entered, seatOf, stepScreen}
 use Rattle.screen.specs.Walks.{placeAt, aheadAt}
 use Rattle.lists.proofs.Rounds.{rounds-on, rounds-still, rounds-add}
-use Rattle.segments.proofs.Seats.{Laid, seat-is, seat-within}
+use Rattle.screen_segments.proofs.Seats.{Laid, seat-is, seat-within}
 
 -- the segments ahead tell the segment, and the other way round
 pub ahead-within : (down : Bool) (n a : ℕ) → a < n → aheadOf down n a < n

@@ -12,9 +12,9 @@ use Rattle.text.proofs.Stands.{line-there}
 use Rattle.screen.specs.declared.Place.{Place}
 use Rattle.screen.specs.declared.Spot.{Spot}
 use Rattle.lists.specs.Rounds.{rounds}
-use Rattle.visible.specs.Visible.{toward}
-use Rattle.segments.specs.Parts.{segmentCount, layOf, modeOf}
-use Rattle.segments.proofs.Seats.{laid}
+use Rattle.visible_rows.specs.Visible.{toward}
+use Rattle.screen_segments.specs.Parts.{segmentCount, layOf, modeOf}
+use Rattle.screen_segments.proofs.Seats.{laid}
 use Rattle.screen.specs.Screen.{stepScreen}
 use Rattle.screen.specs.Walks.{placeAt, IsSpot, Leads}
 use Rattle.screen.proofs.ScreenRounds.{rounds-in, crosses, stops}

@@ -6,21 +6,21 @@ use mathlib.Core.Bool.{Bool, cond, _||_}
 use lib.Dec.{eqb, ltb}
 use lib.ListN.{getD}
 use Rattle.chars.specs.White.{isWhite}
-use Rattle.wrap.specs.declared.Wrap.{Wrap}
-use Rattle.wrap.specs.Modes.{isNone, segmentsOf}
-use Rattle.cells.specs.Offsets.{segmentIndex}
+use Rattle.row_wrap.specs.declared.Wrap.{Wrap}
+use Rattle.row_wrap.specs.Modes.{isNone, segmentsOf}
+use Rattle.row_cells.specs.Offsets.{segmentIndex}
 use Rattle.text.specs.Text.{rowCount, rowAt, rowLen, contentRows, lastCol}
 use Rattle.folds.specs.Folds.{closedFoldAt}
 use Rattle.folds.specs.declared.Span.{Span}
 use Rattle.folds.specs.declared.Span.the-variants.{Of, NoSpan}
 use Rattle.folds.specs.declared.Visible.{Visible}
 use Rattle.folds.specs.declared.Visible.the-variants.{Row, NoRow}
-use Rattle.segments.specs.Parts.{clampTo, segmentCount, aheadOf, offsetIn}
+use Rattle.screen_segments.specs.Parts.{clampTo, segmentCount, aheadOf, offsetIn}
 use Rattle.screen.specs.declared.Place.{Place}
 use Rattle.vertical.specs.declared.Sticky.{Sticky}
 use Rattle.vertical.specs.declared.Target.{Target}
 use Rattle.lists.specs.Rounds.{rounds}
-use Rattle.visible.specs.Visible.{toward, deltaOf, shift}
+use Rattle.visible_rows.specs.Visible.{toward, deltaOf, shift}
 use Rattle.vertical.specs.Moves.{wantedCol, moveVertical}
 
 -- the place at that offset in segment j of a row

@@ -5,7 +5,7 @@ use mathlib.Core.Path.{_≡_}
 use mathlib.Core.List.{List}
 use mathlib.Core.Bool.{Bool}
 use lib.ListN.{length, getD}
-use Rattle.cuts.specs.Lent.{Tables}
+use Rattle.row_segment.specs.Lent.{Tables}
 use Rattle.text.specs.Text.{rowCount, rowAt}
 use Rattle.text.specs.Offsets.{Stands}
 use Rattle.folds.specs.Folds.{foldRefusal}
@@ -14,7 +14,7 @@ use Rattle.screen.specs.declared.Seat.{Seat}
 use Rattle.screen.specs.declared.Spot.{Spot}
 use Rattle.screen.specs.declared.Place.{Place}
 use Rattle.lists.specs.Rounds.{rounds}
-use Rattle.segments.specs.Parts.{segmentCount, aheadOf}
+use Rattle.screen_segments.specs.Parts.{segmentCount, aheadOf}
 use Rattle.screen.specs.Screen.{onSegment, seatOf, stepScreen}
 
 -- the place in a row with so many segments ahead, and how many a place has

@@ -7,13 +7,13 @@ use crate::Spot;
 use folds::Visible;
 use text::Line;
 use text::minus;
-use visible::rows;
+use visible_rows::rows;
 ghost use mathlib.Core.Path.{_≡_};
 ghost use Prim.Native.Nat.{_≤_, _<_};
 ghost use lib.ListN.{length};
 ghost use Rattle.chars.specs.Width.{widthBy};
-ghost use Rattle.cuts.specs.Lent.{Tables};
-ghost use Rattle.segments.specs.Parts.{layOf};
+ghost use Rattle.row_segment.specs.Lent.{Tables};
+ghost use Rattle.screen_segments.specs.Parts.{layOf};
 ghost use Rattle.text.specs.Offsets.{IsLine};
 ghost use Rattle.lists.specs.Rounds.{rounds};
 ghost use Rattle.screen.specs.Screen.{stepScreen, screenFrom};
@@ -56,7 +56,8 @@ fn walk(
                 free = hop.free;
                 row = next.row;
                 start = next.start;
-                ahead = segments::segment_count(zeros, doubles, white, line, width, word) - 1;
+                ahead = screen_segments::segment_count(zeros, doubles, white, line, width, word)
+                    - 1;
             }
             Visible::NoRow => {
                 return Spot {
@@ -99,12 +100,12 @@ fn land(
     };
     let row = text::offsets::row(t, l);
     let n = row.len();
-    let count = segments::segment_count(zeros, doubles, white, row, width, word);
-    let index = segments::ahead_of(down, count, s.ahead);
-    let part = segments::find_segment(zeros, doubles, white, row, width, word, n, index);
+    let count = screen_segments::segment_count(zeros, doubles, white, row, width, word);
+    let index = screen_segments::ahead_of(down, count, s.ahead);
+    let part = screen_segments::find_segment(zeros, doubles, white, row, width, word, n, index);
     Place {
         row: s.row,
-        col: segments::clamp_to_segment(part.start, part.end, offset, n),
+        col: screen_segments::clamp_to_segment(part.start, part.end, offset, n),
     }
 }
 
@@ -168,10 +169,10 @@ fn seat(
 {
     let row = text::offsets::row(t, l);
     let n = row.len();
-    let part = segments::find_segment(zeros, doubles, white, row, width, word, col, n);
-    let count = segments::segment_count(zeros, doubles, white, row, width, word);
+    let part = screen_segments::find_segment(zeros, doubles, white, row, width, word, col, n);
+    let count = screen_segments::segment_count(zeros, doubles, white, row, width, word);
     Seat {
-        ahead: segments::ahead_of(down, count, part.index),
+        ahead: screen_segments::ahead_of(down, count, part.index),
         offset: minus(col, part.start),
     }
 }

@@ -2,19 +2,19 @@
 // are lent. The text, the place, the folds and the tabstop were accepted.
 use crate::out_of_folds;
 use crate::walks;
+use row_wrap::Wrap;
 use text::Line;
 use text::most;
 use vertical::Sticky;
 use vertical::Target;
 use vertical::moves;
-use wrap::Wrap;
 ghost use mathlib.Core.Path.{_≡_};
 ghost use Prim.Native.Nat.{_<_};
 ghost use Rattle.chars.specs.Width.{widthBy, Widths};
 ghost use Rattle.text.specs.Text.{rowCount, contentRows};
 ghost use Rattle.vertical.specs.Moves.{Accepted};
 ghost use Rattle.screen.specs.Screen.{screenTarget, moveScreen};
-ghost use Rattle.segments.specs.Parts.{layOf};
+ghost use Rattle.screen_segments.specs.Parts.{layOf};
 
 // The target where rows are broken: by words, or by characters.
 fn move_broken(

@@ -13,13 +13,13 @@ use Rattle.lists.specs.Codes.{codes}
 use Rattle.print.specs.Print.{Wrote, decimal}
 use Rattle.print.proofs.Laws.{wrote-then, length-decimal}
 use Rattle.lists.specs.Lists.{upTo}
-use Rattle.commands.specs.Commands.{keyPart, countIn}
+use Rattle.session_row.specs.Commands.{keyPart, countIn}
 use Rattle.motions.specs.declared.Caret.{Caret}
 use Rattle.motions.specs.declared.Moved.{Moved}
 use Rattle.motions.specs.declared.Moved.the-variants.{To, Refused}
 use Rattle.motions.specs.Carets.{caretAfter}
-use Rattle.script.specs.Parts.{isStop, commandRows}
-use Rattle.presses.proofs.Laws.{pressed-none}
+use Rattle.session_input.specs.Parts.{isStop, commandRows}
+use Rattle.session_presses.proofs.Laws.{pressed-none}
 use Rattle.session.specs.Session.{counted, turned, shownOf, lineOf, linesOf, start, outputOf}
 
 -- what stands in the key's place

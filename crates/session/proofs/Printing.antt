@@ -8,9 +8,9 @@ use lib.ListN.{length, drop}
 use lib.Seq.{sets-eq, length-take-le}
 use Rattle.lists.specs.Codes.{codes}
 use Rattle.print.specs.Print.{Wrote}
-use Rattle.script.specs.declared.Begin.the-variants.{At, Refused}
-use Rattle.script.specs.Parts.{textOf, isRefused, beginOf}
-use Rattle.script.proofs.Inputs.{taken-short, begin-refused, begin-taken}
+use Rattle.session_input.specs.declared.Begin.the-variants.{At, Refused}
+use Rattle.session_input.specs.Parts.{textOf, isRefused, beginOf}
+use Rattle.session_input.proofs.Inputs.{taken-short, begin-refused, begin-taken}
 use Rattle.session.specs.Session.{outputOf, sessionOf}
 use Rattle.session.specs.Written.{Printed}
 use Rattle.session.proofs.Lengths.{lines-fit}

@@ -7,12 +7,12 @@ use native.Mathlib.Omega.{arith}
 use lib.ListN.{length, take, drop, length-append}
 use Rattle.print.specs.Print.{Wrote}
 use Rattle.print.proofs.Laws.{wrote-none, wrote-then}
-use Rattle.commands.specs.Commands.{keyPart, Ends}
+use Rattle.session_row.specs.Commands.{keyPart, Ends}
 use Rattle.motions.specs.declared.Caret.{Caret}
 use Rattle.motions.specs.Carets.{caretAfter}
-use Rattle.script.specs.Parts.{isStop, commandRows}
+use Rattle.session_input.specs.Parts.{isStop, commandRows}
 use Rattle.lists.proofs.Splits.{splitFrom, split-from-end}
-use Rattle.script.proofs.Rows.{rows-start, rows-step}
+use Rattle.session_input.proofs.Rows.{rows-start, rows-step}
 use Rattle.session.specs.Session.{turned, shownOf, lineOf, linesOf, start, outputOf}
 use Rattle.session.proofs.Lengths.{lines-fit}
 

@@ -7,16 +7,16 @@ use lib.Dec.{eqb}
 use Rattle.text.specs.Text.{rows}
 use Rattle.lists.specs.Codes.{codes}
 use Rattle.print.specs.Print.{decimal}
-use Rattle.commands.specs.Commands.{keyPart, countIn}
-use Rattle.commands.specs.declared.Count.{Count}
-use Rattle.commands.specs.declared.Count.the-variants.{Of, Malformed}
+use Rattle.session_row.specs.Commands.{keyPart, countIn}
+use Rattle.session_row.specs.declared.Count.{Count}
+use Rattle.session_row.specs.declared.Count.the-variants.{Of, Malformed}
 use Rattle.motions.specs.declared.Caret.{Caret}
 use Rattle.vertical.specs.declared.Sticky.the-variants.{Absent}
 use Rattle.motions.specs.declared.Moved.{Moved}
 use Rattle.motions.specs.declared.Moved.the-variants.{To, Refused}
 use Rattle.motions.specs.Carets.{caretAfter}
-use Rattle.script.specs.Parts.{commandRows, textOf, isRefused}
-use Rattle.presses.specs.Pressed.{pressed}
+use Rattle.session_input.specs.Parts.{commandRows, textOf, isRefused}
+use Rattle.session_presses.specs.Pressed.{pressed}
 
 -- a key with its count, or a malformed row: 0, which no call refuses with
 unfoldable pub counted : List ℕ → Count → List ℕ → Caret → Moved

@@ -1,13 +1,13 @@
 // Document 01's session: command rows, a row with only a full stop, and a text. Every command row
 // prints a line: its key, and the row and column of the caret then.
-use commands::Count;
-use commands::find;
 use motions::Caret;
 use motions::Moved;
 use print::put;
 use print::put_bytes;
 use print::put_decimal;
-use script::Begin;
+use session_input::Begin;
+use session_row::Count;
+use session_row::find;
 use vertical::Sticky;
 ghost use mathlib.Core.Path.{_≡_};
 ghost use Prim.Native.Nat.{_+_, _≤_};
@@ -23,8 +23,8 @@ ghost use Rattle.session.specs.Written.{Printed};
 fn turn(t: &[u32], k: Caret, row: &[u8]) -> Moved
     ensures { λ r. ⌜ r ≡ turned (now (t .entry)) k (now (row .entry)) ⌝ }
 {
-    match commands::count_in(row) {
-        Count::Of(n) => presses::press(commands::key(row), k, t, n),
+    match session_row::count_in(row) {
+        Count::Of(n) => session_presses::press(session_row::key(row), k, t, n),
         Count::Malformed => Moved::Refused(0),
     }
 }
@@ -87,12 +87,12 @@ fn lines(input: &[u8], t: &[u32], out: &mut [u8]) -> usize
     while i <= input.len() {
         let e = find(input, i, b'\n');
         let row = &input[i..e];
-        if script::is_stop(row) {
+        if session_input::is_stop(row) {
             return at;
         }
         let m = turn(t, k, row);
         k = after(k, m);
-        at = put_line(out, at, commands::key(row), m, k);
+        at = put_line(out, at, session_row::key(row), m, k);
         i = e + 1;
     }
     at
@@ -105,7 +105,7 @@ fn run(input: &[u8], from: usize, out: &mut [u8]) -> usize
         (now (input .entry))) r (now (out .exit)) ⌝ }
 {
     let mut room = [0u32; 16384];
-    let n = script::widen(input, from, &mut room);
+    let n = session_input::widen(input, from, &mut room);
     lines(input, &room[..n], out)
 }
 
@@ -124,7 +124,7 @@ pub fn session(input: &[u8], out: &mut [u8; 393240]) -> usize
     ensures { λ r. ⌜ Printed (now (out .entry)) (sessionOf (now (input .entry))) r
         (now (out .exit)) ⌝ }
 {
-    match script::begins(input) {
+    match session_input::begins(input) {
         Begin::At(from) => run(input, from, out),
         Begin::Refused => refuse(out),
     }

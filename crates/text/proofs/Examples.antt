@@ -3,7 +3,7 @@
 use mathlib.Core.Path.{_≡_, refl}
 use mathlib.Core.List.{[], _∷_}
 use Rattle.lists.specs.Lists.{any}
-use Rattle.accept.specs.Accept.{textRefusal}
+use Rattle.text_check.specs.Accept.{textRefusal}
 use Rattle.text.specs.Text.{onFirst, rows, contentRowCount}
 use Rattle.text.specs.Offsets.{startIn, rowStart}
 use Rattle.text.specs.declared.Counted.the-variants.{Refused}

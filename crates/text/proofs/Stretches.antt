@@ -7,7 +7,7 @@ use native.Mathlib.Nat.{add-zero}
 use native.Mathlib.Decide.{ℕ-discrete}
 use native.Mathlib.Omega.{arith}
 use lib.ListN.{length, getD, take, drop}
-use Rattle.chars.proofs.Lists.{drop-at}
+use Rattle.lists.proofs.Lists.{drop-at}
 use Rattle.text.specs.Text.{rowCount}
 use Rattle.text.specs.Offsets.{rowStart, Stands, rowOf}
 use Rattle.text.proofs.Rows.{rows-nil, rows-pos}

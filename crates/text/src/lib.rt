@@ -68,7 +68,7 @@ pub fn content_rows(t: &[u32]) -> usize
 pub fn content_row_count(t: &[u32]) -> Counted
     ensures { λ r. ⌜ r ≡ contentRowCount (now (t .entry)) ⌝ }
 {
-    let f = accept::text_refusal(t);
+    let f = text_check::text_refusal(t);
     if f != 0 {
         return Counted::Refused(f);
     }

@@ -3,13 +3,13 @@ use mathlib.Core.Path.{_≡_, refl}
 use mathlib.Core.List.{[], _∷_}
 use mathlib.Core.Bool.{true, false}
 use Rattle.chars.specs.Width.{zeroWidths, doubleWidths, widthBy, widthOf}
-use Rattle.tabstops.specs.Cells.{stopOf}
-use Rattle.columns.specs.Columns.{visualFrom, charFrom}
+use Rattle.row_tabs.specs.Cells.{stopOf}
+use Rattle.row_columns.specs.Columns.{visualFrom, charFrom}
 use Rattle.text.specs.Text.{onFirst, rows}
 use Rattle.folds.specs.Folds.{anyFold, visibleFrom, prevVisible}
 use Rattle.vertical.specs.declared.Sticky.the-variants.{Absent}
 use Rattle.lists.specs.Rounds.{rounds}
-use Rattle.visible.specs.Visible.{verticalRow, deltaOf}
+use Rattle.visible_rows.specs.Visible.{verticalRow, deltaOf}
 use Rattle.vertical.specs.Moves.{landed, moveVertical}
 
 -- `a` and a separator: `j` reaches the last empty row; on it `j` stays, and the sticky column is set

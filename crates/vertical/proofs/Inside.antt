@@ -14,9 +14,9 @@ use Rattle.folds.specs.declared.Visible.{Visible}
 use Rattle.folds.specs.declared.Visible.the-variants.{Row, NoRow}
 use Rattle.vertical.specs.declared.Sticky.{Sticky}
 use Rattle.lists.proofs.Rounds.{rounds-keep}
-use Rattle.visible.specs.Visible.{toward, rowOr, stepRow, shownRow, verticalRow}
+use Rattle.visible_rows.specs.Visible.{toward, rowOr, stepRow, shownRow, verticalRow}
 use Rattle.vertical.specs.Moves.{landed, moveVertical}
-use Rattle.visible.proofs.Visible.{toward-within}
+use Rattle.visible_rows.proofs.Visible.{toward-within}
 
 pub record Inside (t : List ℕ) (row col : ℕ) : Type 0 where
   pub in-row : row < rowCount t

@@ -5,7 +5,7 @@ use Prim.Native.Nat.{ℕ}
 use lib.IntN.{ℤ}
 use borrow.Author.Tests.{eq-eqb, ne-eqb}
 use Rattle.vertical.specs.Moves.{landed, aimedCol}
-use Rattle.visible.specs.Visible.{verticalRow}
+use Rattle.visible_rows.specs.Visible.{verticalRow}
 
 -- the row that is reached, from what the calls hand on
 pub reached : (folds : List ℕ) (row : ℕ) {m n : ℕ} {y z : ℤ} → m ≡ n → y ≡ z → verticalRow folds m y row ≡ verticalRow folds n z row

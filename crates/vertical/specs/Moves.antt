@@ -7,7 +7,7 @@ use mathlib.Core.Bool.{cond}
 use lib.Dec.{eqb}
 use lib.IntN.{ℤ}
 use lib.ListN.{length}
-use Rattle.columns.specs.Columns.{cursorCol, charCol}
+use Rattle.row_columns.specs.Columns.{cursorCol, charCol}
 use Rattle.text.specs.Text.{rowCount, rowAt, lastCol}
 use Rattle.text.specs.Offsets.{Stands, IsLine}
 use Rattle.folds.specs.Folds.{foldRefusal}
@@ -15,7 +15,7 @@ use Rattle.text.specs.declared.Line.{Line}
 use Rattle.vertical.specs.declared.Sticky.{Sticky}
 use Rattle.vertical.specs.declared.Sticky.the-variants.{Absent, At}
 use Rattle.vertical.specs.declared.Target.{Target}
-use Rattle.visible.specs.Visible.{verticalRow}
+use Rattle.visible_rows.specs.Visible.{verticalRow}
 
 -- the visual column to aim for: the sticky one, or else where the cursor is drawn
 abbrev pub wantedCol : (ℕ → ℕ) → List ℕ → ℕ → ℕ → ℕ → Sticky → ℕ

@@ -5,7 +5,7 @@ use crate::Target;
 use text::Line;
 use text::least;
 use text::minus;
-use visible::rows;
+use visible_rows::rows;
 ghost use mathlib.Core.Path.{_≡_};
 ghost use lib.IntN.{negℤ};
 ghost use mir.Syntax.{w64};
@@ -13,7 +13,7 @@ ghost use mir.Val.{SFits};
 ghost use Rattle.chars.specs.Width.{widthBy, Widths};
 ghost use Rattle.text.specs.Text.{rowCount};
 ghost use Rattle.text.specs.Offsets.{IsLine};
-ghost use Rattle.visible.specs.Visible.{deltaOf};
+ghost use Rattle.visible_rows.specs.Visible.{deltaOf};
 ghost use Rattle.vertical.specs.Moves.{Accepted, AcceptedRow, wantedCol, aimedCol};
 ghost use Rattle.vertical.specs.Moves.{moveVertical};
 
@@ -37,7 +37,7 @@ pub fn wanted(
         Sticky::At(c) => c,
         Sticky::Absent => {
             let line = text::offsets::row(t, l);
-            columns::cursor_col_in(zeros, doubles, line, col, tabstop)
+            row_columns::cursor_col_in(zeros, doubles, line, col, tabstop)
         }
     }
 }
@@ -60,7 +60,7 @@ fn aimed(
 {
     let l = text::offsets::line_from(t, rows, from, row);
     let line = text::offsets::row(t, l);
-    let c = columns::char_col_in(zeros, doubles, line, want, tabstop);
+    let c = row_columns::char_col_in(zeros, doubles, line, want, tabstop);
     least(c as usize, minus(line.len(), 1))
 }
 

@@ -8,15 +8,15 @@ use lib.Dec.{ltb, leb}
 use borrow.Author.Tests.{ltb-true, leb-true}
 use Rattle.folds.specs.Folds.{anyFold, foldRefusal}
 use Rattle.folds.specs.declared.Span.the-variants.{NoSpan}
-use Rattle.places.specs.Places.{Place}
-use Rattle.places.specs.declared.Spot.{Spot}
-use Rattle.places.specs.declared.Setting.{Setting}
-use Rattle.stretches.specs.declared.Stretch.{Stretch}
-use Rattle.stretches.specs.Stretches.{NoFold}
-use Rattle.turns.specs.declared.Motion.{Motion}
-use Rattle.turns.specs.declared.Motion.the-variants.{Fwd, Back, End, EndBack}
-use Rattle.turns.specs.Rounds.{foldAt, roundOf}
-use Rattle.turns.specs.Turns.{Set}
+use Rattle.word_kinds.specs.Places.{Place}
+use Rattle.word_kinds.specs.declared.Spot.{Spot}
+use Rattle.word_kinds.specs.declared.Setting.{Setting}
+use Rattle.fold_stretches.specs.declared.Stretch.{Stretch}
+use Rattle.fold_stretches.specs.Stretches.{NoFold}
+use Rattle.word_rounds.specs.declared.Motion.{Motion}
+use Rattle.word_rounds.specs.declared.Motion.the-variants.{Fwd, Back, End, EndBack}
+use Rattle.word_rounds.specs.Rounds.{foldAt, roundOf}
+use Rattle.word_rounds.specs.Turns.{Set}
 
 both : (a b : Bool) → (a && b) ≡ true → (a ≡ true) × (b ≡ true)
 both true b e = (refl, e)

@@ -6,13 +6,13 @@ use mathlib.Core.Bool.{Bool}
 use Prim.Native.Nat.{ℕ, _+_, _≤_}
 use lib.ListN.{length, take}
 use lib.Seq.{length-take-le}
-use Rattle.tokens.specs.declared.Token.{Token}
+use Rattle.list_tokens.specs.declared.Token.{Token}
 use Rattle.keywords.specs.declared.KeywordSpec.{KeywordSpec}
-use Rattle.tokens.specs.Tokens.{anyToken}
+use Rattle.list_tokens.specs.Tokens.{anyToken}
 use Rattle.keywords.specs.Table.{kept}
 use Rattle.keywords.specs.Flat.{flat, padded, anyAlpha, flatHolds, flatOf}
 use Rattle.keywords.proofs.FlatLaws.{flat-front, flat-same}
-use Rattle.places.specs.Places.{kindOf}
+use Rattle.word_kinds.specs.Places.{kindOf}
 
 front : (ts : List Token) (n : ℕ) → length ts ≡ n → take (n + n) (padded (flat ts)) ≡ flat ts
 front ts n e = rw (← e) (flat-front ts)

@@ -3,15 +3,15 @@ use mathlib.Core.Path.{_≡_, ap, _∙_}
 use mathlib.Core.List.{List}
 use mathlib.Core.Bool.{Bool}
 use Prim.Native.Nat.{ℕ}
-use Rattle.tokens.specs.Tokens.{anyToken}
+use Rattle.list_tokens.specs.Tokens.{anyToken}
 use Rattle.keywords.specs.declared.KeywordSpec.{KeywordSpec}
 use Rattle.keywords.specs.Table.{kept}
-use Rattle.places.specs.Places.{Place, kindOf}
-use Rattle.places.specs.Lent.{kindBy}
-use Rattle.places.specs.declared.Spot.{Spot}
-use Rattle.turns.specs.declared.Motion.{Motion}
-use Rattle.turns.specs.Rounds.{wordMotion}
-use Rattle.turns.specs.Turns.{Folded}
+use Rattle.word_kinds.specs.Places.{Place, kindOf}
+use Rattle.word_kinds.specs.Lent.{kindBy}
+use Rattle.word_kinds.specs.declared.Spot.{Spot}
+use Rattle.word_rounds.specs.declared.Motion.{Motion}
+use Rattle.word_rounds.specs.Rounds.{wordMotion}
+use Rattle.word_rounds.specs.Turns.{Folded}
 use Rattle.words.specs.declared.Prepared.{Prepared}
 use Rattle.words.specs.Prepared.{Prepares}
 

@@ -5,11 +5,11 @@ use mathlib.Core.List.{List}
 use mathlib.Core.Bool.{Bool}
 use lib.ListN.{length}
 use Rattle.lists.specs.Lists.{any}
-use Rattle.tokens.specs.Tokens.{anyToken}
+use Rattle.list_tokens.specs.Tokens.{anyToken}
 use Rattle.keywords.specs.declared.KeywordSpec.{KeywordSpec}
 use Rattle.keywords.specs.Table.{kept}
-use Rattle.places.specs.Places.{kindOf}
-use Rattle.places.specs.Lent.{kindBy, isHigh}
+use Rattle.word_kinds.specs.Places.{kindOf}
+use Rattle.word_kinds.specs.Lent.{kindBy, isHigh}
 use Rattle.words.specs.declared.Prepared.{Prepared}
 
 -- the kinds by the bounds are those by the list's tokens, the numbers those handed in, and `high` tells whether the text needs the table of letters

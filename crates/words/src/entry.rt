@@ -4,20 +4,20 @@
 use crate::once::prepare;
 use crate::rounds;
 use keywords::KeywordSpec;
-use places::Setting;
-use places::Spot;
-use turns::Motion;
-use turns::Round;
+use word_kinds::Setting;
+use word_kinds::Spot;
+use word_rounds::Motion;
+use word_rounds::Round;
 ghost use mathlib.Core.Path.{_≡_};
 ghost use Prim.Native.Nat.{_+_, _-_, _≤_, max};
 ghost use lib.ListN.{length};
-ghost use Rattle.tokens.specs.Tokens.{anyToken};
+ghost use Rattle.list_tokens.specs.Tokens.{anyToken};
 ghost use Rattle.keywords.specs.Table.{kept};
-ghost use Rattle.places.specs.Places.{kindOf};
-ghost use Rattle.turns.specs.Rounds.{wordMotion};
-ghost use Rattle.places.specs.Spots.{placeOf, IsSpot};
-ghost use Rattle.turns.specs.Turns.{Folded, Set};
-ghost use Rattle.places.specs.Lent.{kindBy};
+ghost use Rattle.word_kinds.specs.Places.{kindOf};
+ghost use Rattle.word_rounds.specs.Rounds.{wordMotion};
+ghost use Rattle.word_kinds.specs.Spots.{placeOf, IsSpot};
+ghost use Rattle.word_rounds.specs.Turns.{Folded, Set};
+ghost use Rattle.word_kinds.specs.Lent.{kindBy};
 
 // How many rounds follow the first: count 0 acts as 1.
 fn rest(count: u32) -> u32
@@ -49,7 +49,7 @@ pub fn walk(
         (s .big) m stop count (placeOf (now (t .entry)) p)) ×
         IsSpot (now (t .entry)) r ⌝ }
 {
-    match turns::rounds::round(t, folds, bounds, table, s, m, stop, p) {
+    match word_rounds::rounds::round(t, folds, bounds, table, s, m, stop, p) {
         Round::Next(q) => rounds::rounds(t, folds, bounds, table, s, m, rest(count), q),
         Round::Last(q) => q,
     }

@@ -1,7 +1,7 @@
 // The word motions as a whole, on offsets: "Word motions" of motions.rs. A place is a row and an
 // offset; the calls take what a caller has checked, and know no caret. A motion is prepared, and
 // then walked: what is prepared serves any number of walks over the text.
-use places::Setting;
+use word_kinds::Setting;
 
 mod entry;
 mod once;

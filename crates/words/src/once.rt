@@ -1,11 +1,11 @@
 // What word motions go by, made once for a text and a keyword list, however many motions follow.
 use crate::Prepared;
 use keywords::KeywordSpec;
-use places::Setting;
+use word_kinds::Setting;
 ghost use mathlib.Core.Path.{_≡_};
 ghost use Prim.Native.Nat.{_≤_};
 ghost use Rattle.lists.specs.Lists.{any};
-ghost use Rattle.places.specs.Lent.{isHigh};
+ghost use Rattle.word_kinds.specs.Lent.{isHigh};
 ghost use Rattle.words.specs.Prepared.{Prepares};
 
 // Whether the text has a code point for which the table of letters is read.

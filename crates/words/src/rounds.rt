@@ -1,17 +1,17 @@
 // The rounds of a count: the loops of `move_word_fwd`, `move_word_back`, `move_word_end` and
 // `move_word_end_back` of motions.rs.
-use places::Setting;
-use places::Spot;
-use stretches::Stretch;
-use turns::Motion;
-use turns::Round;
+use fold_stretches::Stretch;
+use word_kinds::Setting;
+use word_kinds::Spot;
+use word_rounds::Motion;
+use word_rounds::Round;
 ghost use mathlib.Core.Path.{_≡_};
 ghost use mathlib.Core.Bool.{false};
-ghost use Rattle.places.specs.Spots.{placeOf, IsSpot};
-ghost use Rattle.places.specs.Lent.{kindBy};
-ghost use Rattle.stretches.specs.Stretches.{NoFold};
-ghost use Rattle.turns.specs.Rounds.{roundOf, counted};
-ghost use Rattle.turns.specs.Turns.{turnOf, RoundIn, Set};
+ghost use Rattle.word_kinds.specs.Spots.{placeOf, IsSpot};
+ghost use Rattle.word_kinds.specs.Lent.{kindBy};
+ghost use Rattle.fold_stretches.specs.Stretches.{NoFold};
+ghost use Rattle.word_rounds.specs.Rounds.{roundOf, counted};
+ghost use Rattle.word_rounds.specs.Turns.{turnOf, RoundIn, Set};
 
 // A round after the first, where a stretch of rows without closed folds is known: outside it the
 // folds are lent, and in it none.
@@ -34,9 +34,9 @@ fn round_near(
 {
     if (w.lo <= p.row) & (p.row < w.hi) {
         let none = &folds[..0];
-        return turns::rounds::round(t, none, bounds, table, s, m, false, p);
+        return word_rounds::rounds::round(t, none, bounds, table, s, m, false, p);
     }
-    turns::rounds::round(t, folds, bounds, table, s, m, false, p)
+    word_rounds::rounds::round(t, folds, bounds, table, s, m, false, p)
 }
 
 // Rounds up to a count. One that changes nothing ends them: where a closed fold covers the end of
@@ -66,9 +66,9 @@ pub fn rounds(
 {
     let mut cur = p;
     let mut left = count;
-    let mut w = stretches::around(folds, s.rows, p.row);
+    let mut w = fold_stretches::around(folds, s.rows, p.row);
     while left > 0 {
-        w = stretches::near(folds, s.rows, w, cur.row);
+        w = fold_stretches::near(folds, s.rows, w, cur.row);
         match round_near(t, folds, bounds, table, s, m, w, cur) {
             Round::Next(q) => {
                 if q.at == cur.at {

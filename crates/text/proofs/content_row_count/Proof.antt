@@ -5,7 +5,7 @@ use native.Mathlib.Omega.{arith}
 use borrow.Author.Needs.{needs}
 use borrow.Author.Tests.{eq-eqb, ne-eqb}
 use Rattle.text.specs.declared.Counted.the-variants.{Rows}
-use Rattle.accept.proofs.Accepted.{accepted-short}
+use Rattle.text_check.proofs.Accepted.{accepted-short}
 use Rattle.text.proofs.Parts.{count-le}
 use Rattle.text.proofs.Content.{content-near}
 use Rattle.text.proofs.content_row_count.Statement.{statement}

@@ -3,7 +3,7 @@
 use Prim.Native.Nat.{_+_}
 use native.Mathlib.Omega.{arith}
 use borrow.Author.Needs.{needs}
-use Rattle.partners.specs.Walk.{Starts}
+use Rattle.bracket_walks.specs.Walk.{Starts}
 use Rattle.brackets.proofs.Call.{jump-starts, jump-answer, jump-none}
 use Rattle.brackets.proofs.matching.match_bracket_from.Statement.{statement}
 use Rattle.brackets.proofs.matching.match_bracket_from.Tie as tie

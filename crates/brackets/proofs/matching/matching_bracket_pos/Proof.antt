@@ -5,7 +5,7 @@ use Prim.Native.Nat.{_<_}
 use native.Mathlib.Omega.{arith}
 use borrow.Author.Needs.{needs}
 use Rattle.text.specs.Text.{rowCount}
-use Rattle.partners.specs.declared.Partner.the-variants.{Refused}
+use Rattle.bracket_walks.specs.declared.Partner.the-variants.{Refused}
 use Rattle.brackets.proofs.Call.{call-refused, call-outside, no-row, row-there, no-col, place-starts, place-answer}
 use Rattle.brackets.proofs.matching.matching_bracket_pos.Statement.{statement}
 use Rattle.brackets.proofs.matching.matching_bracket_pos.Tie as tie

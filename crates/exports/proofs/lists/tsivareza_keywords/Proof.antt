@@ -1,7 +1,7 @@
 -- `tsivareza_keywords` meets its contract: the room is filled, and the call on code points answers. Assumes nothing.
 use borrow.Author.Needs.{needs}
-use Rattle.row_calls.specs.Lists.{keywords}
-use Rattle.lent.proofs.Replies.{answered-unfit, front-count, answered-one}
+use Rattle.call_rows.specs.Lists.{keywords}
+use Rattle.call_bytes.proofs.Replies.{answered-unfit, front-count, answered-one}
 use Rattle.exports.proofs.lists.tsivareza_keywords.Statement.{statement}
 use Rattle.exports.proofs.lists.tsivareza_keywords.Tie as tie
 

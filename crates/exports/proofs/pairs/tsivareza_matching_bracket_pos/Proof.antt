@@ -1,7 +1,7 @@
 -- `tsivareza_matching_bracket_pos` meets its contract: the room is filled, and the call on code points answers. Assumes nothing.
 use borrow.Author.Needs.{needs}
-use Rattle.text_calls.specs.Partners.{partner}
-use Rattle.lent.proofs.Replies.{answered-unfit, front-count, answered-one}
+use Rattle.call_texts.specs.Partners.{partner}
+use Rattle.call_bytes.proofs.Replies.{answered-unfit, front-count, answered-one}
 use Rattle.exports.proofs.pairs.tsivareza_matching_bracket_pos.Statement.{statement}
 use Rattle.exports.proofs.pairs.tsivareza_matching_bracket_pos.Tie as tie
 

@@ -1,7 +1,7 @@
 -- `tsivareza_content_row_count` meets its contract: the room is filled, and the call on code points answers. Assumes nothing.
 use borrow.Author.Needs.{needs}
-use Rattle.text_calls.specs.Rows.{rowCount}
-use Rattle.lent.proofs.Replies.{answered-unfit, front-count, answered-one}
+use Rattle.call_texts.specs.Rows.{rowCount}
+use Rattle.call_bytes.proofs.Replies.{answered-unfit, front-count, answered-one}
 use Rattle.exports.proofs.rows.tsivareza_content_row_count.Statement.{statement}
 use Rattle.exports.proofs.rows.tsivareza_content_row_count.Tie as tie
 

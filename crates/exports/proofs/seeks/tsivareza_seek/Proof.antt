@@ -1,8 +1,8 @@
 -- `tsivareza_seek` meets its contract: the room is filled, and the call on code points answers. Assumes nothing.
 use borrow.Author.Needs.{needs}
-use Rattle.text_calls.specs.Carets.{caretOf}
-use Rattle.text_calls.specs.Seeks.{seeks}
-use Rattle.lent.proofs.Replies.{answered-unfit, front-count, answered-one}
+use Rattle.call_texts.specs.Carets.{caretOf}
+use Rattle.call_texts.specs.Seeks.{seeks}
+use Rattle.call_bytes.proofs.Replies.{answered-unfit, front-count, answered-one}
 use Rattle.exports.proofs.seeks.tsivareza_seek.Statement.{statement}
 use Rattle.exports.proofs.seeks.tsivareza_seek.Tie as tie
 

@@ -1,7 +1,7 @@
 -- `tsivareza_columns` meets its contract: the room is filled, and the call on code points answers. Assumes nothing.
 use borrow.Author.Needs.{needs}
-use Rattle.row_calls.specs.Tabs.{tabColumns}
-use Rattle.lent.proofs.Replies.{answered-unfit, front-count, answered-one}
+use Rattle.call_rows.specs.Tabs.{tabColumns}
+use Rattle.call_bytes.proofs.Replies.{answered-unfit, front-count, answered-one}
 use Rattle.exports.proofs.tabs.tsivareza_columns.Statement.{statement}
 use Rattle.exports.proofs.tabs.tsivareza_columns.Tie as tie
 

@@ -2,9 +2,9 @@
 use mathlib.Core.Path.{refl}
 use native.Mathlib.Omega.{arith}
 use borrow.Author.Needs.{needs}
-use Rattle.text_calls.specs.Carets.{caretOf}
-use Rattle.fold_calls.specs.Terms.{isBig, words}
-use Rattle.lent.proofs.Joins.{joined-unfit, first-length, joined-three}
+use Rattle.call_texts.specs.Carets.{caretOf}
+use Rattle.call_folds.specs.Terms.{isBig, words}
+use Rattle.call_bytes.proofs.Joins.{joined-unfit, first-length, joined-three}
 use Rattle.exports.proofs.terms.tsivareza_word.Statement.{statement}
 use Rattle.exports.proofs.terms.tsivareza_word.Tie as tie
 

@@ -2,10 +2,10 @@
 use mathlib.Core.Path.{refl}
 use native.Mathlib.Omega.{arith}
 use borrow.Author.Needs.{needs}
-use Rattle.text_calls.specs.Carets.{caretOf}
-use Rattle.fold_calls.specs.Upright.{verticals}
-use Rattle.lent.proofs.Joins.{first-length}
-use Rattle.lent.proofs.Twos.{two-unfit, joined-two}
+use Rattle.call_texts.specs.Carets.{caretOf}
+use Rattle.call_folds.specs.Upright.{verticals}
+use Rattle.call_bytes.proofs.Joins.{first-length}
+use Rattle.call_bytes.proofs.Twos.{two-unfit, joined-two}
 use Rattle.exports.proofs.upright.tsivareza_vertical.Statement.{statement}
 use Rattle.exports.proofs.upright.tsivareza_vertical.Tie as tie
 

@@ -1,7 +1,7 @@
 -- `tsivareza_offsets` meets its contract: the room is filled, and the call on code points answers. Assumes nothing.
 use borrow.Author.Needs.{needs}
-use Rattle.row_calls.specs.Wraps.{offsets}
-use Rattle.lent.proofs.Replies.{answered-unfit, front-count, answered-one}
+use Rattle.call_rows.specs.Wraps.{offsets}
+use Rattle.call_bytes.proofs.Replies.{answered-unfit, front-count, answered-one}
 use Rattle.exports.proofs.wraps.tsivareza_offsets.Statement.{statement}
 use Rattle.exports.proofs.wraps.tsivareza_offsets.Tie as tie
 

@@ -2,9 +2,9 @@
 use mathlib.Core.List.{List}
 use Prim.Native.Nat.{ℕ}
 use borrow.Author.Needs.{needs}
-use Rattle.lent.specs.Reply.{told}
-use Rattle.row_calls.specs.Wraps.{segmented, segmentsLeft}
-use Rattle.lent.proofs.Replies.{answered-unfit, front-count, answered-one, kept-unfit, left-fit}
+use Rattle.call_bytes.specs.Reply.{told}
+use Rattle.call_rows.specs.Wraps.{segmented, segmentsLeft}
+use Rattle.call_bytes.proofs.Replies.{answered-unfit, front-count, answered-one, kept-unfit, left-fit}
 use Rattle.exports.proofs.wraps.tsivareza_wrap_segments.Statement.{statement}
 use Rattle.exports.proofs.wraps.tsivareza_wrap_segments.Tie as tie
 

@@ -5,9 +5,9 @@ use mathlib.Core.Path.{_≡_, sym, _∙_}
 use native.Mathlib.Omega.{arith}
 use borrow.Author.Needs.{needs}
 use lib.ListN.{length, take, drop}
-use Rattle.tokens.specs.Tokens.{anyToken, tokenHolds}
-use Rattle.tokens.proofs.Lists.{places}
-use Rattle.tokens.proofs.TokenLaws.{any-hit, any-on, any-end}
+use Rattle.list_tokens.specs.Tokens.{anyToken, tokenHolds}
+use Rattle.list_tokens.proofs.Lists.{places}
+use Rattle.list_tokens.proofs.TokenLaws.{any-hit, any-on, any-end}
 use Rattle.keywords.proofs.KeywordSpec.any_holds.Statement.{statement}
 use Rattle.keywords.proofs.KeywordSpec.any_holds.Tie as tie
 

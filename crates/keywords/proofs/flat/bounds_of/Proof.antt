@@ -6,7 +6,7 @@ use native.Mathlib.Omega.{arith}
 use borrow.Author.Needs.{needs}
 use lib.ListN.{length, take}
 use Rattle.keywords.specs.Flat.{flat, padded}
-use Rattle.tokens.proofs.Lists.{places}
+use Rattle.list_tokens.proofs.Lists.{places}
 use Rattle.keywords.proofs.FlatLaws.{flat-push}
 use Rattle.keywords.proofs.flat.bounds_of.Statement.{statement}
 use Rattle.keywords.proofs.flat.bounds_of.Tie as tie

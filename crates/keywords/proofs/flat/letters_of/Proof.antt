@@ -8,8 +8,8 @@ use borrow.Author.Tests.{eq-eqb, ne-eqb}
 use lib.Dec.{eqb}
 use lib.ListN.{length, take, drop}
 use Rattle.keywords.specs.Flat.{anyAlpha}
-use Rattle.tokens.proofs.Lists.{places}
-use Rattle.tokens.proofs.TokenLaws.{any-hit, any-on, any-end}
+use Rattle.list_tokens.proofs.Lists.{places}
+use Rattle.list_tokens.proofs.TokenLaws.{any-hit, any-on, any-end}
 use Rattle.keywords.proofs.flat.letters_of.Statement.{statement}
 use Rattle.keywords.proofs.flat.letters_of.Tie as tie
 

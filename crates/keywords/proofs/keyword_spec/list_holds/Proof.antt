@@ -6,9 +6,9 @@ use mathlib.Core.List.{List}
 use native.Mathlib.Omega.{arith}
 use borrow.Author.Needs.{needs}
 use lib.ListN.{length}
-use Rattle.tokens.specs.Tokens.{inList, tokensIn, anyToken}
+use Rattle.list_tokens.specs.Tokens.{inList, tokensIn, anyToken}
 use Rattle.lists.proofs.Splits.{splitFrom, split-from-start}
-use Rattle.tokens.proofs.TokenLaws.{step-next, step-any, parts-none}
+use Rattle.list_tokens.proofs.TokenLaws.{step-next, step-any, parts-none}
 use Rattle.keywords.proofs.keyword_spec.list_holds.Statement.{statement}
 use Rattle.keywords.proofs.keyword_spec.list_holds.Tie as tie
 

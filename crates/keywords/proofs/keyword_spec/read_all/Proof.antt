@@ -6,7 +6,7 @@ use native.Mathlib.Omega.{arith}
 use borrow.Author.Needs.{needs}
 use borrow.Author.Tests.{le-leb, lt-leb}
 use lib.ListN.{length}
-use Rattle.tokens.proofs.TokenLaws.{step-next}
+use Rattle.list_tokens.proofs.TokenLaws.{step-next}
 use Rattle.keywords.proofs.TableLaws.{Reading, reading-start, reading-length, reading-skip, reading-keep, reading-full, reading-end}
 use Rattle.keywords.proofs.keyword_spec.read_all.Statement.{statement}
 use Rattle.keywords.proofs.keyword_spec.read_all.Tie as tie

@@ -3,7 +3,7 @@ use mathlib.Core.Path.{ap, _∙_}
 use borrow.Author.Needs.{needs}
 use Rattle.positions.proofs.Checks.{entered}
 use Rattle.steps.proofs.Staying.{accepted-in}
-use Rattle.ways.proofs.Staying.{jumped-in}
+use Rattle.text_moves.proofs.Staying.{jumped-in}
 use Rattle.motions.specs.Carets.{here, put}
 use Rattle.motions.proofs.Checks.{refused, moved, fits}
 use Rattle.motions.proofs.Caret.by_jump.Statement.{statement}

@@ -7,7 +7,7 @@ use native.Mathlib.Omega.{arith}
 use lib.ListN.{length}
 use borrow.Author.Needs.{needs}
 use Rattle.text.specs.Text.{rowAt}
-use Rattle.scans.specs.Find.{findOnRow}
+use Rattle.row_search.specs.Find.{findOnRow}
 use Rattle.positions.proofs.Entered.{with-number, with-entered}
 use Rattle.motions.specs.declared.Sought.the-variants.{Found}
 use Rattle.motions.specs.Carets.{here}

@@ -5,8 +5,8 @@ use Rattle.text.specs.declared.Line.{Line}
 use Rattle.text.proofs.Stands.{line-there}
 use Rattle.vertical.proofs.Edges.{viewport-within}
 use Rattle.positions.proofs.Checks.{entered}
-use Rattle.jumps.specs.Rows.{atRow}
-use Rattle.jumps.proofs.Staying.{row-in}
+use Rattle.row_moves.specs.Rows.{atRow}
+use Rattle.row_moves.proofs.Staying.{row-in}
 use Rattle.motions.specs.Carets.{here, put}
 use Rattle.motions.proofs.Checks.{refused, moved, fits}
 use Rattle.motions.proofs.Caret.to_edge.Statement.{statement}

@@ -6,12 +6,12 @@ use Prim.Native.Nat.{ℕ, _-_}
 use native.Mathlib.Omega.{arith}
 use borrow.Author.Needs.{needs}
 use Rattle.keywords.specs.declared.Parsed.{Parsed}
-use Rattle.tokens.specs.declared.Token.{Token}
-use Rattle.tokens.specs.Tokens.{anyToken}
+use Rattle.list_tokens.specs.declared.Token.{Token}
+use Rattle.list_tokens.specs.Tokens.{anyToken}
 use Rattle.keywords.specs.Table.{parseOf, kept}
 use Rattle.keywords.proofs.Agree.{parse-kept, parse-length}
-use Rattle.places.specs.Places.{Place, kindOf}
-use Rattle.turns.specs.Rounds.{wordMotion}
+use Rattle.word_kinds.specs.Places.{Place, kindOf}
+use Rattle.word_rounds.specs.Rounds.{wordMotion}
 use Rattle.positions.proofs.Entered.{folds-good, folds-entered}
 use Rattle.steps.proofs.Stepping.{up-start}
 use Rattle.motions.specs.Carets.{here}

@@ -1,8 +1,8 @@
 -- `calls::character` meets its contract: what the call answers and leaves is compared. Assumes nothing.
 use borrow.Author.Needs.{needs}
-use Rattle.row_calls.specs.Characters.{fact}
+use Rattle.call_rows.specs.Characters.{fact}
 use Rattle.replay.specs.Calls.{characterOf}
-use Rattle.verdicts.proofs.Comparing.{replied-compared, places-count, told-sized}
+use Rattle.replay_verdicts.proofs.Comparing.{replied-compared, places-count, told-sized}
 use Rattle.replay.proofs.calls.character.Statement.{statement}
 use Rattle.replay.proofs.calls.character.Tie as tie
 

@@ -1,8 +1,8 @@
 -- `calls::columns` meets its contract: what the call answers and leaves is compared. Assumes nothing.
 use borrow.Author.Needs.{needs}
-use Rattle.row_calls.specs.Tabs.{tabColumn}
+use Rattle.call_rows.specs.Tabs.{tabColumn}
 use Rattle.replay.specs.Calls.{columnsOf}
-use Rattle.verdicts.proofs.Comparing.{replied-compared, places-count, told-sized}
+use Rattle.replay_verdicts.proofs.Comparing.{replied-compared, places-count, told-sized}
 use Rattle.replay.proofs.calls.columns.Statement.{statement}
 use Rattle.replay.proofs.calls.columns.Tie as tie
 

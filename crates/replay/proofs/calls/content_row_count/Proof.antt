@@ -1,9 +1,9 @@
 -- `calls::content_row_count` meets its contract: what the call answers and leaves is compared. Assumes nothing.
 use borrow.Author.Needs.{needs}
 use Rattle.text.specs.Text.{contentRowCount}
-use Rattle.text_calls.specs.Rows.{toldRows}
+use Rattle.call_texts.specs.Rows.{toldRows}
 use Rattle.replay.specs.Calls.{contentRowCountOf}
-use Rattle.verdicts.proofs.Comparing.{replied-compared, places-count, told-sized}
+use Rattle.replay_verdicts.proofs.Comparing.{replied-compared, places-count, told-sized}
 use Rattle.replay.proofs.calls.content_row_count.Statement.{statement}
 use Rattle.replay.proofs.calls.content_row_count.Tie as tie
 

@@ -1,8 +1,8 @@
 -- `calls::keywords` meets its contract: what the call answers and leaves is compared. Assumes nothing.
 use borrow.Author.Needs.{needs}
-use Rattle.row_calls.specs.Lists.{keyword}
+use Rattle.call_rows.specs.Lists.{keyword}
 use Rattle.replay.specs.Calls.{keywordsOf}
-use Rattle.verdicts.proofs.Comparing.{replied-compared, places-count, told-sized}
+use Rattle.replay_verdicts.proofs.Comparing.{replied-compared, places-count, told-sized}
 use Rattle.replay.proofs.calls.keywords.Statement.{statement}
 use Rattle.replay.proofs.calls.keywords.Tie as tie
 

@@ -1,7 +1,7 @@
 -- `calls::matching_bracket_pos` meets its contract: what the call answers and leaves is compared. Assumes nothing.
 use borrow.Author.Needs.{needs}
 use Rattle.replay.specs.Calls.{matchingBracketPosOf}
-use Rattle.verdicts.proofs.Comparing.{replied-compared, places-count}
+use Rattle.replay_verdicts.proofs.Comparing.{replied-compared, places-count}
 use Rattle.replay.proofs.Sizes.{partnered-sized}
 use Rattle.replay.proofs.calls.matching_bracket_pos.Statement.{statement}
 use Rattle.replay.proofs.calls.matching_bracket_pos.Tie as tie

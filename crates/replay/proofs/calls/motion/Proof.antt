@@ -1,7 +1,7 @@
 -- `calls::motion` meets its contract: what the call answers and leaves is compared. Assumes nothing.
 use borrow.Author.Needs.{needs}
 use Rattle.replay.specs.Calls.{motionOf}
-use Rattle.verdicts.proofs.Comparing.{replied-compared, places-count}
+use Rattle.replay_verdicts.proofs.Comparing.{replied-compared, places-count}
 use Rattle.replay.proofs.Sizes.{moved-sized}
 use Rattle.replay.proofs.calls.motion.Statement.{statement}
 use Rattle.replay.proofs.calls.motion.Tie as tie

@@ -1,8 +1,8 @@
 -- `calls::offsets` meets its contract: what the call answers and leaves is compared. Assumes nothing.
 use borrow.Author.Needs.{needs}
-use Rattle.row_calls.specs.Wraps.{offset}
+use Rattle.call_rows.specs.Wraps.{offset}
 use Rattle.replay.specs.Calls.{offsetsOf}
-use Rattle.verdicts.proofs.Comparing.{replied-compared, places-count, told-sized}
+use Rattle.replay_verdicts.proofs.Comparing.{replied-compared, places-count, told-sized}
 use Rattle.replay.proofs.calls.offsets.Statement.{statement}
 use Rattle.replay.proofs.calls.offsets.Tie as tie
 

@@ -1,7 +1,7 @@
 -- `calls::seek` meets its contract: what the call answers and leaves is compared. Assumes nothing.
 use borrow.Author.Needs.{needs}
 use Rattle.replay.specs.Calls.{seekOf}
-use Rattle.verdicts.proofs.Comparing.{replied-compared, places-count}
+use Rattle.replay_verdicts.proofs.Comparing.{replied-compared, places-count}
 use Rattle.replay.proofs.Sizes.{sought-sized}
 use Rattle.replay.proofs.calls.seek.Statement.{statement}
 use Rattle.replay.proofs.calls.seek.Tie as tie

@@ -1,9 +1,9 @@
 -- `calls::segment_for_col` meets its contract: what the call answers and leaves is compared. Assumes nothing.
 use borrow.Author.Needs.{needs}
-use Rattle.slots.specs.Calls.{segmentForCol}
-use Rattle.row_calls.specs.Wraps.{toldSegment}
+use Rattle.row_offsets.specs.Calls.{segmentForCol}
+use Rattle.call_rows.specs.Wraps.{toldSegment}
 use Rattle.replay.specs.Calls.{segmentForColOf}
-use Rattle.verdicts.proofs.Comparing.{replied-compared, places-count, told-sized}
+use Rattle.replay_verdicts.proofs.Comparing.{replied-compared, places-count, told-sized}
 use Rattle.replay.proofs.calls.segment_for_col.Statement.{statement}
 use Rattle.replay.proofs.calls.segment_for_col.Tie as tie
 

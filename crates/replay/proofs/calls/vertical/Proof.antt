@@ -2,7 +2,7 @@
 use borrow.Author.Needs.{needs}
 use borrow.Author.Tests.{le-leb, lt-leb}
 use Rattle.replay.specs.Calls.{verticalVerdict}
-use Rattle.verdicts.proofs.Comparing.{replied-compared, places-count}
+use Rattle.replay_verdicts.proofs.Comparing.{replied-compared, places-count}
 use Rattle.replay.proofs.Sizes.{moved-sized}
 use Rattle.replay.proofs.calls.vertical.Statement.{statement}
 use Rattle.replay.proofs.calls.vertical.Tie as tie

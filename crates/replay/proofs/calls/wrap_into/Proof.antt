@@ -1,8 +1,8 @@
 -- `calls::wrap_into` meets its contract: what the call answers, and leaves in both lent places, is compared. Assumes nothing.
 use borrow.Author.Needs.{needs}
-use Rattle.row_calls.specs.Wraps.{segmented}
+use Rattle.call_rows.specs.Wraps.{segmented}
 use Rattle.replay.specs.Calls.{wrappedIn}
-use Rattle.verdicts.proofs.Comparing.{wrapped-compared}
+use Rattle.replay_verdicts.proofs.Comparing.{wrapped-compared}
 use Rattle.replay.proofs.calls.wrap_into.Statement.{statement}
 use Rattle.replay.proofs.calls.wrap_into.Tie as tie
 

@@ -5,8 +5,8 @@ use borrow.Author.Tests.{le-leb, lt-leb}
 use lib.ListN.{replicate}
 use lib.Seq.{length-take-le}
 use Rattle.replay.specs.Calls.{wrapVerdict}
-use Rattle.verdicts.specs.Answers.{filler}
-use Rattle.verdicts.proofs.Comparing.{take-replicate}
+use Rattle.replay_verdicts.specs.Answers.{filler}
+use Rattle.replay_verdicts.proofs.Comparing.{take-replicate}
 use Rattle.replay.proofs.calls.wrap_segments.Statement.{statement}
 use Rattle.replay.proofs.calls.wrap_segments.Tie as tie
 

@@ -5,7 +5,7 @@ use mathlib.Core.Path.{sym}
 use native.Mathlib.Omega.{arith}
 use borrow.Author.Needs.{needs}
 use lib.ListN.{length, replicate, length-replicate}
-use Rattle.record.proofs.Lines.{row-within}
+use Rattle.replay_rows.proofs.Lines.{row-within}
 use Rattle.replay.proofs.Counting.{Tallying, tallying-start, tallying-countable, tallying-on, tallying-end}
 use Rattle.replay.proofs.tallies.tally_of.Statement.{statement}
 use Rattle.replay.proofs.tallies.tally_of.Tie as tie

@@ -1,7 +1,7 @@
 -- `walks::glide` meets its contract. Assumes nothing.
 use borrow.Author.Needs.{needs}
 use Rattle.chars.specs.Width.{widthBy}
-use Rattle.segments.specs.Parts.{layOf}
+use Rattle.screen_segments.specs.Parts.{layOf}
 use Rattle.screen.proofs.Walking.{leads-place}
 use Rattle.screen.proofs.walks.glide.Statement.{statement}
 use Rattle.screen.proofs.walks.glide.Tie as tie

@@ -6,7 +6,7 @@ use native.Mathlib.Omega.{arith}
 use borrow.Author.Needs.{needs}
 use Rattle.chars.specs.Width.{widthBy}
 use Rattle.text.proofs.Parts.{row-fits}
-use Rattle.segments.specs.Parts.{segmentCount, layOf}
+use Rattle.screen_segments.specs.Parts.{segmentCount, layOf}
 use Rattle.screen.proofs.Landing.{part-starts, place-is}
 use Rattle.screen.proofs.walks.land.Statement.{statement}
 use Rattle.screen.proofs.walks.land.Tie as tie

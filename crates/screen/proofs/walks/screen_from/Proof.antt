@@ -4,7 +4,7 @@ use Prim.Native.Nat.{ℕ}
 use native.Mathlib.Omega.{arith}
 use borrow.Author.Needs.{needs}
 use Rattle.chars.specs.Width.{widthBy}
-use Rattle.visible.specs.Visible.{toward}
+use Rattle.visible_rows.specs.Visible.{toward}
 use Rattle.screen.proofs.Landing.{from-inside, from-near, from-on, from-off, from-stuck}
 use Rattle.screen.proofs.walks.screen_from.Statement.{statement}
 use Rattle.screen.proofs.walks.screen_from.Tie as tie

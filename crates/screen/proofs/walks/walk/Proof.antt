@@ -9,9 +9,9 @@ use Rattle.chars.specs.Width.{widthBy}
 use Rattle.text.proofs.Parts.{count-le}
 use Rattle.text.proofs.Stands.{line-there, stands-own}
 use Rattle.text.specs.declared.Line.{Line}
-use Rattle.visible.specs.Visible.{toward, Free}
-use Rattle.segments.specs.Parts.{segmentCount, layOf}
-use Rattle.visible.proofs.Visible.{toward-within}
+use Rattle.visible_rows.specs.Visible.{toward, Free}
+use Rattle.screen_segments.specs.Parts.{segmentCount, layOf}
+use Rattle.visible_rows.proofs.Visible.{toward-within}
 use Rattle.screen.proofs.Walking.{Walking, walking-start, walking-cross, walking-edge, walking-end, walking-spot}
 use Rattle.screen.proofs.walks.walk.Statement.{statement}
 use Rattle.screen.proofs.walks.walk.Tie as tie

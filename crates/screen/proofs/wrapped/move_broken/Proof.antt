@@ -5,7 +5,7 @@ use borrow.Author.Needs.{needs}
 use Rattle.chars.specs.White.{whites}
 use Rattle.chars.specs.Width.{widthBy}
 use Rattle.text.proofs.Parts.{row-fits}
-use Rattle.segments.specs.Parts.{layOf}
+use Rattle.screen_segments.specs.Parts.{layOf}
 use Rattle.screen.proofs.Spans.{target-made}
 use Rattle.screen.proofs.wrapped.move_broken.Statement.{statement}
 use Rattle.screen.proofs.wrapped.move_broken.Tie as tie

@@ -5,7 +5,7 @@ use borrow.Author.Needs.{needs}
 use lib.IntN.{ℤ}
 use Rattle.chars.specs.Width.{widthBy}
 use Rattle.vertical.specs.Moves.{moveVertical}
-use Rattle.visible.proofs.Signed.{read-delta, delta-asked}
+use Rattle.visible_rows.proofs.Signed.{read-delta, delta-asked}
 use Rattle.vertical.proofs.moves.move_rows.Statement.{statement}
 use Rattle.vertical.proofs.moves.move_rows.Tie as tie
 

@@ -4,7 +4,7 @@ use mathlib.Core.List.{List}
 use Prim.Native.Nat.{ℕ}
 use borrow.Author.Needs.{needs}
 use Rattle.chars.specs.Width.{widthBy}
-use Rattle.columns.specs.Columns.{cursorCol}
+use Rattle.row_columns.specs.Columns.{cursorCol}
 use Rattle.vertical.specs.Moves.{wantedCol}
 use Rattle.vertical.proofs.Accepted.{row-ready}
 use Rattle.vertical.proofs.moves.wanted.Statement.{statement}

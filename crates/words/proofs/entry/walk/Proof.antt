@@ -1,9 +1,9 @@
 -- `words::entry::walk` meets its contract: the first round, and the rest. Assumes nothing.
 use mathlib.Core.Path.{_∙_}
-use Rattle.places.specs.Spots.{placeOf}
-use Rattle.places.specs.Lent.{kindBy}
-use Rattle.turns.proofs.Counts.{motion-on, motion-off}
-use Rattle.turns.proofs.Turning.{turn-next, turn-last, next-in, last-in, set-at}
+use Rattle.word_kinds.specs.Spots.{placeOf}
+use Rattle.word_kinds.specs.Lent.{kindBy}
+use Rattle.word_rounds.proofs.Counts.{motion-on, motion-off}
+use Rattle.word_rounds.proofs.Turning.{turn-next, turn-last, next-in, last-in, set-at}
 use borrow.Author.Needs.{needs}
 use Rattle.words.proofs.entry.walk.Statement.{statement}
 use Rattle.words.proofs.entry.walk.Tie as tie

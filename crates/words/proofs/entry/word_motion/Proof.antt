@@ -3,7 +3,7 @@
 use mathlib.Core.Path.{_≡_, sym, _∙_}
 use Prim.Native.Nat.{ℕ}
 use native.Mathlib.Omega.{arith}
-use Rattle.places.specs.Spots.{placeOf}
+use Rattle.word_kinds.specs.Spots.{placeOf}
 use Rattle.words.proofs.Made.{made-folded, made-motion}
 use borrow.Author.Needs.{needs}
 use Rattle.words.proofs.entry.word_motion.Statement.{statement}

@@ -6,7 +6,7 @@ use mathlib.Core.Bool.{_||_}
 use lib.ListN.{length, drop}
 use Rattle.lists.specs.Lists.{any}
 use Rattle.lists.proofs.Any.{any-on, any-end}
-use Rattle.places.specs.Lent.{isHigh}
+use Rattle.word_kinds.specs.Lent.{isHigh}
 use borrow.Author.Needs.{needs}
 use Rattle.words.proofs.once.has_high.Statement.{statement}
 use Rattle.words.proofs.once.has_high.Tie as tie

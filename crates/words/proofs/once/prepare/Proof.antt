@@ -2,7 +2,7 @@
 use mathlib.Core.Path.{_≡_, refl}
 use native.Mathlib.Omega.{arith}
 use lib.ListN.{length}
-use Rattle.tokens.proofs.Lists.{places}
+use Rattle.list_tokens.proofs.Lists.{places}
 use Rattle.words.proofs.Classes.{kinds-by}
 use borrow.Author.Needs.{needs}
 use Rattle.words.proofs.once.prepare.Statement.{statement}

@@ -1,8 +1,8 @@
 -- `words::rounds::round_near` meets its contract: in the stretch a round without folds is the same. Assumes nothing.
 use mathlib.Core.Path.{_∙_}
 use mathlib.Core.Bool.{false}
-use Rattle.places.specs.Spots.{placeOf}
-use Rattle.places.specs.Lent.{kindBy}
+use Rattle.word_kinds.specs.Spots.{placeOf}
+use Rattle.word_kinds.specs.Lent.{kindBy}
 use Rattle.words.proofs.Bare.{round-bare, set-bare}
 use borrow.Author.Needs.{needs}
 use Rattle.words.proofs.rounds.round_near.Statement.{statement}

@@ -3,12 +3,12 @@
 use mathlib.Core.Path.{_≡_, refl, ap, sym, _∙_}
 use mathlib.Core.Bool.{false}
 use native.Mathlib.Omega.{arith}
-use Rattle.turns.specs.Rounds.{On, roundOf, counted}
-use Rattle.places.specs.Spots.{placeOf, IsSpot}
-use Rattle.places.specs.Lent.{kindBy}
-use Rattle.stretches.specs.Stretches.{NoFold}
-use Rattle.turns.proofs.Counts.{counted-none, counted-on, counted-off, counted-still}
-use Rattle.turns.proofs.Turning.{turn-next, turn-last, next-in, last-in, same-place, set-at}
+use Rattle.word_rounds.specs.Rounds.{On, roundOf, counted}
+use Rattle.word_kinds.specs.Spots.{placeOf, IsSpot}
+use Rattle.word_kinds.specs.Lent.{kindBy}
+use Rattle.fold_stretches.specs.Stretches.{NoFold}
+use Rattle.word_rounds.proofs.Counts.{counted-none, counted-on, counted-off, counted-still}
+use Rattle.word_rounds.proofs.Turning.{turn-next, turn-last, next-in, last-in, same-place, set-at}
 use borrow.Author.Needs.{needs}
 use Rattle.words.proofs.rounds.rounds.Statement.{statement}
 use Rattle.words.proofs.rounds.rounds.Tie as tie

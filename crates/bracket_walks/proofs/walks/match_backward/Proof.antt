@@ -1,0 +1,92 @@
+-- `bracket_walks::walks::match_backward` meets its contract. The invariant of its loop: `depth` are closed from i on, no place passed opens what was
+-- closed, and i stands in row `row`. The measure is i. Assumes nothing.
+use Prim.Native.Nat.{_-_, _≤_}
+use mathlib.Core.Path.{sym, _∙_}
+use native.Mathlib.Omega.{arith}
+use lib.ListN.{length}
+use borrow.Author.Needs.{needs}
+use Rattle.text.specs.Offsets.{Stands, rowStart}
+use Rattle.text.proofs.Stands.{back-char, back-nl, stands-own}
+use Rattle.bracket_walks.proofs.Behind.{Behind, behind-start, behind-close, behind-open, behind-other, behind-found, behind-none}
+use Rattle.bracket_walks.proofs.Placed.{placed-at, placed-none, stands-up}
+use Rattle.bracket_walks.proofs.walks.match_backward.Statement.{statement}
+use Rattle.bracket_walks.proofs.walks.match_backward.Tie as tie
+
+abbrev Inv-loop : tie.InvT-loop
+Inv-loop t at deep opening closing depth₀ row₀ i₀ depth row i =
+    Behind opening closing t at deep i depth × Stands t row (rowStart t row) i × (length t ≤ 1048576) × (deep ≤ 1048576)
+
+abbrev μ-loop : tie.MeasureT-loop
+μ-loop t at deep opening closing depth₀ row₀ i₀ depth row i = i
+
+loop-holds : tie.Need-loop-holds Inv-loop μ-loop
+loop-holds c =
+    let p = c .before .pre in
+    (behind-start _ _ _ _ _ (p .1) (p .0 .stands .within) (p .0 .deep), stands-own (p .0 .stands), p .0 .short, p .0 .bound)
+
+-- the open that brings the depth to none, in its row
+met : (c : tie.Then2 Inv-loop μ-loop) → let k = c .before .before .before .before in
+    Stands (k .before .before .args .t .now) (k .loop .row) (rowStart (k .before .before .args .t .now) (k .loop .row)) (k .loop .i - 1)
+met c =
+    let k = c .before .before .before in
+    let v = k .before .loop .inv in
+    back-char (v .1) (k .loop-test .taken) (λ f. v .0 .hands .open-char (sym (c .before .if1 .taken) ∙ f))
+
+place-requires : tie.Need-place-requires Inv-loop μ-loop
+place-requires c κs =
+    let s = stands-up (met (c .before)) (c .up .ensures) in
+    omega (arith, s .from, s .below, s .within, c .before .before .before .before .before .loop .inv .2)
+
+returns : tie.Need-returns Inv-loop μ-loop
+returns c =
+    let k = c .before .before .before .before .before in
+    let found = behind-found (k .before .loop .inv .0) (k .loop-test .taken) (c .before .before .before .if1 .taken) (c .before .before .if2 .taken) in
+    c .place .ensures ∙ placed-at (stands-up (met (c .before .before)) (c .before .up .ensures)) found
+
+-- another open
+loop-again : tie.Need-loop-again Inv-loop μ-loop
+loop-again c =
+    let k = c .before .before .before in
+    let v = k .before .loop .inv in
+    let h = k .loop-test .taken in
+    let e = c .before .if1 .taken in
+    (behind-open (v .0) h e (c .if2 .left), back-char (v .1) h (λ f. v .0 .hands .open-char (sym e ∙ f)), v .2, v .3)
+
+-- another close
+loop-again-2 : tie.Need-loop-again-2 Inv-loop μ-loop
+loop-again-2 c =
+    let k = c .before .before .before in
+    let v = k .before .loop .inv in
+    let h = k .loop-test .taken in
+    (behind-close (v .0) h (c .if3 .taken), back-char (v .1) h (λ f. v .0 .hands .close-char (sym (c .if3 .taken) ∙ f)), v .2, v .3)
+
+-- a separator
+sub-row : tie.Need-sub-row Inv-loop μ-loop
+sub-row c =
+    let k = c .before .before .before .before in
+    omega (arith, back-nl (k .before .loop .inv .1) (k .loop-test .taken) (c .if4 .taken) .1)
+
+loop-again-3 : tie.Need-loop-again-3 Inv-loop μ-loop
+loop-again-3 c =
+    let k = c .before .before .before .before in
+    let v = k .before .loop .inv in
+    let h = k .loop-test .taken in
+    (behind-other (v .0) h (c .before .before .if1 .left) (c .before .if3 .left), back-nl (v .1) h (c .if4 .taken) .2, v .2, v .3)
+
+-- any other code point
+loop-again-4 : tie.Need-loop-again-4 Inv-loop μ-loop
+loop-again-4 c =
+    let k = c .before .before .before .before in
+    let v = k .before .loop .inv in
+    let h = k .loop-test .taken in
+    (behind-other (v .0) h (c .before .before .if1 .left) (c .before .if3 .left), back-char (v .1) h (c .if4 .left), v .2, v .3)
+
+returns-2 : tie.Need-returns-2 Inv-loop μ-loop
+returns-2 c = placed-none (c .before .before .before .args .t .now) (behind-none (c .before .loop .inv .0) (c .loop-test .left))
+
+pub match-backward-spec : {M : Type 1} → statement M
+match-backward-spec =
+    tie.close
+    (tie.spec Inv-loop μ-loop loop-holds (λ c. search needs) (λ c. search needs) (λ c. search needs) (λ c. search needs) (λ c κs. met c)
+    place-requires returns (λ c. search needs) loop-again (λ c. search needs) (λ c. search needs) loop-again-2 sub-row (λ c. search needs) loop-again-3
+    (λ c. search needs) loop-again-4 returns-2)

@@ -1,0 +1,25 @@
+-- A call on two byte strings: one on three, the last of them empty. Assumes nothing.
+use mathlib.Core.Path.{_≡_}
+use mathlib.Core.List.{List, [], _∷_}
+use Prim.Native.Nat.{ℕ, _+_, _-_, _/_}
+use native.Mathlib.Omega.{arith}
+use lib.ListN.{length, take, drop}
+use Rattle.call_points.specs.Points.{points, filledAll}
+use Rattle.call_bytes.specs.Reply.{Reply, Replied}
+use Rattle.call_bytes.specs.Joined.{wholeAll, countAll, FilledThree, AnsweredAll}
+use Rattle.call_bytes.proofs.Joins.{joined-unfit, joined-three}
+
+module _ {s u room room′ : List ℕ} {n : ℕ} (h : FilledThree s u [] room n room′) where
+  pub two-unfit : (n ≡ 0 → ⊥) → {m : Reply} {out : List ℕ} → AnsweredAll (s ∷ u ∷ []) room out m n room′ out
+  unfolding wholeAll countAll filledAll points
+  two-unfit z {m} {out} =
+      let w = joined-unfit h z {m = m} {out = out} in
+      record { numbered = w .numbered; room-left = w .room-left; out-left = w .out-left }
+
+  pub joined-two : (f : List ℕ → List ℕ → Reply) → n ≡ 0 → {out out′ : List ℕ} {r : ℕ} (a : ℕ) → a ≡ length s / 4 + length u / 4 →
+      Replied (f (take (length s / 4) room′) (take (a - length s / 4) (drop (length s / 4) room′))) out r out′ →
+      AnsweredAll (s ∷ u ∷ []) room out (f (points s) (points u)) r room′ out′
+  unfolding wholeAll countAll filledAll points
+  joined-two f z {out} {out′} {r} a e p =
+      let w = joined-three h (λ (t : List ℕ) (v : List ℕ) (x : List ℕ). f t v) z {out = out} {out′ = out′} {r = r} a a e (omega arith) p in
+      record { numbered = w .numbered; room-left = w .room-left; out-left = w .out-left }

@@ -1,0 +1,22 @@
+-- `vertical` meets its contract: it hands on what the motion answers. Assumes nothing.
+use mathlib.Core.Path.{ap, _∙_}
+use borrow.Author.Needs.{needs}
+use Rattle.motions.specs.declared.Caret.{Caret}
+use Rattle.call_folds.specs.Upright.{vertical}
+use Rattle.call_texts.specs.Carets.{moved}
+use Rattle.call_bytes.proofs.Replies.{replied-of}
+use Rattle.call_folds.proofs.upright.vertical.Statement.{statement}
+use Rattle.call_folds.proofs.upright.vertical.Tie as tie
+
+returns : tie.Need-returns
+returns c =
+    let v = c .before .before in
+    let a = v .before .before .before .before .args in
+    replied-of moved
+    (v .vertical-by .ensures
+    ∙ ap (λ (k : Caret). vertical (a .op) (a .mode) (a .width) (a .count) (a .tabstop) k (a .text .now) (a .folds .now)) (v .before .caret-of .ensures))
+    (c .place .ensures)
+
+pub vertical-spec : {M : Type 1} → statement M
+vertical-spec =
+    tie.close (tie.spec (λ c κs. search needs) (λ c κs. search needs) (λ c κs. search needs) returns)

@@ -1,0 +1,67 @@
+-- `decode` meets its contract. The loop's invariant: the first i code points stand in the room, the rest of it is as it was.
+-- The measure is the number of code points less i. Assumes nothing.
+use Prim.Native.Nat.{_-_, _/_, _≤_, _<_}
+use mathlib.Core.Path.{_≡_, refl}
+use mathlib.Core.List.{_++_}
+use native.Mathlib.Omega.{arith}
+use borrow.Author.Needs.{needs}
+use lib.ListN.{length, take, drop, length-set}
+use Rattle.call_points.specs.Points.{points}
+use Rattle.call_points.proofs.Laws.{length-points, point-at, fill-on, filled-all, take-filled}
+use Rattle.call_points.proofs.decode.Statement.{statement}
+use Rattle.call_points.proofs.decode.Tie as tie
+
+abbrev Inv-loop : tie.InvT-loop
+Inv-loop s room₀ n i₀ room i = (i ≤ length s / 4) × (length room ≡ length room₀) × (room ≡ take i (points s) ++ drop i room₀)
+
+abbrev μ-loop : tie.MeasureT-loop
+μ-loop s room₀ n i₀ room i = length s / 4 - i
+
+-- the code point at i is stored
+loop-again : tie.Need-loop-again Inv-loop μ-loop
+loop-again c =
+    let l = c .before .before .before .before .before .before in
+    let s = l .before .before .before .args .bytes .now in
+    let d = l .before .before .before .args .room .now in
+    let i = l .loop .i in
+    let p : i < length (points s) = omega (arith, length-points s) in (
+      omega arith,
+      simp length-set (l .loop .inv .1),
+      rw (c .word .ensures, ← point-at s i (omega arith)) (fill-on (points s) d (l .loop .room) i (l .loop .inv .2) p (omega arith)),
+    )
+
+-- all are stored
+returns : tie.Need-returns Inv-loop μ-loop
+returns c =
+    let s = c .before .before .before .before .args .bytes .now in
+    let d = c .before .before .before .before .args .room .now in
+    let e : c .before .loop .i ≡ length s / 4 = omega arith in
+    let f = filled-all s d (c .before .loop .room) (rw e at (c .before .loop .inv .2)) in
+    record { count = refl; room-left = f; within = omega arith; front = take-filled s d _ f }
+
+pub decode-spec : {M : Type 1} → statement M
+decode-spec =
+    tie.close
+    (tie.spec
+    Inv-loop
+    μ-loop
+    (λ c. search needs)
+    (λ c. search needs)
+    (λ c. search needs)
+    (λ c. search needs)
+    (λ c. search needs)
+    (λ c. search needs)
+    (λ c. search needs)
+    (λ c. search needs)
+    (λ c. search needs)
+    (λ c. search needs)
+    (λ c. search needs)
+    (λ c. search needs)
+    (λ c κs. search needs)
+    (λ c. search needs)
+    (λ c. search needs)
+    (λ c. search needs)
+    (λ c. search needs)
+    loop-again
+    (λ c. search needs)
+    returns)

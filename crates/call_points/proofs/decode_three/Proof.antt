@@ -1,0 +1,22 @@
+-- `decode_three` meets its contract: the other two fill the rest that the first one left. Assumes nothing.
+use native.Mathlib.Omega.{arith}
+use borrow.Author.Needs.{needs}
+use Rattle.call_points.specs.Points.{filledTwo}
+use Rattle.call_points.proofs.Laws.{whole-is, three-is}
+use Rattle.call_points.proofs.decode_three.Statement.{statement}
+use Rattle.call_points.proofs.decode_three.Tie as tie
+
+returns : tie.Need-returns
+returns c =
+    let a = c .before .before .before .before .before .before .before .before .before .before .before .before .args in
+    let d = c .before .before .before .before .before .before .decode .ensures in
+    three-is (a .first .now) (a .second .now) (a .third .now) (a .room .now) _
+    (whole-is (a .first .now) (a .room .now) _ _ _ (filledTwo (a .second .now) (a .third .now)) (d .count) (d .room-left)
+    (c .before .before .decode-two .ensures .room-left))
+    (omega arith)
+
+pub decode-three-spec : {M : Type 1} → statement M
+decode-three-spec =
+    tie.close
+    (tie.spec (λ c κs. search needs) (λ c. search needs) (λ c. search needs) (λ c. search needs) (λ c. search needs) (λ c κs. search needs)
+    (λ c. search needs) returns)

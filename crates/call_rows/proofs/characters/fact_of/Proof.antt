@@ -1,0 +1,57 @@
+-- `characters::fact_of` meets its contract, arm by arm. Assumes nothing.
+use mathlib.Core.Path.{ap, _∙_}
+use borrow.Author.Needs.{needs}
+use borrow.Author.Tests.{ne-eqb}
+use Rattle.call_bytes.specs.declared.Told.the-variants.{Value}
+use Rattle.call_rows.specs.Characters.{fact, tested}
+use Rattle.call_bytes.specs.Reply.{bit}
+use Rattle.call_rows.proofs.characters.fact_of.Statement.{statement}
+use Rattle.call_rows.proofs.characters.fact_of.Tie as tie
+
+returns : tie.Need-returns
+unfolding fact
+returns c = rw (c .before .before .match .keys1) (ap Value (c .bit-of .ensures ∙ ap bit (c .before .is-scalar .ensures)))
+
+returns-2 : tie.Need-returns-2
+unfolding fact
+returns-2 c =
+    let b = c .before in let m = b .before .before in
+    rw (m .match .keys2) (c .tested .ensures ∙ ap (tested (m .before .args .x)) (b .bit-of2 .ensures ∙ ap bit (b .before .is-white .ensures)))
+
+returns-3 : tie.Need-returns-3
+unfolding fact
+returns-3 c =
+    let b = c .before in let m = b .before .before in
+    rw (m .match .keys3) (c .tested2 .ensures ∙ ap (tested (m .before .args .x)) (b .bit-of3 .ensures ∙ ap bit (b .before .is-letter .ensures)))
+
+returns-4 : tie.Need-returns-4
+unfolding fact
+returns-4 c =
+    let m = c .before .before in
+    rw (m .match .keys4) (c .tested3 .ensures ∙ ap (tested (m .before .args .x)) (c .before .width .ensures))
+
+returns-5 : tie.Need-returns-5
+unfolding fact
+returns-5 c =
+    let m = c .match .rest in
+    rw (ne-eqb _ 0 (m .0 .0 .0 .1), ne-eqb _ 1 (m .0 .0 .1), ne-eqb _ 2 (m .0 .1), ne-eqb _ 3 (m .1))
+
+pub fact-of-spec : {M : Type 1} → statement M
+fact-of-spec =
+    tie.close
+    (tie.spec
+    (λ c κs. search needs)
+    (λ c κs. search needs)
+    (λ c κs. search needs)
+    (λ c κs. search needs)
+    (λ c κs. search needs)
+    (λ c κs. search needs)
+    (λ c κs. search needs)
+    (λ c κs. search needs)
+    (λ c κs. search needs)
+    (λ c κs. search needs)
+    returns
+    returns-2
+    returns-3
+    returns-4
+    returns-5)

@@ -1,0 +1,12 @@
+-- `row_columns` meets its contract: it hands on what the operation answers. Assumes nothing.
+use borrow.Author.Needs.{needs}
+use Rattle.call_bytes.proofs.Replies.{replied-as}
+use Rattle.call_rows.proofs.tabs.columns.Statement.{statement}
+use Rattle.call_rows.proofs.tabs.columns.Tie as tie
+
+returns : tie.Need-returns
+returns c = replied-as (c .before .before .column-by .ensures) (c .reply .ensures)
+
+pub columns-spec : {M : Type 1} → statement M
+columns-spec =
+    tie.close (tie.spec (λ c κs. search needs) (λ c κs. search needs) returns)

@@ -1,0 +1,12 @@
+-- `offsets` meets its contract: it hands on what the operation answers. Assumes nothing.
+use borrow.Author.Needs.{needs}
+use Rattle.call_bytes.proofs.Replies.{replied-as}
+use Rattle.call_rows.proofs.wraps.offsets.Statement.{statement}
+use Rattle.call_rows.proofs.wraps.offsets.Tie as tie
+
+returns : tie.Need-returns
+returns c = replied-as (c .before .before .offset-by .ensures) (c .reply .ensures)
+
+pub offsets-spec : {M : Type 1} → statement M
+offsets-spec =
+    tie.close (tie.spec (λ c κs. search needs) (λ c κs. search needs) returns)

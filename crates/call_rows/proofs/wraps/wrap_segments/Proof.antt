@@ -1,0 +1,14 @@
+-- `wrap_segments` meets its contract: it hands on what the mode's call answers. Assumes nothing.
+use borrow.Author.Needs.{needs}
+use Rattle.call_bytes.proofs.Replies.{replied-as}
+use Rattle.call_rows.proofs.wraps.wrap_segments.Statement.{statement}
+use Rattle.call_rows.proofs.wraps.wrap_segments.Tie as tie
+
+returns : tie.Need-returns
+returns c =
+    let s = c .before .before .before .before .segments-by .ensures in
+    (replied-as (s .answers) (c .reply .ensures), s .leaves)
+
+pub wrap-segments-spec : {M : Type 1} → statement M
+wrap-segments-spec =
+    tie.close (tie.spec (λ c κs. search needs) (λ c κs. search needs) (λ c. search needs) returns)

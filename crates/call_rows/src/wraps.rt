@@ -1,0 +1,95 @@
+// Segments of one row.
+use crate::tabs::told_column;
+use call_bytes::Told;
+use call_bytes::reply;
+use row_offsets::Segment;
+use row_wrap::Segments;
+use row_wrap::Wrap;
+ghost use mathlib.Core.Path.{_≡_};
+ghost use Rattle.call_bytes.specs.Reply.{Replied, told};
+ghost use Rattle.call_rows.specs.Wraps.{toldSegment, toldSegments, offset, segmentOf};
+ghost use Rattle.call_rows.specs.Wraps.{offsets as Wraps·offsets};
+ghost use Rattle.call_rows.specs.Wraps.{segmented, segmentsLeft, Segmented};
+
+fn told_segment(m: Segment) -> Told
+    ensures { λ r. ⌜ r ≡ toldSegment m ⌝ }
+{
+    match m {
+        Segment::At(n) => {
+            if n > 4294967295 {
+                return Told::Refused(103);
+            }
+            Told::Value(n as u32)
+        }
+        Segment::Refused(f) => Told::Refused(f),
+    }
+}
+
+fn told_segments(m: Segments) -> Told
+    ensures { λ r. ⌜ r ≡ toldSegments m ⌝ }
+{
+    match m {
+        Segments::Count(n) => Told::Value(n),
+        Segments::Refused(f) => Told::Refused(f),
+    }
+}
+
+// What a number stands for: 0 `char_col_for_visual_offset` of the segment from start to end, 1
+// `visual_offset_for_char_col`, which takes no end; 100 where it stands for none.
+fn offset_by(op: u32, row: &[u32], start: u32, end: u32, at: u32) -> Told
+    ensures { λ r. ⌜ r ≡ offset op start end at (now (row .entry)) ⌝ }
+{
+    match op {
+        0 => told_column(row_offsets::char_col_for_visual_offset(row, start, end, at)),
+        1 => told_column(row_offsets::visual_offset_for_char_col(row, start, at)),
+        _ => Told::Refused(100),
+    }
+}
+
+// Cells within a segment of a row of code points.
+pub fn offsets(op: u32, row: &[u32], start: u32, end: u32, at: u32, out: &mut [u32; 1]) -> u32
+    ensures { λ r. ⌜ Replied (Wraps·offsets op start end at (now (row .entry))) (now (out .entry)) r
+        (now (out .exit)) ⌝ }
+{
+    reply(offset_by(op, row, start, end, at), out)
+}
+
+// `segment_for_col` on numbers.
+pub fn segment_for_col(segments: &[u32], col: u32, out: &mut [u32; 1]) -> u32
+    ensures { λ r. ⌜ Replied (segmentOf col (now (segments .entry))) (now (out .entry)) r
+        (now (out .exit)) ⌝ }
+{
+    reply(
+        told_segment(row_offsets::segment_for_col(segments, col)),
+        out,
+    )
+}
+
+// `wrap_segments` by the number of a mode: 0 None, 1 Char, 2 Word; 100 for another.
+fn segments_by(mode: u32, row: &[u32], width: u16, segments: &mut [u32]) -> Told
+    ensures { λ r. ⌜ Segmented mode width (now (row .entry)) (now (segments .entry)) r
+        (now (segments .exit)) ⌝ }
+{
+    match mode {
+        0 => told_segments(row_wrap::wrap_segments(row, width, Wrap::None, segments)),
+        1 => told_segments(row_wrap::wrap_segments(row, width, Wrap::Char, segments)),
+        2 => told_segments(row_wrap::wrap_segments(row, width, Wrap::Word, segments)),
+        _ => Told::Refused(100),
+    }
+}
+
+// `wrap_segments` on code points.
+pub fn wrap_segments(
+    mode: u32,
+    row: &[u32],
+    width: u16,
+    segments: &mut [u32],
+    out: &mut [u32; 1],
+) -> u32
+    ensures { λ r. ⌜ Replied (told (segmented mode width (now (segments .entry))
+        (now (row .entry)))) (now (out .entry)) r (now (out .exit)) ⌝ }
+    ensures { λ _. ⌜ now (segments .exit) ≡ segmentsLeft mode width (now (segments .entry))
+        (now (row .entry)) ⌝ }
+{
+    reply(segments_by(mode, row, width, segments), out)
+}

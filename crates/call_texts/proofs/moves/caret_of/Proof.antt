@@ -1,0 +1,10 @@
+-- `moves::caret_of` meets its contract. Assumes nothing.
+use borrow.Author.Needs.{needs}
+use Rattle.call_texts.proofs.moves.caret_of.Statement.{statement}
+use Rattle.call_texts.proofs.moves.caret_of.Tie as tie
+
+returns : tie.Need-returns
+returns c = rw (c .sticky-of .ensures)
+
+pub caret-of-spec : {M : Type 1} → statement M
+caret-of-spec = tie.close (tie.spec (λ c κs. search needs) returns)

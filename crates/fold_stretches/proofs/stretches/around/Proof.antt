@@ -1,0 +1,34 @@
+-- `fold_stretches::stretches::around` meets its contract. The invariant of its loop: the folds before i hide no row of the stretch.
+-- The measure is the folds' length less i. Assumes nothing.
+use Prim.Native.Nat.{_+_, _-_, _≤_}
+use mathlib.Core.Path.{refl}
+use native.Mathlib.Omega.{arith}
+use lib.ListN.{length}
+use borrow.Author.Needs.{needs}
+use Rattle.fold_stretches.proofs.Asunder.{NoFoldTo, no-fold-step, no-fold-end}
+use Rattle.fold_stretches.proofs.stretches.around.Statement.{statement}
+use Rattle.fold_stretches.proofs.stretches.around.Tie as tie
+
+abbrev Inv-loop : tie.InvT-loop
+Inv-loop folds rows row w₀ i₀ w i = NoFoldTo folds w i × (i ≤ length folds + 2)
+
+abbrev μ-loop : tie.MeasureT-loop
+μ-loop folds rows row w₀ i₀ w i = length folds + 3 - i
+
+loop-holds : tie.Need-loop-holds Inv-loop μ-loop
+loop-holds c = (record { shown = λ row p q. refl }, omega arith)
+
+loop-again : tie.Need-loop-again Inv-loop μ-loop
+loop-again c =
+    let l = c .before .before .before .before in
+    (no-fold-step (l .before .loop .inv .0) (l .loop-test .taken) (c .apart .ensures), omega arith)
+
+returns : tie.Need-returns Inv-loop μ-loop
+returns c = no-fold-end (c .before .loop .inv .0) (omega arith)
+
+pub around-spec : {M : Type 1} → statement M
+around-spec =
+    tie.close
+    (tie.spec Inv-loop μ-loop loop-holds (λ c. search needs) (λ c. search needs) (λ c. search needs) (λ c. search needs) (λ c. search needs)
+    (λ c. search needs) (λ c. search needs) (λ c. search needs) (λ c. search needs) (λ c κs. search needs) (λ c. search needs)
+    (λ c. search needs) loop-again returns)

@@ -1,0 +1,84 @@
+-- `list_parts::numbers::digits` meets its contract. The invariant of its loop: the digits before i have the value `sum`, which is below 2^32,
+-- and reading on from them gives the number. The measure is the part's length less i. Assumes nothing.
+use Prim.Native.Nat.{_-_, _≤_}
+use mathlib.Core.Path.{_≡_, sym, _∙_}
+use native.Mathlib.Omega.{arith}
+use borrow.Author.Needs.{needs}
+use lib.ListN.{length, drop}
+use Rattle.list_parts.specs.Numbers.{digitsOf, numberFrom}
+use Rattle.list_parts.proofs.NumberLaws.{digits-none, digits-some, number-below, number-above, number-too-large, number-digit, number-end}
+use Rattle.list_parts.proofs.numbers.digits.Statement.{statement}
+use Rattle.list_parts.proofs.numbers.digits.Tie as tie
+
+abbrev Inv-loop : tie.InvT-loop
+Inv-loop p sum₀ i₀ sum i = (i ≤ length p) × (sum ≤ 0xffffffff) × (digitsOf p ≡ numberFrom sum (drop i p))
+
+abbrev μ-loop : tie.MeasureT-loop
+μ-loop p sum₀ i₀ sum i = length p - i
+
+returns : tie.Need-returns Inv-loop μ-loop
+returns c = digits-none (c .before .args .p .now) (c .if1 .taken)
+
+loop-holds : tie.Need-loop-holds Inv-loop μ-loop
+loop-holds c = (search needs, search needs, digits-some (c .before .args .p .now) (omega arith))
+
+-- below 0
+returns-2 : tie.Need-returns-2 Inv-loop μ-loop
+returns-2 c =
+    let l = c .before .before .before .loop in
+    number-below (c .before .before .before .before .before .args .p .now) l.i l.sum (c .before .before .loop-test .taken) (c .if2 .taken) ∙ sym (l.inv .2)
+
+-- above 9
+returns-3 : tie.Need-returns-3 Inv-loop μ-loop
+returns-3 c =
+    let l = c .before .before .before .before .loop in
+    number-above (c .before .before .before .before .before .before .args .p .now) l.i l.sum (c .before .before .before .loop-test .taken) (c .if3 .taken)
+    ∙ sym (l.inv .2)
+
+-- too large, and it stays so
+returns-4 : tie.Need-returns-4 Inv-loop μ-loop
+returns-4 c =
+    let l = c .before .before .before .before .before .loop in
+    number-too-large _ _ (c .if4 .taken)
+    ∙ sym
+    (l.inv .2
+    ∙ number-digit (c .before .before .before .before .before .before .before .args .p .now) l.i l.sum (omega arith)
+    (c .before .before .if2 .left) (c .before .if3 .left))
+
+-- one digit more
+loop-again : tie.Need-loop-again Inv-loop μ-loop
+loop-again c =
+    let l = c .before .before .before .before .before .loop in (
+      omega arith,
+      c .if4 .left,
+      l.inv .2
+          ∙ number-digit (c .before .before .before .before .before .before .before .args .p .now) l.i l.sum (omega arith)
+          (c .before .before .if2 .left) (c .before .if3 .left),
+    )
+
+returns-5 : tie.Need-returns-5 Inv-loop μ-loop
+returns-5 c =
+    let l = c .before .loop in
+    number-end (c .before .before .before .args .p .now) l.i l.sum (c .loop-test .left) (l.inv .1) ∙ sym (l.inv .2)
+
+pub digits-spec : {M : Type 1} → statement M
+digits-spec =
+    tie.close
+    (tie.spec
+    Inv-loop
+    μ-loop
+    returns
+    loop-holds
+    (λ c. search needs)
+    (λ c. search needs)
+    returns-2
+    returns-3
+    (λ c. search needs)
+    (λ c. search needs)
+    (λ c. search needs)
+    returns-4
+    (λ c. search needs)
+    (λ c. search needs)
+    loop-again
+    (λ c. search needs)
+    returns-5)

@@ -1,7 +1,0 @@
--- Laws of partners, which the proofs of this crate and of `pairing` cite.
-pub mod Sides
-pub mod Depth
-pub mod Deep
-pub mod Ahead
-pub mod Behind
-pub mod Placed

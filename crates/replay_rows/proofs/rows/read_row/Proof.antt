@@ -1,0 +1,115 @@
+-- `rows::read_row` meets its contract. The invariant of its loop, `Reading`: the numbers before i stand at the front of the room.
+-- The measure is the row's length less i. Assumes nothing.
+use Prim.Native.Nat.{_-_}
+use native.Mathlib.Omega.{arith}
+use borrow.Author.Needs.{needs}
+use borrow.Author.Tests.{not-true, not-false}
+use lib.ListN.{length}
+use Rattle.replay_rows.proofs.Reading.{Reading, read-unbegun, read-full, read-ended, read-spoilt, read-on, read-cut, read-whole}
+use Rattle.replay_rows.proofs.Reading.{reading-start, reading-malformed, reading-whole, reading-on, reading-ended}
+use Rattle.replay_rows.proofs.rows.read_row.Statement.{statement}
+use Rattle.replay_rows.proofs.rows.read_row.Tie as tie
+
+abbrev Inv-loop : tie.InvT-loop
+Inv-loop row room₀ n₀ r₀ i₀ room n r i = Reading row room₀ room n r i
+
+abbrev μ-loop : tie.MeasureT-loop
+μ-loop row room₀ n₀ r₀ i₀ room n r i = length row - i
+
+loop-holds : tie.Need-loop-holds Inv-loop μ-loop
+loop-holds c =
+    let a = c .before .before .before .args in
+    rw (c .fresh .ensures) (reading-start (a .row .now) (a .room .now))
+
+-- a number ends that has no digits
+returns : tie.Need-returns Inv-loop μ-loop
+returns c =
+    let l = c .before .before .before .before .before .before in
+    let a = l .before .before .before .before .args in
+    reading-malformed (l .loop .inv)
+    (read-unbegun (a .row .now) l.loop.i _ l.loop.r (omega arith) (c .before .before .before .if1 .taken) (not-true _ (c .if2 .taken)))
+
+-- there is too little room
+returns-2 : tie.Need-returns-2 Inv-loop μ-loop
+returns-2 c =
+    let l = c .before .before .before .before .before .before .before in
+    let a = l .before .before .before .before .args in
+    reading-malformed (l .loop .inv)
+    (read-full (a .row .now) l.loop.i _ l.loop.r (omega arith) (c .before .before .before .before .if1 .taken) (omega arith))
+
+fill-requires : tie.Need-fill-requires Inv-loop μ-loop
+fill-requires c κs = omega arith
+
+-- a number ends
+loop-again : tie.Need-loop-again Inv-loop μ-loop
+loop-again c =
+    let l = c .before .before .before .before .before .before .before .before .before .before .before .before in
+    let a = l .before .before .before .before .args in
+    let m = length (a .room .now) - l .loop .n in
+    let f = c .before .before .before .before .before .before in
+    let e = read-ended (a .row .now) l.loop.i m l.loop.r (omega arith) (f .before .before .before .if1 .taken) (not-false _ (f .if2 .left)) (omega arith) in
+    rw (c .fresh2 .ensures) (reading-ended (l .loop .inv) (omega arith) (c .before .before .before .fill .ensures) (omega arith) e)
+
+-- a byte that no number has there
+returns-3 : tie.Need-returns-3 Inv-loop μ-loop
+returns-3 c =
+    let l = c .before .before .before .before .before .before in
+    let a = l .before .before .before .before .args in
+    let p = c .before .before in
+    reading-malformed (l .loop .inv)
+    (read-spoilt (a .row .now) l.loop.i _ l.loop.r (omega arith) (p .before .if1 .left) (rw (← p .step .ensures) (not-true _ (c .if4 .taken))))
+
+-- a byte of a number
+loop-again-2 : tie.Need-loop-again-2 Inv-loop μ-loop
+loop-again-2 c =
+    let l = c .before .before .before .before .before .before in
+    let a = l .before .before .before .before .args in
+    let m = length (a .room .now) - l .loop .n in
+    let p = c .before .before in
+    let e = read-on (a .row .now) l.loop.i m l.loop.r (omega arith) (p .before .if1 .left) (rw (← p .step .ensures) (not-false _ (c .if4 .left))) in
+    rw (p .step .ensures) (reading-on (l .loop .inv) (omega arith) e)
+
+-- the row ends within a number
+returns-4 : tie.Need-returns-4 Inv-loop μ-loop
+returns-4 c =
+    let l = c .before .before .before in
+    let a = l .before .before .before .before .args in
+    reading-malformed (l .loop .inv) (read-cut (a .row .now) l.loop.i _ l.loop.r (c .before .before .loop-test .left) (c .if5 .taken))
+
+returns-5 : tie.Need-returns-5 Inv-loop μ-loop
+returns-5 c =
+    let l = c .before .before .before in
+    let a = l .before .before .before .before .args in
+    reading-whole (l .loop .inv) (read-whole (a .row .now) l.loop.i _ l.loop.r (c .before .before .loop-test .left) (c .if5 .left))
+
+pub read-row-spec : {M : Type 1} → statement M
+read-row-spec =
+    tie.close
+    (tie.spec
+    Inv-loop
+    μ-loop
+    (λ c κs. search needs)
+    loop-holds
+    (λ c. search needs)
+    (λ c. search needs)
+    (λ c. search needs)
+    returns
+    (λ c. search needs)
+    (λ c. search needs)
+    returns-2
+    fill-requires
+    (λ c. search needs)
+    (λ c κs. search needs)
+    (λ c. search needs)
+    (λ c. search needs)
+    loop-again
+    (λ c κs. search needs)
+    (λ c. search needs)
+    returns-3
+    (λ c. search needs)
+    (λ c. search needs)
+    loop-again-2
+    (λ c. search needs)
+    returns-4
+    (λ c. search needs)
+    returns-5)

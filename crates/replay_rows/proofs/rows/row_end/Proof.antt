@@ -1,0 +1,50 @@
+-- `rows::row_end` meets its contract. The invariant of its loop: the row ends no sooner than i. The measure is the length less i.
+-- Assumes nothing.
+use Prim.Native.Nat.{_+_, _-_, _≤_}
+use mathlib.Core.Path.{_≡_, refl}
+use native.Mathlib.Omega.{arith}
+use borrow.Author.Needs.{needs}
+use lib.ListN.{length, drop}
+use Rattle.replay_rows.specs.Rows.{rowLength}
+use Rattle.replay_rows.proofs.Reading.{row-end-here, row-end-on, row-end-cut}
+use Rattle.replay_rows.proofs.rows.row_end.Statement.{statement}
+use Rattle.replay_rows.proofs.rows.row_end.Tie as tie
+
+abbrev Inv-loop : tie.InvT-loop
+Inv-loop bytes at i₀ i = (i ≤ length bytes) × (at + rowLength (drop at bytes) ≡ i + rowLength (drop i bytes))
+
+abbrev μ-loop : tie.MeasureT-loop
+μ-loop bytes at i₀ i = length bytes - i
+
+-- the row's end stands at i
+returns : tie.Need-returns Inv-loop μ-loop
+returns c =
+    let l = c .before .before .before .loop in
+    omega (arith, row-end-here (c .before .before .before .before .args .bytes .now) l.i (omega arith) (c .if1 .taken))
+
+loop-again : tie.Need-loop-again Inv-loop μ-loop
+loop-again c =
+    let l = c .before .before .before .loop in
+    let e = row-end-on (c .before .before .before .before .args .bytes .now) l.i (omega arith) (c .if1 .left) in
+    (omega arith, omega (arith, l .inv .1, e))
+
+-- the bytes end
+returns-2 : tie.Need-returns-2 Inv-loop μ-loop
+returns-2 c =
+    let l = c .before .loop in
+    omega (arith, row-end-cut (c .before .before .args .bytes .now) l.i (c .loop-test .left))
+
+pub row-end-spec : {M : Type 1} → statement M
+row-end-spec =
+    tie.close
+    (tie.spec
+    Inv-loop
+    μ-loop
+    (λ c. (c .pre, refl))
+    (λ c. search needs)
+    (λ c. search needs)
+    returns
+    (λ c. search needs)
+    (λ c. search needs)
+    loop-again
+    returns-2)

@@ -1,0 +1,38 @@
+-- `row_cells::fitting` meets its contract. The invariant of its loop: the characters before i go into the room and leave `left` cells.
+-- The measure is the row's length less i. Assumes nothing.
+use borrow.Author.Needs.{needs}
+use Prim.Native.Nat.{_-_}
+use lib.ListN.{length}
+use native.Mathlib.Omega.{arith}
+use Rattle.chars.specs.Width.{widthBy}
+use Rattle.row_cells.proofs.Fits.{FitsTo, fits-next, fits-here, fits-end}
+use Rattle.row_cells.proofs.fitting.Statement.{statement}
+use Rattle.row_cells.proofs.fitting.Tie as tie
+
+abbrev Inv-loop : tie.InvT-loop
+Inv-loop zeros doubles row room left₀ i₀ left i = FitsTo (widthBy zeros doubles) room row i left
+
+abbrev μ-loop : tie.MeasureT-loop
+μ-loop zeros doubles row room left₀ i₀ left i = length row - i
+
+loop-holds : tie.Need-loop-holds Inv-loop μ-loop
+loop-holds c = record { inside = omega arith; rest = omega arith }
+
+returns : tie.Need-returns Inv-loop μ-loop
+returns c =
+    let l = c .before .before .before in
+    (fits-here (l .before .loop .inv) (l .loop-test .taken) (c .before .cells-of .ensures .0) (c .if1 .taken), omega arith)
+
+loop-again : tie.Need-loop-again Inv-loop μ-loop
+loop-again c =
+    let l = c .before .before .before in
+    fits-next (l .before .loop .inv) (l .loop-test .taken) (c .before .cells-of .ensures .0) (c .if1 .left)
+
+returns-2 : tie.Need-returns-2 Inv-loop μ-loop
+returns-2 c = (fits-end (c .before .loop .inv) (c .loop-test .left), omega arith)
+
+pub fitting-spec : {M : Type 1} → statement M
+fitting-spec =
+    tie.close
+    (tie.spec Inv-loop μ-loop loop-holds (λ c. search needs) (λ c. search needs) (λ c κs. search needs) returns
+    (λ c. search needs) (λ c. search needs) loop-again returns-2)

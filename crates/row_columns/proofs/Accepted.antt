@@ -1,0 +1,15 @@
+-- A row and a tabstop that are not refused are ready for the walks. Assumes nothing.
+use mathlib.Core.Path.{_≡_}
+use mathlib.Core.List.{List}
+use Prim.Native.Nat.{ℕ, _≤_}
+use lib.ListN.{length}
+use Rattle.chars.specs.Width.{Widths}
+use Rattle.row_tabs.specs.Cells.{stopOf}
+use Rattle.row_tabs.proofs.Accepted.{stop-near}
+use Rattle.row_columns.specs.Ready.{Ready}
+
+pub ready : {zeros doubles row : List ℕ} {tabstop tab : ℕ} → Widths zeros doubles → (length row ≤ 1048576) × (tabstop ≤ 1000) → tab ≡ stopOf tabstop →
+    Ready zeros doubles row tab
+ready {tabstop = tabstop} lent fit e =
+    let s = stop-near tabstop (fit .1) e in
+    record { tables = record { widths = lent; stops = s .0; near = s .1 }; brief = fit .0 }

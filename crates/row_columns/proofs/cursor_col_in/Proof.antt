@@ -1,0 +1,14 @@
+-- `row_columns::cursor_col_in` meets its contract. Assumes nothing.
+use borrow.Author.Needs.{needs}
+use Rattle.row_columns.proofs.Accepted.{ready}
+use Rattle.row_columns.proofs.cursor_col_in.Statement.{statement}
+use Rattle.row_columns.proofs.cursor_col_in.Tie as tie
+
+cursor-at-requires : tie.Need-cursor-at-requires
+cursor-at-requires c κs = let s = c .before .before .before .before in ready (s .pre .0) (s .pre .1) (c .stop-of .ensures)
+
+returns : tie.Need-returns
+returns c = rw (← c .before .stop-of .ensures) (c .cursor-at .ensures)
+
+pub cursor-col-in-spec : {M : Type 1} → statement M
+cursor-col-in-spec = tie.close (tie.spec (λ c κs. search needs) cursor-at-requires returns)

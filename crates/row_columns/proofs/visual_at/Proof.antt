@@ -1,0 +1,37 @@
+-- `row_columns::visual_at` meets its contract. The invariant of its loop: `visual` is the visual column of character i, and i has not passed `col`.
+-- The measure is the row's length less i. Assumes nothing.
+use borrow.Author.Needs.{needs}
+use Prim.Native.Nat.{_-_, _≤_}
+use lib.ListN.{length}
+use native.Mathlib.Omega.{arith}
+use Rattle.chars.specs.Width.{widthBy}
+use Rattle.row_columns.proofs.Visual.{VisualTo, visual-start, visual-on, visual-stop, visual-end}
+use Rattle.row_columns.proofs.visual_at.Statement.{statement}
+use Rattle.row_columns.proofs.visual_at.Tie as tie
+
+abbrev Inv-loop : tie.InvT-loop
+Inv-loop zeros doubles row col tab visual₀ i₀ visual i = VisualTo (widthBy zeros doubles) tab row i visual × (i ≤ col)
+
+abbrev μ-loop : tie.MeasureT-loop
+μ-loop zeros doubles row col tab visual₀ i₀ visual i = length row - i
+
+loop-holds : tie.Need-loop-holds Inv-loop μ-loop
+loop-holds c = (visual-start _ _ _, omega arith)
+
+returns : tie.Need-returns Inv-loop μ-loop
+returns c = visual-stop (c .before .before .loop .inv .0) _ (c .if1 .taken)
+
+loop-again : tie.Need-loop-again Inv-loop μ-loop
+loop-again c =
+    let l = c .before .before .before in
+    let w = c .cell-width .ensures in
+    (visual-on (l .before .loop .inv .0) (l .loop-test .taken) (w .0) (w .1), omega arith)
+
+returns-2 : tie.Need-returns-2 Inv-loop μ-loop
+returns-2 c = visual-end (c .before .loop .inv .0) _ (c .loop-test .left) (c .before .loop .inv .1)
+
+pub visual-at-spec : {M : Type 1} → statement M
+visual-at-spec =
+    tie.close
+    (tie.spec Inv-loop μ-loop loop-holds returns (λ c. search needs) (λ c. search needs) (λ c κs. search needs)
+    (λ c. search needs) (λ c. search needs) (λ c. search needs) loop-again returns-2)

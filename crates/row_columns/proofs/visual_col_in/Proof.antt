@@ -1,0 +1,14 @@
+-- `row_columns::visual_col_in` meets its contract. Assumes nothing.
+use borrow.Author.Needs.{needs}
+use Rattle.row_columns.proofs.Accepted.{ready}
+use Rattle.row_columns.proofs.visual_col_in.Statement.{statement}
+use Rattle.row_columns.proofs.visual_col_in.Tie as tie
+
+visual-at-requires : tie.Need-visual-at-requires
+visual-at-requires c κs = let s = c .before .before .before .before in ready (s .pre .0) (s .pre .1) (c .stop-of .ensures)
+
+returns : tie.Need-returns
+returns c = rw (← c .before .stop-of .ensures) (c .visual-at .ensures)
+
+pub visual-col-in-spec : {M : Type 1} → statement M
+visual-col-in-spec = tie.close (tie.spec (λ c κs. search needs) visual-at-requires returns)

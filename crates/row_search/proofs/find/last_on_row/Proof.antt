@@ -1,0 +1,44 @@
+-- `row_search::find::last_on_row` meets its contract. The invariant of its loop: the last match before the column is the last before i.
+-- The measure is i. Assumes nothing.
+use Prim.Native.Nat.{_≤_}
+use mathlib.Core.Path.{_≡_, refl, sym, _∙_}
+use native.Mathlib.Omega.{arith}
+use lib.ListN.{length}
+use borrow.Author.Needs.{needs}
+use borrow.Author.Tests.{eq-eqb, ne-eqb}
+use Rattle.row_search.specs.Nearest.{lastBelow}
+use Rattle.row_search.specs.Find.{is}
+use Rattle.row_search.proofs.Nearest.{last-on, last-stop, last-end}
+use Rattle.row_search.proofs.find.last_on_row.Statement.{statement}
+use Rattle.row_search.proofs.find.last_on_row.Tie as tie
+
+abbrev Inv-loop : tie.InvT-loop
+Inv-loop row upto sought i₀ i = (i ≤ length row) × (lastBelow (is row sought) upto ≡ lastBelow (is row sought) i)
+
+abbrev μ-loop : tie.MeasureT-loop
+μ-loop row upto sought i₀ i = i
+
+loop-holds : tie.Need-loop-holds Inv-loop μ-loop
+loop-holds c = (omega arith, refl)
+
+returns : tie.Need-returns Inv-loop μ-loop
+returns c =
+    let k = c .before .before in
+    let a = k .before .before .args in
+    sym (k .before .loop .inv .1 ∙ last-stop (is (a .row .now) (a .sought)) _ (k .loop-test .taken) (eq-eqb _ _ (c .if1 .taken)))
+
+loop-again : tie.Need-loop-again Inv-loop μ-loop
+loop-again c =
+    let k = c .before .before in
+    let a = k .before .before .args in
+    (omega arith, k .before .loop .inv .1 ∙ last-on (is (a .row .now) (a .sought)) _ (k .loop-test .taken) (ne-eqb _ _ (c .if1 .left)))
+
+returns-2 : tie.Need-returns-2 Inv-loop μ-loop
+returns-2 c =
+    let a = c .before .before .args in
+    sym (c .before .loop .inv .1 ∙ last-end (is (a .row .now) (a .sought)) _ (c .loop-test .left))
+
+pub last-on-row-spec : {M : Type 1} → statement M
+last-on-row-spec =
+    tie.close
+    (tie.spec Inv-loop μ-loop loop-holds (λ c. search needs) (λ c. search needs) (λ c. search needs) returns (λ c. search needs) loop-again returns-2)

@@ -1,0 +1,31 @@
+-- The first segment as `first_segment` finds it. Assumes nothing.
+use mathlib.Core.Path.{_≡_, sym, ap, _∙_}
+use mathlib.Core.List.{List}
+use mathlib.Core.Bool.{Bool, true, false}
+use Prim.Native.Nat.{ℕ, _≤_, _<_}
+use native.Mathlib.Omega.{arith}
+use lib.ListN.{length}
+use Rattle.row_segment.specs.Segments.{afterWhite, charSegment, firstSegment}
+use Rattle.row_segment.proofs.White.{white-last}
+use Rattle.row_segment.proofs.First.{first-char, first-end, first-none, first-word}
+
+-- n characters by a break by characters, and k after the last white space of those
+module _ (w : ℕ → ℕ) (white : ℕ → Bool) (word : Bool) (width : ℕ) (row : List ℕ) {n : ℕ} (is : n ≡ charSegment w width row) where
+  pub found-char : word ≡ false → n ≡ firstSegment w white word width row
+  found-char e = is ∙ sym (first-char w white word width row e)
+
+  pub found-end : n ≡ length row → n ≡ firstSegment w white word width row
+  found-end e = is ∙ sym (first-end w white word width row (omega arith))
+
+  module _ {k : ℕ} (last : k ≡ afterWhite white row n) where
+    last-is : k ≡ afterWhite white row (charSegment w width row)
+    last-is = last ∙ ap (afterWhite white row) is
+
+    pub found-none : k ≡ 0 → n ≡ firstSegment w white word width row
+    found-none e = is ∙ sym (first-none w white word width row (sym last-is ∙ e))
+
+    pub found-word : word ≡ true → n < length row → (k ≡ 0 → ⊥) → (k ≡ firstSegment w white word width row) × ((0 < k) × (k ≤ length row))
+    found-word e h p =
+        let l = last-is in
+        let b = white-last white row n (omega arith) .within in
+        (l ∙ sym (first-word w white word width row e (omega arith) (omega arith)), (omega arith, omega arith))

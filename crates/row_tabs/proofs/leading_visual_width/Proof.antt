@@ -1,0 +1,29 @@
+-- `row_tabs::leading_visual_width` meets its contract: a refusal is handed on, and what is not refused is ready for the walk. Assumes nothing.
+use borrow.Author.Needs.{needs}
+use Prim.Native.Nat.{ℕ}
+use mathlib.Core.Path.{ap, _∙_}
+use Rattle.row_tabs.proofs.Accepted.{brief, stops}
+use Rattle.row_tabs.specs.Indents.{leadingFrom}
+use Rattle.row_check.proofs.Answers.{answer-refused, answer-at}
+use Rattle.row_tabs.proofs.leading_visual_width.Statement.{statement}
+use Rattle.row_tabs.proofs.leading_visual_width.Tie as tie
+
+returns : tie.Need-returns
+returns c = answer-refused _ (c .before .refused .ensures) (c .if1 .taken)
+
+leading-at-requires : tie.Need-leading-at-requires
+leading-at-requires c κs =
+    let r = c .before .before .refused .ensures in
+    let n = c .before .if1 .left in
+    (brief _ _ r n, stops _ _ r n (c .stop-of .ensures))
+
+returns-2 : tie.Need-returns-2
+returns-2 c =
+    let s = c .before in
+    answer-at (s .before .before .refused .ensures) (s .before .if1 .left)
+    (c .leading-at .ensures ∙ ap (λ (t : ℕ). leadingFrom t 0 (s .before .before .before .before .args .row .now)) (s .stop-of .ensures))
+
+pub leading-visual-width-spec : {M : Type 1} → statement M
+leading-visual-width-spec =
+    tie.close
+    (tie.spec (λ c κs. search needs) returns (λ c κs. search needs) leading-at-requires returns-2)

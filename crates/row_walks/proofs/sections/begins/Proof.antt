@@ -1,0 +1,25 @@
+-- `row_walks::sections::begins` meets its contract: the code point at the row's start tells.
+-- Assumes nothing.
+use mathlib.Core.Path.{sym}
+use native.Mathlib.Omega.{arith}
+use borrow.Author.Needs.{needs}
+use Rattle.text.proofs.At.{at-start}
+use Rattle.row_walks.proofs.Marks.{begins-end, begins-is}
+use Rattle.row_walks.proofs.sections.begins.Statement.{statement}
+use Rattle.row_walks.proofs.sections.begins.Tie as tie
+
+returns : tie.Need-returns
+returns c =
+    let s = c .before in
+    let p = s .pre .0 in
+    sym (begins-end (s .args .x) (at-start (s .args .t .now) (s .args .l .row) (p .in-row)) (omega (arith, p .begins, c .if1 .taken)))
+
+returns-2 : tie.Need-returns-2
+returns-2 c =
+    let s = c .before .before in
+    let p = s .pre .0 in
+    rw (p .begins)
+    (sym (begins-is (s .args .x) (at-start (s .args .t .now) (s .args .l .row) (p .in-row)) (omega (arith, p .begins, c .before .if1 .left)) (s .pre .1)))
+
+pub begins-spec : {M : Type 1} → statement M
+begins-spec = tie.close (tie.spec returns (λ c. search needs) (λ c. search needs) returns-2)

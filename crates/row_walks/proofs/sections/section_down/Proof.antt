@@ -1,0 +1,101 @@
+-- `row_walks::sections::section_down` meets its contract. The invariant of its loop: what is left to be found from the walk's row on leads where all of it does.
+-- The measure is the rows below. Assumes nothing.
+use Prim.Native.Nat.{_-_}
+use mathlib.Core.Path.{_≡_, ap, sym, _∙_}
+use native.Mathlib.Omega.{arith}
+use borrow.Author.Needs.{needs}
+use Rattle.text.specs.Text.{contentRows}
+use Rattle.text.specs.Offsets.{Stands}
+use Rattle.text.specs.declared.Line.{Line}
+use Rattle.text.proofs.Stands.{line-there}
+use Rattle.row_walks.specs.Sections.{sectionDown}
+use Rattle.row_walks.proofs.Marks.{down-none, down-done, down-step, has-next}
+use Rattle.row_walks.proofs.sections.section_down.Statement.{statement}
+use Rattle.row_walks.proofs.sections.section_down.Tie as tie
+
+abbrev Inv-loop : tie.InvT-loop
+Inv-loop t last x n row₀ start₀ left₀ row start left =
+    Stands t row start start × (last ≡ contentRows t - 1) × (x ≡ 10 → ⊥) ×
+    (sectionDown t x n row₀ (contentRows t - 1 - row₀) ≡ sectionDown t x left row (last - row))
+
+abbrev μ-loop : tie.MeasureT-loop
+μ-loop t last x n row₀ start₀ left₀ row start left = last - row
+
+loop-holds : tie.Need-loop-holds Inv-loop μ-loop
+loop-holds c =
+    let p = c .before .pre in
+    (p .0, p .1, p .2, rw (p .1))
+
+returns : tie.Need-returns Inv-loop μ-loop
+returns c =
+    let l = c .before .before in
+    let a = l .before .before .args in
+    let v = l .loop .inv in (
+      sym (v .3 ∙ down-done (a .t .now) (a .x) (l .loop .left) (l .loop .row) _ (omega (arith, c .if1 .taken))),
+      omega (arith, v .0 .below, v .0 .within),
+    )
+
+next-line-requires : tie.Need-next-line-requires Inv-loop μ-loop
+next-line-requires c κs =
+    let l = c .before .before in
+    let v = l .loop .inv in
+    (v .0, has-next (l .before .before .args .t .now) (l .loop .row) _ (v .1) (c .before .loop-test .taken))
+
+begins-requires : tie.Need-begins-requires Inv-loop μ-loop
+begins-requires c κs =
+    let l = c .before .before .before in
+    let t = l .before .before .args .t .now in
+    let v = l .loop .inv in
+    (line-there t (c .next-line .result) _ (c .next-line .ensures) (has-next t (l .loop .row) _ (v .1) (c .before .before .loop-test .taken)), v .2)
+
+loop-less : tie.Need-loop-less Inv-loop μ-loop
+loop-less c = omega (arith, ap (λ (l : Line). l .row) (c .before .before .next-line .ensures), c .before .before .before .before .loop-test .taken)
+
+-- the row below begins with the mark, or it does not
+loop-again : tie.Need-loop-again Inv-loop μ-loop
+loop-again c =
+    let d = c .before .before in
+    let more = d .before .before .loop-test .taken in
+    let l = d .before .before .before in
+    let a = l .before .before .args in
+    let v = l .loop .inv in
+    let down = ap (λ (l : Line). l .row) (d .next-line .ensures) in (
+      line-there (a .t .now) (d .next-line .result) _ (d .next-line .ensures) (has-next (a .t .now) (l .loop .row) _ (v .1) more),
+      v .1,
+      v .2,
+      v .3 ∙ down-step (a .t .now) (a .x) (l .loop .left) (l .loop .row) (a .last) _ (omega (arith, d .before .if1 .left)) more down ∙
+          rw (sym (c .before .begins .ensures) ∙ c .if2 .taken),
+    )
+
+loop-less-2 : tie.Need-loop-less-2 Inv-loop μ-loop
+loop-less-2 c = omega (arith, ap (λ (l : Line). l .row) (c .before .before .next-line .ensures), c .before .before .before .before .loop-test .taken)
+
+loop-again-2 : tie.Need-loop-again-2 Inv-loop μ-loop
+loop-again-2 c =
+    let d = c .before .before in
+    let more = d .before .before .loop-test .taken in
+    let l = d .before .before .before in
+    let a = l .before .before .args in
+    let v = l .loop .inv in
+    let down = ap (λ (l : Line). l .row) (d .next-line .ensures) in (
+      line-there (a .t .now) (d .next-line .result) _ (d .next-line .ensures) (has-next (a .t .now) (l .loop .row) _ (v .1) more),
+      v .1,
+      v .2,
+      v .3 ∙ down-step (a .t .now) (a .x) (l .loop .left) (l .loop .row) (a .last) _ (omega (arith, d .before .if1 .left)) more down ∙
+          rw (sym (c .before .begins .ensures) ∙ c .if2 .left),
+    )
+
+returns-2 : tie.Need-returns-2 Inv-loop μ-loop
+returns-2 c =
+    let l = c .before in
+    let a = l .before .before .args in
+    let v = l .loop .inv in (
+      sym (v .3 ∙ down-none (a .t .now) (a .x) (l .loop .left) (l .loop .row) _ (omega (arith, c .loop-test .left))),
+      omega (arith, v .0 .below, v .0 .within),
+    )
+
+pub section-down-spec : {M : Type 1} → statement M
+section-down-spec =
+    tie.close
+    (tie.spec Inv-loop μ-loop loop-holds returns next-line-requires begins-requires (λ c. search needs) loop-less loop-again loop-less-2
+    loop-again-2 returns-2)

@@ -1,0 +1,78 @@
+-- `row_walks::sections::section_up` meets its contract. The invariant of its loop: what is left to be found from the walk's row on leads where all of it does.
+-- The measure is the row. Assumes nothing.
+use mathlib.Core.Path.{_≡_, ap, sym, _∙_}
+use native.Mathlib.Omega.{arith}
+use borrow.Author.Needs.{needs}
+use Rattle.text.specs.Offsets.{Stands}
+use Rattle.text.specs.declared.Line.{Line}
+use Rattle.text.proofs.Stands.{line-there}
+use Rattle.row_walks.specs.Sections.{sectionUp}
+use Rattle.row_walks.proofs.Marks.{up-none, up-done, up-step}
+use Rattle.row_walks.proofs.sections.section_up.Statement.{statement}
+use Rattle.row_walks.proofs.sections.section_up.Tie as tie
+
+abbrev Inv-loop : tie.InvT-loop
+Inv-loop t x n row₀ start₀ left₀ row start left = Stands t row start start × (x ≡ 10 → ⊥) × (sectionUp t x n row₀ ≡ sectionUp t x left row)
+
+abbrev μ-loop : tie.MeasureT-loop
+μ-loop t x n row₀ start₀ left₀ row start left = row
+
+returns : tie.Need-returns Inv-loop μ-loop
+returns c =
+    let l = c .before .before in
+    let a = l .before .before .args in (
+      sym (l .loop .inv .2 ∙ up-done (a .t .now) (a .x) (l .loop .left) (l .loop .row) (c .if1 .taken)),
+      omega (arith, l .loop .inv .0 .below, l .loop .inv .0 .within),
+    )
+
+begins-requires : tie.Need-begins-requires Inv-loop μ-loop
+begins-requires c κs =
+    let l = c .before .before .before in
+    (line-there (l .before .before .args .t .now) (c .prev-line .result) _ (c .prev-line .ensures) (omega (arith, l .loop .inv .0 .in-row)), l .loop .inv .1)
+
+loop-less : tie.Need-loop-less Inv-loop μ-loop
+loop-less c = omega (arith, ap (λ (l : Line). l .row) (c .before .before .prev-line .ensures))
+
+-- the row above begins with the mark, or it does not
+loop-again : tie.Need-loop-again Inv-loop μ-loop
+loop-again c =
+    let u = c .before .before in
+    let l = u .before .before .before in
+    let a = l .before .before .args in
+    let up = ap (λ (l : Line). l .row) (u .prev-line .ensures) in (
+      line-there (a .t .now) (u .prev-line .result) _ (u .prev-line .ensures) (omega (arith, l .loop .inv .0 .in-row)),
+      l .loop .inv .1,
+      l .loop .inv .2 ∙
+          up-step (a .t .now) (a .x) (l .loop .left) (l .loop .row) _ (omega (arith, u .before .if1 .left)) (u .before .before .loop-test .taken) up ∙
+          rw (sym (c .before .begins .ensures) ∙ c .if2 .taken),
+    )
+
+loop-less-2 : tie.Need-loop-less-2 Inv-loop μ-loop
+loop-less-2 c = omega (arith, ap (λ (l : Line). l .row) (c .before .before .prev-line .ensures))
+
+loop-again-2 : tie.Need-loop-again-2 Inv-loop μ-loop
+loop-again-2 c =
+    let u = c .before .before in
+    let l = u .before .before .before in
+    let a = l .before .before .args in
+    let up = ap (λ (l : Line). l .row) (u .prev-line .ensures) in (
+      line-there (a .t .now) (u .prev-line .result) _ (u .prev-line .ensures) (omega (arith, l .loop .inv .0 .in-row)),
+      l .loop .inv .1,
+      l .loop .inv .2 ∙
+          up-step (a .t .now) (a .x) (l .loop .left) (l .loop .row) _ (omega (arith, u .before .if1 .left)) (u .before .before .loop-test .taken) up ∙
+          rw (sym (c .before .begins .ensures) ∙ c .if2 .left),
+    )
+
+returns-2 : tie.Need-returns-2 Inv-loop μ-loop
+returns-2 c =
+    let l = c .before in
+    let a = l .before .before .args in (
+      sym (l .loop .inv .2 ∙ up-none (a .t .now) (a .x) (l .loop .left) (l .loop .row) (c .loop-test .left)),
+      omega (arith, l .loop .inv .0 .below, l .loop .inv .0 .within),
+    )
+
+pub section-up-spec : {M : Type 1} → statement M
+section-up-spec =
+    tie.close
+    (tie.spec Inv-loop μ-loop (λ c. search needs) returns (λ c κs. search needs) begins-requires
+    (λ c. search needs) loop-less loop-again loop-less-2 loop-again-2 returns-2)

@@ -1,0 +1,48 @@
+-- `row_wrap::breaks::write_segments` meets its contract. The invariant of its loop: the first `at` numbers of the
+-- segments stand in the room, and the next segment begins at `start`. The measure is the row's length less `start`. Assumes nothing.
+use borrow.Author.Needs.{needs}
+use Prim.Native.Nat.{_-_}
+use lib.ListN.{length}
+use native.Mathlib.Omega.{arith}
+use Rattle.chars.specs.White.{isWhite}
+use Rattle.chars.specs.Width.{widthBy}
+use Rattle.row_wrap.proofs.Room.{FilledTo, filled-start, filled-two, filled-end}
+use Rattle.row_wrap.proofs.Walk.{SegmentsTo, walk-start, walk-next, walk-end}
+use Rattle.row_wrap.specs.Calls.{rowSegments}
+use Rattle.row_wrap.proofs.breaks.write_segments.Statement.{statement}
+use Rattle.row_wrap.proofs.breaks.write_segments.Tie as tie
+
+abbrev Inv-loop : tie.InvT-loop
+Inv-loop zeros doubles white row width word out₀ at₀ start₀ out at start =
+    SegmentsTo (widthBy zeros doubles) isWhite word width row at start × FilledTo (rowSegments (widthBy zeros doubles) word width row) out₀ at out
+
+abbrev μ-loop : tie.MeasureT-loop
+μ-loop zeros doubles white row width word out₀ at₀ start₀ out at start = length row - start
+
+loop-holds : tie.Need-loop-holds Inv-loop μ-loop
+loop-holds c = (walk-start _ _ _ _ _, filled-start _ _)
+
+put-segment-requires : tie.Need-put-segment-requires Inv-loop μ-loop
+put-segment-requires c κs =
+    let l = c .before .before .before in
+    let i = l .before .loop .inv in
+    let n = walk-next (i .0) (l .loop-test .taken) (c .before .first-segment .ensures .0) in
+    (omega (arith, n .there, i .1 .size), (omega arith, omega (arith, n .onward .inside)))
+
+loop-again : tie.Need-loop-again Inv-loop μ-loop
+loop-again c =
+    let l = c .before .before .before .before .before .before in
+    let i = l .before .loop .inv in
+    let n = walk-next (i .0) (l .loop-test .taken) (c .before .before .before .before .first-segment .ensures .0) in
+    let fit = l .before .before .before .before .before .before .before .pre .1 in
+    (n .onward, rw (c .before .before .put-segment .ensures) (filled-two (i .1) (n .there) fit (n .first) (n .second)))
+
+returns : tie.Need-returns Inv-loop μ-loop
+returns c = filled-end (c .before .loop .inv .1) (walk-end (c .before .loop .inv .0) (c .loop-test .left))
+
+pub write-segments-spec : {M : Type 1} → statement M
+write-segments-spec =
+    tie.close
+    (tie.spec Inv-loop μ-loop loop-holds (λ c. search needs) (λ c. search needs) (λ c. search needs)
+    (λ c. search needs) (λ c κs. search needs) (λ c. search needs) put-segment-requires (λ c. search needs)
+    (λ c. search needs) loop-again (λ c. search needs) returns)

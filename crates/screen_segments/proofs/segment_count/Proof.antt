@@ -1,0 +1,17 @@
+-- `screen_segments::segment_count` meets its contract: the last segment tells how many there are. Assumes nothing.
+use native.Mathlib.Omega.{arith}
+use borrow.Author.Needs.{needs}
+use Rattle.chars.specs.Width.{widthBy}
+use Rattle.screen_segments.proofs.Finding.{last-counts}
+use Rattle.screen_segments.proofs.segment_count.Statement.{statement}
+use Rattle.screen_segments.proofs.segment_count.Tie as tie
+
+returns : tie.Need-returns
+returns c =
+    let f = c .before in
+    let a = f .before .before .before .before .before .args in
+    let w = widthBy (a .zeros .now) (a .doubles .now) in
+    (last-counts w (a .word) (a .width) (a .row .now) (f .find-segment .result) (f .find-segment .ensures .0), omega arith)
+
+pub segment-count-spec : {M : Type 1} → statement M
+segment-count-spec = tie.close (tie.spec (λ c κs. search needs) (λ c. search needs) returns)

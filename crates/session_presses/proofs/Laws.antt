@@ -1,0 +1,14 @@
+-- A law of keys: an empty one is unknown. Assumes nothing.
+use mathlib.Core.Path.{_≡_, refl}
+use mathlib.Core.List.{List, []}
+use Prim.Native.Nat.{ℕ}
+use Rattle.lists.specs.Codes.{codes}
+use Rattle.lists.specs.Lists.{isSame}
+use Rattle.motions.specs.declared.Caret.{Caret}
+use Rattle.motions.specs.declared.Moved.the-variants.{Refused}
+use Rattle.session_keys.specs.Keys.{twoBytes, wordKeys, lineKeys, placeKeys, found}
+use Rattle.session_presses.specs.Pressed.{does, pressed}
+
+pub pressed-none : (t : List ℕ) (n : ℕ) (k : Caret) → pressed [] t n k ≡ Refused 0
+unfolding pressed does found isSame codes twoBytes wordKeys lineKeys placeKeys
+pressed-none t n k = refl

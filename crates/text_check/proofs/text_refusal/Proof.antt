@@ -1,0 +1,88 @@
+-- `text_check::text_refusal` meets its contract. The invariant of its loop: what was found so far, or is still to be found, is what the text holds.
+-- The measure is the text's length less i. Assumes nothing.
+use Prim.Native.Nat.{_+_, _≤_, _-_}
+use mathlib.Core.Path.{_≡_, ap, _∙_}
+use mathlib.Core.Bool.{_||_}
+use lib.ListN.{length, drop}
+use borrow.Author.Needs.{needs}
+use borrow.Author.Tests.{lt-ltb, eq-eqb, ne-eqb}
+use Rattle.lists.specs.Lists.{any}
+use Rattle.lists.proofs.Any.{any-on, any-end}
+use Rattle.text_check.specs.Accept.{isHigh, isLow, textRefusal}
+use Rattle.text_check.proofs.Accepted.{each-its-own, by-passes}
+use Rattle.text_check.proofs.text_refusal.Statement.{statement}
+use Rattle.text_check.proofs.text_refusal.Tie as tie
+
+abbrev Inv-loop : tie.InvT-loop
+Inv-loop t high₀ feed₀ next₀ i₀ high feed next i =
+    (i ≤ length t) × (any isHigh t ≡ (high || any isHigh (drop i t))) × (any isLow t ≡ ((feed || next) || any isLow (drop i t)))
+
+abbrev μ-loop : tie.MeasureT-loop
+μ-loop t high₀ feed₀ next₀ i₀ high feed next i = length t - i
+
+returns : tie.Need-returns Inv-loop μ-loop
+unfolding textRefusal
+returns c = rw (lt-ltb _ _ (c .if1 .taken))
+
+loop-again : tie.Need-loop-again Inv-loop μ-loop
+loop-again c =
+    let k = c .before .before in
+    let t = k .before .before .before .args .t .now in
+    let i = k .loop .i in
+    let more = c .before .loop-test .taken in
+    let found = k .loop .feed || k .loop .next in (
+      search needs,
+      any-on isHigh t i (k .loop .high) more (k .loop .inv .1),
+      any-on isLow t i found more (k .loop .inv .2) ∙ ap (λ b. b || any isLow (drop (i + 1) t)) (each-its-own (k .loop .feed) (k .loop .next) _ _),
+    )
+
+returns-2 : tie.Need-returns-2 Inv-loop μ-loop
+returns-2 c =
+    let k = c .before .before .before in
+    let t = k .before .before .before .args .t .now in
+    let found = any-end isHigh t (k .loop .i) (k .loop .high) (c .before .before .loop-test .left) (k .loop .inv .1) in
+    rw (by-passes t (k .before .if1 .left) _ (c .before .high-refusal .ensures ∙ rw found), ne-eqb _ 0 (c .if2 .taken))
+
+returns-3 : tie.Need-returns-3 Inv-loop μ-loop
+returns-3 c =
+    let k = c .before .before .before .before in
+    let t = k .before .before .before .args .t .now in
+    let done = c .before .before .before .loop-test .left in
+    let found = any-end isHigh t (k .loop .i) (k .loop .high) done (k .loop .inv .1) in
+    rw (
+      by-passes t (k .before .if1 .left) _ (c .before .before .high-refusal .ensures ∙ rw found),
+      eq-eqb _ 0 (c .before .if2 .left),
+      any-end isLow t (k .loop .i) (k .loop .feed || k .loop .next) done (k .loop .inv .2),
+      c .if3 .taken,
+    )
+
+returns-4 : tie.Need-returns-4 Inv-loop μ-loop
+returns-4 c =
+    let k = c .before .before .before .before in
+    let t = k .before .before .before .args .t .now in
+    let done = c .before .before .before .loop-test .left in
+    let found = any-end isHigh t (k .loop .i) (k .loop .high) done (k .loop .inv .1) in
+    rw (
+      by-passes t (k .before .if1 .left) _ (c .before .before .high-refusal .ensures ∙ rw found),
+      eq-eqb _ 0 (c .before .if2 .left),
+      any-end isLow t (k .loop .i) (k .loop .feed || k .loop .next) done (k .loop .inv .2),
+      c .if3 .left,
+    )
+
+pub text-refusal-spec : {M : Type 1} → statement M
+text-refusal-spec =
+    tie.close
+    (tie.spec
+    Inv-loop
+    μ-loop
+    returns
+    (λ c. search needs)
+    (λ c. search needs)
+    (λ c. search needs)
+    (λ c. search needs)
+    (λ c. search needs)
+    loop-again
+    (λ c κs. search needs)
+    returns-2
+    returns-3
+    returns-4)

@@ -1,0 +1,34 @@
+-- `visible_rows::rows::free_rows` meets its contract. The invariant of its loop: the folds before i hide none of the next `free` rows.
+-- The measure is the folds' length less i. Assumes nothing.
+use Prim.Native.Nat.{_+_, _-_, _≤_}
+use mathlib.Core.Path.{refl}
+use native.Mathlib.Omega.{arith}
+use borrow.Author.Needs.{needs}
+use lib.ListN.{length}
+use Rattle.visible_rows.proofs.Free.{FreeTo, free-step, free-end}
+use Rattle.visible_rows.proofs.rows.free_rows.Statement.{statement}
+use Rattle.visible_rows.proofs.rows.free_rows.Tie as tie
+
+abbrev Inv-loop : tie.InvT-loop
+Inv-loop folds rows down row free₀ i₀ free i = FreeTo folds rows down row free i × (i ≤ length folds + 2)
+
+abbrev μ-loop : tie.MeasureT-loop
+μ-loop folds rows down row free₀ i₀ free i = length folds + 3 - i
+
+loop-holds : tie.Need-loop-holds Inv-loop μ-loop
+loop-holds c = (record { within = omega (arith, c .rows-beyond .ensures); shown = λ k p l. refl }, omega arith)
+
+loop-again : tie.Need-loop-again Inv-loop μ-loop
+loop-again c =
+    let l = c .before .before .before .before in
+    (free-step (l .before .loop .inv .0) (l .loop-test .taken) (c .clear-of .ensures), omega arith)
+
+returns : tie.Need-returns Inv-loop μ-loop
+returns c = free-end (c .before .loop .inv .0) (omega arith)
+
+pub free-rows-spec : {M : Type 1} → statement M
+free-rows-spec =
+    tie.close
+    (tie.spec Inv-loop μ-loop (λ c κs. search needs) loop-holds (λ c. search needs) (λ c. search needs)
+    (λ c. search needs) (λ c. search needs) (λ c. search needs) (λ c. search needs) (λ c. search needs)
+    (λ c. search needs) (λ c. search needs) (λ c κs. search needs) (λ c. search needs) (λ c. search needs) loop-again returns)

@@ -1,0 +1,103 @@
+-- `visible_rows::rows::rows_on` meets its contract. The invariant of its loop: the n rounds from the first row are the `left` rounds from r.
+-- The measure is `left`. Assumes nothing.
+use Prim.Native.Nat.{_<_}
+use mathlib.Core.Path.{_≡_, refl, sym, ap, _∙_}
+use native.Mathlib.Omega.{arith}
+use borrow.Author.Needs.{needs}
+use Rattle.lists.specs.Rounds.{rounds}
+use Rattle.visible_rows.specs.Visible.{stepRow, toward}
+use Rattle.lists.proofs.Rounds.{rounds-none}
+use Rattle.visible_rows.proofs.Visible.{toward-within, shift-within, shift-small, free-rounds, free-hop, free-edge}
+use Rattle.visible_rows.proofs.rows.rows_on.Statement.{statement}
+use Rattle.visible_rows.proofs.rows.rows_on.Tie as tie
+
+abbrev Inv-loop : tie.InvT-loop
+Inv-loop folds rows down row n r₀ left₀ r left = (rounds (stepRow folds rows down) n row ≡ rounds (stepRow folds rows down) left r) × (r < rows)
+
+abbrev μ-loop : tie.MeasureT-loop
+μ-loop folds rows down row n r₀ left₀ r left = left
+
+loop-holds : tie.Need-loop-holds Inv-loop μ-loop
+loop-holds c = (refl, c .before .pre .1)
+
+-- the rows that no fold hides are the text's
+shifted-requires : tie.Need-shifted-requires Inv-loop μ-loop
+shifted-requires c κs =
+    let f = c .before in
+    let l = f .before .before in
+    let s = l .before .before in
+    omega (
+      arith,
+      shift-small (s .args .down) (s .args .rows) (l .loop .r) (f .free-rows .result) (l .loop .inv .1) (f .free-rows .ensures .within),
+      c .if1 .taken,
+      s .pre .2,
+    )
+
+returns : tie.Need-returns Inv-loop μ-loop
+returns c =
+    let f = c .before .before in
+    let l = f .before .before in
+    let s = l .before .before in (
+      c .shifted .ensures ∙ sym (l .loop .inv .0 ∙ free-rounds (f .free-rows .ensures) (l .loop .left) (c .before .if1 .taken)),
+      rw (c .shifted .ensures) (shift-within (s .args .down) (s .args .rows) (l .loop .r) (l .loop .left) (l .loop .inv .1)
+          (omega (arith, c .before .if1 .taken, f .free-rows .ensures .within))),
+    )
+
+shifted-requires-2 : tie.Need-shifted-requires-2 Inv-loop μ-loop
+shifted-requires-2 c κs =
+    let f = c .before in
+    let l = f .before .before in
+    let s = l .before .before in
+    omega (arith, shift-small (s .args .down) (s .args .rows) (l .loop .r) (f .free-rows .result) (l .loop .inv .1) (f .free-rows .ensures .within), s .pre .2)
+
+visible-row-requires : tie.Need-visible-row-requires Inv-loop μ-loop
+visible-row-requires c κs =
+    let f = c .before .before in
+    let l = f .before .before in
+    let s = l .before .before in (
+      s .pre .0,
+      rw (c .shifted2 .ensures) (shift-within (s .args .down) (s .args .rows) (l .loop .r) (f .free-rows .result) (l .loop .inv .1)
+          (f .free-rows .ensures .within)),
+    )
+
+-- a visible row comes next
+loop-again : tie.Need-loop-again Inv-loop μ-loop
+loop-again c =
+    let v = c .before .before .before in
+    let f = v .before .before .before in
+    let l = f .before .before in
+    let s = l .before .before in
+    let a = s .args in
+    let found = ap (toward (a .folds .now) (a .rows) (a .down)) (sym (v .before .shifted2 .ensures)) ∙ sym (v .visible-row .ensures) ∙
+    c .before .x .given .1 in (
+      l .loop .inv .0 ∙ free-hop (f .free-rows .ensures) (l .loop .left) (omega (arith, v .before .before .if1 .left)) _ found,
+      toward-within (a .folds .now) (a .rows) (a .down) _ _ (shift-within (a .down) (a .rows) (l .loop .r) (f .free-rows .result) (l .loop .inv .1)
+          (f .free-rows .ensures .within)) found,
+    )
+
+-- none does
+returns-2 : tie.Need-returns-2 Inv-loop μ-loop
+returns-2 c =
+    let v = c .before .before in
+    let f = v .before .before .before in
+    let l = f .before .before in
+    let s = l .before .before in
+    let a = s .args in
+    let none = ap (toward (a .folds .now) (a .rows) (a .down)) (sym (v .before .shifted2 .ensures)) ∙ sym (v .visible-row .ensures) ∙
+    c .enum-told .given .1 in (
+      v .before .shifted2 .ensures ∙ sym (l .loop .inv .0 ∙ free-edge (f .free-rows .ensures) (l .loop .left)
+          (omega (arith, v .before .before .if1 .left)) none),
+      rw (v .before .shifted2 .ensures) (shift-within (a .down) (a .rows) (l .loop .r) (f .free-rows .result) (l .loop .inv .1)
+          (f .free-rows .ensures .within)),
+    )
+
+returns-3 : tie.Need-returns-3 Inv-loop μ-loop
+returns-3 c =
+    let l = c .before .loop in
+    (sym (l .inv .0 ∙ rounds-none _ (l .left) (l .r) (omega (arith, c .loop-test .left))), l .inv .1)
+
+pub rows-on-spec : {M : Type 1} → statement M
+rows-on-spec =
+    tie.close
+    (tie.spec Inv-loop μ-loop loop-holds (λ c κs. search needs) shifted-requires returns shifted-requires-2 visible-row-requires
+    (λ c. search needs) (λ c. search needs) (λ c. search needs) (λ c. search needs) loop-again (λ c. search needs) returns-2 returns-3)

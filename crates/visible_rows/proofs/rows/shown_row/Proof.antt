@@ -1,0 +1,39 @@
+-- `visible_rows::rows::shown_row` meets its contract. Assumes nothing.
+use mathlib.Core.Path.{refl, sym, ap, _∙_}
+use mathlib.Core.Bool.{false}
+use borrow.Author.Needs.{needs}
+use borrow.Author.Tests.{not-true, not-false}
+use Rattle.visible_rows.specs.Visible.{rowOr}
+use Rattle.visible_rows.proofs.Visible.{toward-within}
+use Rattle.visible_rows.proofs.rows.shown_row.Statement.{statement}
+use Rattle.visible_rows.proofs.rows.shown_row.Tie as tie
+
+-- no fold hides it
+returns : tie.Need-returns
+returns c = (rw (sym (c .before .is-row-hidden .ensures) ∙ not-true _ (c .if1 .taken)) refl, c .before .before .before .pre .1)
+
+-- one does, and its first row is found
+returns-2 : tie.Need-returns-2
+returns-2 c =
+    let v = c .before .before .before in
+    let h = v .before .before in
+    let s = h .before .before in
+    let a = s .args in
+    let found = sym (v .visible-row .ensures) ∙ c .before .first .given .1 in (
+      rw (sym (h .is-row-hidden .ensures) ∙ not-false _ (v .before .if1 .left)) (sym (ap (rowOr (a .row)) found)),
+      toward-within (a .folds .now) (a .rows) false (a .row) _ (s .pre .1) found,
+    )
+
+returns-3 : tie.Need-returns-3
+returns-3 c =
+    let v = c .before .before in
+    let h = v .before .before in
+    let s = h .before .before in (
+      rw (sym (h .is-row-hidden .ensures) ∙ not-false _ (v .before .if1 .left))
+          (sym (ap (rowOr (s .args .row)) (sym (v .visible-row .ensures) ∙ c .enum-told .given .1))),
+      s .pre .1,
+    )
+
+pub shown-row-spec : {M : Type 1} → statement M
+shown-row-spec =
+    tie.close (tie.spec (λ c κs. search needs) returns (λ c κs. search needs) (λ c. search needs) (λ c. search needs) returns-2 returns-3)

@@ -1,0 +1,52 @@
+-- Spots of places, and the first place of the next row.
+-- Assumes nothing.
+use mathlib.Core.Path.{_≡_, refl, ap}
+use mathlib.Core.List.{List}
+use Prim.Native.Nat.{ℕ, _+_, _-_, _≤_, _<_}
+use native.Mathlib.Omega.{arith}
+use lib.ListN.{length}
+use borrow.Author.Tests.{lt-ltb, le-ltb}
+use Rattle.text.specs.Text.{rowCount, contentRows}
+use Rattle.text.specs.Offsets.{rowStart, At}
+use Rattle.text.proofs.At.{after-nl}
+use Rattle.text.proofs.Content.{content-near, content-yes, content-no}
+use Rattle.text.proofs.Stands.{stands-at, at-stands}
+use Rattle.word_kinds.specs.declared.Spot.{Spot}
+use Rattle.word_kinds.specs.Places.{Place, place, To, Nowhere, nextRow}
+use Rattle.word_kinds.specs.Spots.{placeOf, IsSpot, Ends}
+
+-- a place of the text is a spot of it
+pub spot-at : {t : List ℕ} {r c at : ℕ} → At t r c at → IsSpot t (record { row = r; at = at })
+spot-at a = at-stands a _ refl
+
+pub col-at : {t : List ℕ} {r c at : ℕ} → At t r c at → placeOf t (record { row = r; at = at }) ≡ place r c
+col-at {r = r} a = ap (place r) (omega (arith, a .offset))
+
+-- where there is no next row with content
+pub next-none : (t : List ℕ) (r : ℕ) → r + 1 ≡ rowCount t → Nowhere ≡ nextRow t r
+unfolding nextRow
+next-none t r e = rw (le-ltb (r + 1) (contentRows t) (omega (arith, content-near t)))
+
+module _ (t : List ℕ) (r end : ℕ) (w : Ends t r end) where
+  next-at : At t (r + 1) 0 (end + 1)
+  next-at = after-nl (stands-at (w .stands)) (w .within) (w .nl)
+
+  pub next-yes : end + 1 < length t → (To (placeOf t (record { row = r + 1; at = end + 1 })) ≡ nextRow t r) × IsSpot t (record { row = r + 1; at = end + 1 })
+  unfolding nextRow
+  next-yes l =
+      let h = content-yes t (r + 1) (omega arith) (next-at .in-row) (omega (arith, next-at .offset)) in
+      (rw (lt-ltb (r + 1) (contentRows t) h) (ap To (col-at next-at)), spot-at next-at)
+
+  pub next-no : length t ≤ end + 1 → Nowhere ≡ nextRow t r
+  unfolding nextRow
+  next-no l =
+      let h = content-no t (r + 1) (omega arith) (next-at .in-row) (omega (arith, next-at .offset)) in
+      rw (le-ltb (r + 1) (contentRows t) (omega arith))
+
+-- a place has one spot, so that what is said of the place of a spot of the text says which spot it is
+pub one-spot : (t : List ℕ) (p q : Spot) → IsSpot t p → IsSpot t q → placeOf t p ≡ placeOf t q → p ≡ q
+one-spot t p q i j e =
+    let r : p .row ≡ q .row = ap (λ (x : Place). x .row) e in
+    let c : p .at - rowStart t (p .row) ≡ q .at - rowStart t (q .row) = ap (λ (x : Place). x .col) e in
+    let a : p .at ≡ q .at = omega (arith, c, ap (rowStart t) r, i .from, j .from) in
+    λ k. record { row = r k; at = a k }

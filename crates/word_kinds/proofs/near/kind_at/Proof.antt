@@ -1,0 +1,39 @@
+-- `word_kinds::near::kind_at` meets its contract: at the end of the text, on a separator, on a character. Assumes nothing.
+use mathlib.Core.Path.{_∙_}
+use native.Mathlib.Omega.{arith}
+use Rattle.word_kinds.specs.Lent.{isHigh}
+use Rattle.lists.proofs.Any.{any-there}
+use Rattle.word_kinds.proofs.Ahead.{end-kind, nl-kind, char-kind}
+use borrow.Author.Needs.{needs}
+use Rattle.word_kinds.proofs.near.kind_at.Statement.{statement}
+use Rattle.word_kinds.proofs.near.kind_at.Tie as tie
+
+-- a high code point of the text
+char-kind-requires : tie.Need-char-kind-requires
+char-kind-requires c κs =
+    let s = c .before .before .before .before .before .before in
+    record {
+      room = s .pre .0 .room;
+      lent = λ h. s .pre .0 .lent (any-there isHigh s.args.t.now s.args.p.at (omega (arith, c .before .before .if1 .left)) h);
+    }
+
+returns : tie.Need-returns
+returns c =
+    let s = c .before .before .before .before in
+    end-kind s.args.t.now s.args.p (s .pre .1) (c .if1 .taken) _
+
+returns-2 : tie.Need-returns-2
+returns-2 c =
+    let s = c .before .before .before .before .before .before in
+    nl-kind s.args.t.now s.args.p (s .pre .1) (omega (arith, c .before .before .if1 .left)) (c .if2 .taken) _
+
+returns-3 : tie.Need-returns-3
+returns-3 c =
+    let b3 = c .before .before .before in
+    let s = b3 .before .before .before .before in
+    c .char-kind .ensures ∙ char-kind s.args.t.now s.args.p (s .pre .1) (omega (arith, b3 .if1 .left)) (c .before .if2 .left) _
+
+pub kind-at-spec : {M : Type 1} → statement M
+kind-at-spec =
+    tie.close
+    (tie.spec returns (λ c. search needs) (λ c. search needs) returns-2 char-kind-requires returns-3)

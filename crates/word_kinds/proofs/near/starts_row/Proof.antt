@@ -1,0 +1,22 @@
+-- `word_kinds::near::starts_row` meets its contract, by the code point before the place. Assumes nothing.
+use mathlib.Core.Path.{refl}
+use native.Mathlib.Omega.{arith}
+use Rattle.word_kinds.proofs.Back.{starts-first, starts-by}
+use borrow.Author.Needs.{needs}
+use Rattle.word_kinds.proofs.near.starts_row.Statement.{statement}
+use Rattle.word_kinds.proofs.near.starts_row.Tie as tie
+
+returns : tie.Need-returns
+returns c =
+    let s = c .before in
+    starts-first s.args.t.now s.args.p s.pre (c .if1 .taken)
+
+returns-2 : tie.Need-returns-2
+returns-2 c =
+    let s = c .before .before in
+    starts-by s.args.t.now s.args.p s.pre _ (omega (arith, c .before .if1 .left)) refl
+
+pub starts-row-spec : {M : Type 1} → statement M
+starts-row-spec =
+    tie.close
+    (tie.spec returns (λ c. search needs) (λ c. search needs) (λ c. search needs) returns-2)

@@ -1,0 +1,113 @@
+// The loops of the word motions: each goes from place to place while its test holds. motions.rs,
+// "Internals".
+use crate::Halted;
+use word_kinds::Setting;
+use word_kinds::Spot;
+use word_kinds::Step;
+use word_kinds::near;
+ghost use mathlib.Core.Path.{_≡_};
+ghost use Rattle.word_loops.specs.Walks.{skip, leave, run, back};
+ghost use Rattle.word_loops.specs.Halts.{haltOf, HaltIn};
+ghost use Rattle.word_kinds.specs.Spots.{placeOf, IsSpot};
+ghost use Rattle.word_kinds.specs.Lent.{kindBy, Bounds};
+
+// On over the places of the kinds a and b, in this row and the next ones.
+pub fn skip(t: &[u32], bounds: &[u32], table: &[u32], s: Setting, a: u32, b: u32, p: Spot) -> Halted
+    requires { ⌜ Bounds (now t) (now bounds) (now table) s × IsSpot (now t) p ⌝ }
+    ensures { λ r.
+        ⌜ (haltOf (now (t .entry)) r ≡
+        skip (now (t .entry)) (kindBy (now (bounds .entry)) s) a b (placeOf (now (t .entry)) p)) ×
+        HaltIn (now (t .entry)) r ⌝ }
+{
+    let mut cur = p;
+    loop {
+        let k = near::kind_at(t, bounds, table, s, cur);
+        if !((k == a) | (k == b)) {
+            return Halted::Done(cur);
+        }
+        match near::step_forward(t, cur) {
+            Step::At(q) => {
+                cur = q;
+            }
+            Step::NoStep => {
+                return Halted::Stood(cur);
+            }
+        }
+    }
+}
+
+// On over the places of a kind in the place's row; the next row's first place ends it.
+pub fn leave(t: &[u32], bounds: &[u32], table: &[u32], s: Setting, kind: u32, p: Spot) -> Halted
+    requires { ⌜ Bounds (now t) (now bounds) (now table) s × IsSpot (now t) p ⌝ }
+    ensures { λ r.
+        ⌜ (haltOf (now (t .entry)) r ≡
+        leave (now (t .entry)) (kindBy (now (bounds .entry)) s) kind (placeOf (now (t .entry)) p)) ×
+        HaltIn (now (t .entry)) r ⌝ }
+{
+    let row = p.row;
+    let mut cur = p;
+    loop {
+        let k = near::kind_at(t, bounds, table, s, cur);
+        if !((k == kind) & (cur.row == row)) {
+            return Halted::Done(cur);
+        }
+        match near::step_forward(t, cur) {
+            Step::At(q) => {
+                cur = q;
+            }
+            Step::NoStep => {
+                return Halted::Stood(cur);
+            }
+        }
+    }
+}
+
+// On to the last place of a kind in the place's row.
+pub fn run(t: &[u32], bounds: &[u32], table: &[u32], s: Setting, kind: u32, p: Spot) -> Halted
+    requires { ⌜ Bounds (now t) (now bounds) (now table) s × IsSpot (now t) p ⌝ }
+    ensures { λ r.
+        ⌜ (haltOf (now (t .entry)) r ≡
+        run (now (t .entry)) (kindBy (now (bounds .entry)) s) kind (placeOf (now (t .entry)) p)) ×
+        HaltIn (now (t .entry)) r ⌝ }
+{
+    let mut cur = p;
+    loop {
+        match near::step_forward(t, cur) {
+            Step::At(q) => {
+                let k = near::kind_at(t, bounds, table, s, q);
+                if !((q.row == cur.row) & (k == kind)) {
+                    return Halted::Done(cur);
+                }
+                cur = q;
+            }
+            Step::NoStep => {
+                return Halted::Done(cur);
+            }
+        }
+    }
+}
+
+// Back over the places of a class; an empty row ends it.
+pub fn back(t: &[u32], bounds: &[u32], table: &[u32], s: Setting, class: u32, p: Spot) -> Halted
+    requires { ⌜ Bounds (now t) (now bounds) (now table) s × IsSpot (now t) p ⌝ }
+    ensures { λ r.
+        ⌜ (haltOf (now (t .entry)) r ≡
+        back (now (t .entry)) (kindBy (now (bounds .entry)) s) class (placeOf (now (t .entry)) p)) ×
+        HaltIn (now (t .entry)) r ⌝ }
+{
+    let mut cur = p;
+    loop {
+        let k = near::cls(t, bounds, table, s, cur);
+        if !((k == class) & !near::on_empty_row(t, cur)) {
+            return Halted::Done(cur);
+        }
+        match near::dec(t, cur) {
+            Step::At(q) => {
+                cur = q;
+            }
+            Step::NoStep => {
+                return Halted::Stood(cur);
+            }
+        }
+    }
+}

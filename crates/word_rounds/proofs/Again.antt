@@ -1,0 +1,152 @@
+-- The closed fold at a row is the one at its own first row and last row, so a jump out of it leads to where it leads again. Assumes nothing.
+use mathlib.Core.Path.{_≡_, refl, ap, sym, _∙_}
+use mathlib.Core.List.{List}
+use mathlib.Core.Bool.{Bool, true, false, cond}
+use Prim.Native.Nat.{ℕ, zero, suc, _+_, _-_, _≤_, _<_}
+use native.Mathlib.Omega.{arith}
+use native.Mathlib.Numerals.{add-one}
+use native.Mathlib.Nat.{add-zero}
+use native.Mathlib.Decide.{ℕ-discrete}
+use Rattle.text.specs.Text.{rowCount, contentRows}
+use Rattle.folds.specs.Folds.{anyFold, badFold, foldRefusal, hidden, visibleFrom, prevVisible, nextVisible, lastBefore, closedFrom, closedFoldAt}
+use Rattle.folds.specs.Cover.{coverOf}
+use Rattle.folds.specs.declared.Span.{Span}
+use Rattle.folds.specs.declared.Span.the-variants.{Of, NoSpan}
+use Rattle.folds.specs.declared.Visible.{Visible}
+use Rattle.folds.specs.declared.Visible.the-variants.{Row, NoRow}
+use Rattle.text.proofs.Content.{content-near}
+use Rattle.folds.proofs.Hiding.{Covers, cover-covers}
+use Rattle.folds.proofs.Past.{folds-good, visible-within}
+use Rattle.word_kinds.specs.Places.{Place}
+use Rattle.word_rounds.specs.Rounds.{toLast, toFirst, foldAt, jumpFwd, jumpBack}
+
+-- a hidden row is a row of the text
+hidden-within : (folds : List ℕ) (rows x : ℕ) → anyFold (badFold rows) folds ≡ false → hidden folds x ≡ true → x < rows
+hidden-within folds rows x g h = go (coverOf folds x) (cover-covers folds x)
+  where
+    go : (r : Span) → Covers folds x r → x < rows
+    go (Of s e) v = omega (arith, v .1, v .3 rows g)
+    go NoSpan v = let z : _≡_ {A = ℕ} 0 1 = cc in absurd (omega arith)
+
+-- the last row seen before another is seen
+prev-shown : (folds : List ℕ) (r x : ℕ) → prevVisible folds r ≡ Row x → hidden folds x ≡ false
+unfolding prevVisible
+prev-shown folds zero x e = cc
+prev-shown folds (suc r) x e = go (hidden folds r) refl e (λ h. prev-shown folds r x h)
+  where
+    go : (b : Bool) → hidden folds r ≡ b → cond b (prevVisible folds r) (Row r) ≡ Row x → (prevVisible folds r ≡ Row x → hidden folds x ≡ false) →
+        hidden folds x ≡ false
+    go true q h ih = ih h
+    go false q h ih = let z : r ≡ x = cc in rw z at q
+
+-- it is the row itself, where all between are hidden
+prev-over : (folds : List ℕ) (a k : ℕ) → hidden folds a ≡ false → ((x : ℕ) → a < x → x < a + 1 + k → hidden folds x ≡ true) →
+    prevVisible folds (a + 1 + k) ≡ Row a
+unfolding prevVisible
+prev-over folds a zero s h = rw (add-zero (a + 1), add-one a, s)
+prev-over folds a (suc k) s h =
+    let on : a + 1 + suc k ≡ suc (a + 1 + k) = omega arith in
+    rw (on, h (a + 1 + k) (omega arith) (omega arith)) (prev-over folds a k s (λ x l m. h x l (omega arith)))
+
+-- the rows before the next one seen are hidden, all of them where none is seen
+abbrev upTo : Visible → ℕ → ℕ
+upTo (Row x) n = x
+upTo NoRow n = n
+
+next-over : (folds : List ℕ) (r n y : ℕ) → r ≤ y → y < upTo (visibleFrom folds r n) (r + n) → hidden folds y ≡ true
+unfolding visibleFrom
+next-over folds r zero y l h = absurd (omega arith)
+next-over folds r (suc n) y l h = go (hidden folds r) refl h (λ p q. next-over folds (r + 1) n y p q)
+  where
+    on : r + suc n ≡ r + 1 + n
+    on = omega arith
+
+    go : (b : Bool) → hidden folds r ≡ b → y < upTo (cond b (visibleFrom folds (r + 1) n) (Row r)) (r + suc n) →
+        (r + 1 ≤ y → y < upTo (visibleFrom folds (r + 1) n) (r + 1 + n) → hidden folds y ≡ true) → hidden folds y ≡ true
+    go true q m ih = pick (ℕ-discrete r y)
+      where
+        pick : Dec (r ≡ y) → hidden folds y ≡ true
+        pick (yes e) = rw e at q
+        pick (no e) = ih (omega arith) (rw on at m)
+    go false q m ih = absurd (omega arith)
+
+module _ (folds : List ℕ) (rows content : ℕ) (good : anyFold (badFold rows) folds ≡ false) (near : rows ≤ content + 1) (most : content ≤ rows) (a b : ℕ) where
+  -- it is the fold at its own rows
+  abbrev Own : Type 0
+  Own = (closedFoldAt folds rows content a ≡ Of a b) × (closedFoldAt folds rows content b ≡ Of a b)
+
+  -- a fold by its first row, which is seen: the rows after that one up to its last are hidden
+  module _ (s : hidden folds a ≡ false) (h : hidden folds (a + 1) ≡ true) (e : lastBefore content (nextVisible folds rows a) ≡ b) where
+    inner : a + 1 < rows
+    inner = hidden-within folds rows (a + 1) good h
+
+    rest : (a ≤ b) × ((y : ℕ) → a < y → y ≤ b → hidden folds y ≡ true)
+    rest = go (nextVisible folds rows a) refl e
+      where
+        all : a + 1 + (rows - (a + 1)) ≡ rows
+        all = omega (arith, inner)
+
+        go : (v : Visible) → nextVisible folds rows a ≡ v → lastBefore content v ≡ b → (a ≤ b) × ((y : ℕ) → a < y → y ≤ b → hidden folds y ≡ true)
+        go (Row x) q w =
+            let k = visible-within folds (a + 1) (rows - (a + 1)) x q in
+            (omega (arith, k), λ y l m. next-over folds (a + 1) (rows - (a + 1)) y (omega arith) (rw q (omega (arith, k))))
+        go NoRow q w =
+            let k = inner in
+            (omega (arith, k), λ y l m. next-over folds (a + 1) (rows - (a + 1)) y (omega arith) (rw (q, all) (omega (arith, k))))
+
+    own-first : closedFoldAt folds rows content a ≡ Of a b
+    own-first = rw (s, h, e)
+
+    own-last : closedFoldAt folds rows content b ≡ Of a b
+    own-last = pick (ℕ-discrete a b)
+      where
+        to : (a < b) → a + 1 + (b - (a + 1)) ≡ b
+        to l = omega arith
+
+        pick : Dec (a ≡ b) → closedFoldAt folds rows content b ≡ Of a b
+        pick (yes q) = ap (closedFoldAt folds rows content) (sym q) ∙ own-first
+        pick (no q) =
+            let l : a < b = omega (arith, rest .0) in
+            let p : prevVisible folds b ≡ Row a = rw (to l) at (prev-over folds a (b - (a + 1)) s (λ x i j. rest .1 x i (omega arith))) in
+            rw (rest .1 b l (omega arith), p, h, e)
+
+  pub span-own : (row : ℕ) → closedFoldAt folds rows content row ≡ Of a b → Own
+  span-own row w = go (hidden folds row) refl w
+    where
+      pick : (f : ℕ) (d : Bool) → hidden folds f ≡ false → hidden folds (f + 1) ≡ d →
+          cond d (Of f (lastBefore content (nextVisible folds rows f))) NoSpan ≡ Of a b → Own
+      pick f true s h e =
+          let p : f ≡ a = cc in
+          let q : lastBefore content (nextVisible folds rows f) ≡ b = cc in
+          (own-first (rw p at s) (rw p at h) (rw p at q), own-last (rw p at s) (rw p at h) (rw p at q))
+      pick f false s h e = let z : _≡_ {A = ℕ} 0 1 = cc in absurd (omega arith)
+
+      from : (v : Visible) → ((x : ℕ) → v ≡ Row x → hidden folds x ≡ false) → closedFrom folds rows content v ≡ Of a b → Own
+      from (Row f) s e = pick f (hidden folds (f + 1)) (s f refl) refl e
+      from NoRow s e = let z : _≡_ {A = ℕ} 0 1 = cc in absurd (omega arith)
+
+      go : (d : Bool) → hidden folds row ≡ d → closedFrom folds rows content (cond d (prevVisible folds row) (Row row)) ≡ Of a b → Own
+      go true d e = from (prevVisible folds row) (λ x v. prev-shown folds row x v) e
+      go false d e = from (Row row) (λ x v. let z : row ≡ x = cc in rw z at d) e
+
+-- a jump from where a jump led to leads nowhere else
+module _ (t folds : List ℕ) (good : foldRefusal folds (rowCount t) ≡ 0) (p : Place) where
+  own : (a b : ℕ) → foldAt t folds p ≡ Of a b →
+      (closedFoldAt folds (rowCount t) (contentRows t) a ≡ Of a b) × (closedFoldAt folds (rowCount t) (contentRows t) b ≡ Of a b)
+  own a b =
+      let k = content-near t in
+      span-own folds (rowCount t) (contentRows t) (folds-good folds (rowCount t) good) (k .0) (k .1) a b (p .row)
+
+  pub jump-fwd-again : jumpFwd t folds (jumpFwd t folds p) ≡ jumpFwd t folds p
+  jump-fwd-again = go (foldAt t folds p) refl
+    where
+      go : (s : Span) → foldAt t folds p ≡ s → toLast t (toLast t p s) (foldAt t folds (toLast t p s)) ≡ toLast t p s
+      go (Of a b) e = rw (own a b e .1)
+      go NoSpan e = rw e
+
+  pub jump-back-again : jumpBack t folds (jumpBack t folds p) ≡ jumpBack t folds p
+  jump-back-again = go (foldAt t folds p) refl
+    where
+      go : (s : Span) → foldAt t folds p ≡ s → toFirst (toFirst p s) (foldAt t folds (toFirst p s)) ≡ toFirst p s
+      go (Of a b) e = rw (own a b e .0)
+      go NoSpan e = rw e

@@ -1,0 +1,93 @@
+-- Out of a closed fold: its rows are rows of the text, and the places of a row by its line.
+-- Assumes nothing.
+use mathlib.Core.Path.{_≡_, refl, ap, sym, _∙_}
+use mathlib.Core.List.{List}
+use mathlib.Core.Bool.{Bool, true, false, cond}
+use Prim.Native.Nat.{ℕ, _+_, _-_, _≤_, _<_}
+use native.Mathlib.Omega.{arith}
+use lib.ListN.{length}
+use Rattle.text.specs.Text.{rowCount, rowLen}
+use Rattle.text.specs.Offsets.{rowStart, lineAt}
+use Rattle.folds.specs.Folds.{hidden, prevVisible, nextVisible, lastBefore, closedFrom, closedFoldAt}
+use Rattle.text.specs.declared.Line.{Line}
+use Rattle.folds.specs.declared.Span.{Span}
+use Rattle.folds.specs.declared.Span.the-variants.{Of, NoSpan}
+use Rattle.folds.specs.declared.Visible.{Visible}
+use Rattle.folds.specs.declared.Visible.the-variants.{Row, NoRow}
+use Rattle.text.proofs.Content.{content-near}
+use Rattle.text.proofs.At.{at-start, at-col}
+use Rattle.text.proofs.Parts.{row-fits}
+use Rattle.folds.proofs.Past.{visible-within, prev-within}
+use Rattle.word_kinds.specs.declared.Spot.{Spot}
+use Rattle.word_kinds.specs.Places.{Place, place}
+use Rattle.word_rounds.specs.Rounds.{toLast, toFirst, foldAt, jumpFwd, jumpBack}
+use Rattle.word_kinds.specs.Spots.{placeOf, IsSpot}
+use Rattle.word_rounds.specs.Turns.{Folded}
+use Rattle.word_kinds.proofs.Onto.{spot-at, col-at}
+
+-- the last row of a fold lies within the rows
+last-within : (folds : List ℕ) (rows content first : ℕ) → first < rows → 0 < content → content ≤ rows → lastBefore content (nextVisible folds rows first) < rows
+last-within folds rows content first h z l = go (nextVisible folds rows first) refl
+  where
+    go : (v : Visible) → nextVisible folds rows first ≡ v → lastBefore content v < rows
+    go (Row next) e = omega (arith, visible-within folds (first + 1) (rows - (first + 1)) next e)
+    go NoRow e = omega arith
+
+-- and so does its first
+pub span-within :
+    (folds : List ℕ) (rows content row a b : ℕ) → closedFoldAt folds rows content row ≡ Of a b → row < rows → 0 < content → content ≤ rows →
+    (a < rows) × (b < rows)
+span-within folds rows content row a b e h z l = go (hidden folds row) refl
+  where
+    from : (v : Visible) → ((x : ℕ) → v ≡ Row x → x < rows) → closedFrom folds rows content v ≡ Of a b → (a < rows) × (b < rows)
+    from NoRow f w = let q : _≡_ {A = ℕ} 0 1 = cc in absurd (omega arith)
+    from (Row first) f w = pick (hidden folds (first + 1)) w
+      where
+        pick : (s : Bool) → cond s (Of first (lastBefore content (nextVisible folds rows first))) NoSpan ≡ Of a b → (a < rows) × (b < rows)
+        pick true v =
+            let p : first ≡ a = cc in
+            let q : lastBefore content (nextVisible folds rows first) ≡ b = cc in
+            (rw p at (f first refl), rw q at (last-within folds rows content first (f first refl) z l))
+        pick false v = let q : _≡_ {A = ℕ} 0 1 = cc in absurd (omega arith)
+
+    go : (s : Bool) → hidden folds row ≡ s → (a < rows) × (b < rows)
+    go true s = from (prevVisible folds row) (λ x v. omega (arith, prev-within folds row x v)) (rw s at e)
+    go false s = from (Row row) (λ x v. let q : row ≡ x = cc in omega arith) (rw s at e)
+
+-- a place of a row by its line
+module _ (t : List ℕ) (row : ℕ) (h : row < rowCount t) (l : Line) (e : l ≡ lineAt t row) where
+  begins : l .start ≡ rowStart t row
+  begins = ap (λ (x : Line). x .start) e
+
+  pub row-place : (c at : ℕ) → c ≤ rowLen t row → at ≡ l .start + c → (placeOf t (record { row = row; at = at }) ≡ place row c) × IsSpot t
+      (record { row = row; at = at })
+  row-place c at k w =
+      let a = at-col (at-start t row h) c at k (omega (arith, begins)) in
+      (col-at a, spot-at a)
+
+  pub line-length : {n : ℕ} → n ≡ rowLen t (l .row) → n ≡ rowLen t row
+  line-length w = w ∙ ap (λ (x : Line). rowLen t (x .row)) e
+
+  pub line-fits : l .start + rowLen t row ≤ length t
+  line-fits = omega (arith, begins, row-fits t row h)
+
+-- the jumps, by the answer of `closed_fold_at`
+module _ (t folds : List ℕ) (rows content : ℕ) (p : Spot) (w : Folded t folds rows content p) {r : Span}
+    (s : r ≡ closedFoldAt folds rows content (p .row)) where
+  pub span-rows : (a b : ℕ) → r ≡ Of a b → (a < rowCount t) × (b < rowCount t)
+  span-rows a b e =
+      let k = content-near t in
+      rw (w .all-rows) at
+      (span-within folds rows content (p .row) a b (sym s ∙ e) (omega (arith, w .all-rows, w .spot .in-row)) (omega (arith, w .content-rows))
+      (omega (arith, w .content-rows, w .all-rows)))
+
+  fold-there : r ≡ foldAt t folds (placeOf t p)
+  fold-there =
+      s ∙ ap (λ (x : ℕ). closedFoldAt folds x content (p .row)) (w .all-rows) ∙
+      ap (λ (x : ℕ). closedFoldAt folds (rowCount t) x (p .row)) (w .content-rows)
+
+  pub jump-fwd : {q : Place} → toLast t (placeOf t p) r ≡ q → q ≡ jumpFwd t folds (placeOf t p)
+  jump-fwd e = sym e ∙ ap (toLast t (placeOf t p)) fold-there
+
+  pub jump-back : {q : Place} → toFirst (placeOf t p) r ≡ q → q ≡ jumpBack t folds (placeOf t p)
+  jump-back e = sym e ∙ ap (toFirst (placeOf t p)) fold-there

@@ -1,0 +1,123 @@
+// One round of each word motion: of `move_word_fwd`, `move_word_back`, `move_word_end` and
+// `move_word_end_back` of motions.rs.
+use crate::Motion;
+use crate::Round;
+use crate::out_of_folds;
+use word_kinds::Setting;
+use word_kinds::Spot;
+use word_kinds::Step;
+ghost use mathlib.Core.Path.{_≡_};
+ghost use mathlib.Core.Bool.{false};
+ghost use Rattle.word_kinds.specs.Spots.{placeOf};
+ghost use Rattle.word_kinds.specs.Lent.{kindBy};
+ghost use Rattle.word_rounds.specs.declared.Motion.the-variants as variant;
+ghost use Rattle.word_rounds.specs.Rounds.{roundOf};
+ghost use Rattle.word_rounds.specs.Turns.{turnOf, RoundIn, turned, Set};
+
+// The round's answer: the word found, or the place from which none was found.
+fn turned(from: Spot, found: Step) -> Round
+    ensures { λ r. ⌜ r ≡ turned from found ⌝ }
+{
+    match found {
+        Step::At(q) => Round::Next(q),
+        Step::NoStep => Round::Last(from),
+    }
+}
+
+// A round of `move_word_fwd`.
+fn fwd_round(t: &[u32], folds: &[u32], bounds: &[u32], table: &[u32], s: Setting, p: Spot) -> Round
+    requires { ⌜ Set (now t) (now folds) (now bounds) (now table) s p ⌝ }
+    ensures { λ r.
+        ⌜ (turnOf (now (t .entry)) r ≡
+        roundOf (now (t .entry)) (now (folds .entry)) (kindBy (now (bounds .entry)) s) (s .big)
+        variant.Fwd false (placeOf (now (t .entry)) p)) ×
+        RoundIn (now (t .entry)) r ⌝ }
+{
+    let from = out_of_folds::fold_jump_fwd(t, folds, s.rows, s.content, p);
+    turned(from, word_edges::next_word_start(t, bounds, table, s, from))
+}
+
+// A round of `move_word_back`.
+fn back_round(t: &[u32], folds: &[u32], bounds: &[u32], table: &[u32], s: Setting, p: Spot) -> Round
+    requires { ⌜ Set (now t) (now folds) (now bounds) (now table) s p ⌝ }
+    ensures { λ r.
+        ⌜ (turnOf (now (t .entry)) r ≡
+        roundOf (now (t .entry)) (now (folds .entry)) (kindBy (now (bounds .entry)) s) (s .big)
+        variant.Back false (placeOf (now (t .entry)) p)) ×
+        RoundIn (now (t .entry)) r ⌝ }
+{
+    let from = out_of_folds::fold_jump_back(t, folds, s.rows, s.content, p);
+    turned(from, word_edges::prev_word_start(t, bounds, table, s, from))
+}
+
+// A round of `move_word_end`; `stop` holds it at the end of a word.
+fn end_round(
+    t: &[u32],
+    folds: &[u32],
+    bounds: &[u32],
+    table: &[u32],
+    s: Setting,
+    stop: bool,
+    p: Spot,
+) -> Round
+    requires { ⌜ Set (now t) (now folds) (now bounds) (now table) s p ⌝ }
+    ensures { λ r.
+        ⌜ (turnOf (now (t .entry)) r ≡
+        roundOf (now (t .entry)) (now (folds .entry)) (kindBy (now (bounds .entry)) s) (s .big)
+        variant.End stop (placeOf (now (t .entry)) p)) ×
+        RoundIn (now (t .entry)) r ⌝ }
+{
+    let from = out_of_folds::fold_jump_fwd(t, folds, s.rows, s.content, p);
+    if stop {
+        if word_edges::at_word_end(t, bounds, table, s, from) {
+            return Round::Next(from);
+        }
+        return turned(from, word_edges::next_word_end(t, bounds, table, s, from));
+    }
+    turned(from, word_edges::next_word_end(t, bounds, table, s, from))
+}
+
+// A round of `move_word_end_back`, which takes no folds.
+fn end_back_round(
+    t: &[u32],
+    folds: &[u32],
+    bounds: &[u32],
+    table: &[u32],
+    s: Setting,
+    p: Spot,
+) -> Round
+    requires { ⌜ Set (now t) (now folds) (now bounds) (now table) s p ⌝ }
+    ensures { λ r.
+        ⌜ (turnOf (now (t .entry)) r ≡
+        roundOf (now (t .entry)) (now (folds .entry)) (kindBy (now (bounds .entry)) s) (s .big)
+        variant.EndBack false (placeOf (now (t .entry)) p)) ×
+        RoundIn (now (t .entry)) r ⌝ }
+{
+    turned(p, word_edges::prev_word_end(t, bounds, table, s, p))
+}
+
+// A round of a motion.
+pub fn round(
+    t: &[u32],
+    folds: &[u32],
+    bounds: &[u32],
+    table: &[u32],
+    s: Setting,
+    m: Motion,
+    stop: bool,
+    p: Spot,
+) -> Round
+    requires { ⌜ Set (now t) (now folds) (now bounds) (now table) s p ⌝ }
+    ensures { λ r.
+        ⌜ (turnOf (now (t .entry)) r ≡
+        roundOf (now (t .entry)) (now (folds .entry)) (kindBy (now (bounds .entry)) s) (s .big) m
+        stop (placeOf (now (t .entry)) p)) ×
+        RoundIn (now (t .entry)) r ⌝ }
+{
+    match m {
+        Motion::Fwd => fwd_round(t, folds, bounds, table, s, p),
+        Motion::Back => back_round(t, folds, bounds, table, s, p),
+        Motion::End => end_round(t, folds, bounds, table, s, stop, p),
+        Motion::EndBack => end_back_round(t, folds, bounds, table, s, p),
+    }
+}
