@@ -1,36 +1,38 @@
 // Word motions.
+use call_texts::Asked;
 use call_texts::caret_of;
+use call_texts::move_as;
 use call_texts::place;
-use motions::Caret;
-use motions::Moved;
+use motions::Move;
+use word_rounds::Motion;
 ghost use mathlib.Core.Path.{_≡_};
 ghost use Rattle.call_bytes.specs.Reply.{Replied};
 ghost use Rattle.call_texts.specs.Carets.{caretOf};
-ghost use Rattle.call_folds.specs.Terms.{isBig, words};
-ghost use Rattle.call_folds.specs.Terms.{word as Terms·word};
+ghost use Rattle.call_folds.specs.Terms.{isBig, wordOf, words};
+
+// A word motion.
+fn by(motion: Motion, big: bool, stop: bool) -> Asked
+    ensures { λ r. ⌜ r ≡ Asked.For (Move.Word motion big stop) ⌝ }
+{
+    Asked::For(Move::Word {
+        motion: motion,
+        big: big,
+        stop: stop,
+    })
+}
 
 // The word motion that a number stands for: 0 `move_word_fwd`, 1 `move_word_back`, 2 and 3
-// `move_word_end` with stop off and on, 4 `move_word_end_back`, which takes no folds; 100 where it
-// stands for none.
-fn word_by(
-    op: u32,
-    k: Caret,
-    t: &[u32],
-    folds: &[u32],
-    list: &[u32],
-    big: bool,
-    count: u32,
-) -> Moved
-    ensures { λ r. ⌜ r ≡ Terms·word op big count k (now (t .entry)) (now (folds .entry))
-        (now (list .entry)) ⌝ }
+// `move_word_end` with stop off and on, 4 `move_word_end_back`, which takes no folds.
+fn word_of(op: u32, big: bool) -> Asked
+    ensures { λ r. ⌜ r ≡ wordOf op big ⌝ }
 {
     match op {
-        0 => k.move_word_fwd(t, folds, big, count, list),
-        1 => k.move_word_back(t, folds, big, count, list),
-        2 => k.move_word_end(t, folds, big, count, false, list),
-        3 => k.move_word_end(t, folds, big, count, true, list),
-        4 => k.move_word_end_back(t, big, count, list),
-        _ => Moved::Refused(100),
+        0 => by(Motion::Fwd, big, false),
+        1 => by(Motion::Back, big, false),
+        2 => by(Motion::End, big, false),
+        3 => by(Motion::End, big, true),
+        4 => by(Motion::EndBack, big, false),
+        _ => Asked::Nothing,
     }
 }
 
@@ -54,5 +56,8 @@ pub fn word(
         (now (out .exit)) ⌝ }
 {
     let k = caret_of(row, col, held, sticky);
-    place(word_by(op, k, text, folds, list, big != 0, count), out)
+    place(
+        move_as(word_of(op, big != 0), k, text, folds, list, 0, count),
+        out,
+    )
 }

@@ -1,14 +1,17 @@
 // Up, down and the screen.
+use call_texts::Asked;
 use call_texts::caret_of;
+use call_texts::move_as;
 use call_texts::place;
 use motions::Caret;
+use motions::Move;
 use motions::Moved;
 use row_wrap::Wrap;
 ghost use mathlib.Core.Path.{_≡_};
 ghost use Rattle.call_bytes.specs.Reply.{Replied};
 ghost use Rattle.call_texts.specs.Carets.{caretOf};
 ghost use Rattle.call_rows.specs.Wraps.{modeOf};
-ghost use Rattle.call_folds.specs.Upright.{upright, verticals};
+ghost use Rattle.call_folds.specs.Upright.{uprightOf, verticals};
 ghost use Rattle.call_folds.specs.Upright.{vertical as Upright·vertical};
 
 // The modes by their numbers: 0 None, 1 Char, 2 Word.
@@ -22,31 +25,32 @@ fn mode_of(mode: u32) -> Wrap
     }
 }
 
+// A screen motion.
+fn screen(mode: Wrap, width: u16, down: bool) -> Asked
+    ensures { λ r. ⌜ r ≡ Asked.For (Move.Screen mode width down) ⌝ }
+{
+    Asked::For(Move::Screen {
+        mode: mode,
+        width: width,
+        down: down,
+    })
+}
+
 // The motion that a number stands for: 0 `move_up`, 1 `move_down`, 2 `move_screen_up`, 3
-// `move_screen_down`; 100 where it stands for none.
-fn upright_by(
-    op: u32,
-    k: Caret,
-    t: &[u32],
-    folds: &[u32],
-    mode: Wrap,
-    width: u16,
-    count: u32,
-    tabstop: u32,
-) -> Moved
-    ensures { λ r. ⌜ r ≡ upright op mode width count tabstop k (now (t .entry)) (now (folds .entry))
-        ⌝ }
+// `move_screen_down`.
+fn upright_of(op: u32, mode: Wrap, width: u16) -> Asked
+    ensures { λ r. ⌜ r ≡ uprightOf op mode width ⌝ }
 {
     match op {
-        0 => k.move_up(t, folds, count, tabstop),
-        1 => k.move_down(t, folds, count, tabstop),
-        2 => k.move_screen_up(t, folds, mode, width, count, tabstop),
-        3 => k.move_screen_down(t, folds, mode, width, count, tabstop),
-        _ => Moved::Refused(100),
+        0 => Asked::For(Move::Rows { down: false }),
+        1 => Asked::For(Move::Rows { down: true }),
+        2 => screen(mode, width, false),
+        3 => screen(mode, width, true),
+        _ => Asked::Nothing,
     }
 }
 
-// The same with the number of a mode; 100 for another number, also where the motion has no mode.
+// The answer, by the number of a mode; 100 for another number, also where the motion has no mode.
 fn vertical_by(
     op: u32,
     k: Caret,
@@ -64,7 +68,15 @@ fn vertical_by(
         return Moved::Refused(100);
     }
     let w = mode_of(mode);
-    upright_by(op, k, t, folds, w, width, count, tabstop)
+    move_as(
+        upright_of(op, w, width),
+        k,
+        t,
+        folds,
+        &t[..0],
+        tabstop,
+        count,
+    )
 }
 
 // A vertical or screen motion over a text of code points, with folds.

@@ -1,5 +1,6 @@
 pub mod Rows
 pub mod Carets
+pub mod Asks
 pub mod Moves
 pub mod Partners
 pub mod Seeks

@@ -1,11 +1,15 @@
 // The calls for hosts on a text, by numbers: each puts its answer into `out` and answers 0, or
 // answers the number of a refusal and leaves `out` as it was. A caret is four numbers.
+use motions::Move;
+
+mod asks;
 mod moves;
 mod pairs;
 mod rows;
 mod seeks;
 mod viewports;
 
+pub use asks::move_as;
 pub use moves::caret_of;
 pub use moves::motion;
 pub use moves::place;
@@ -13,3 +17,9 @@ pub use pairs::matching_bracket_pos;
 pub use rows::content_row_count;
 pub use seeks::seek;
 pub use viewports::viewport;
+
+// What a number asks for: a move, or nothing where it stands for none.
+pub enum Asked {
+    For(Move),
+    Nothing,
+}

@@ -1,12 +1,15 @@
 // Motions of a text and a caret.
+use crate::Asked;
+use crate::asks::move_as;
 use motions::Caret;
+use motions::Move;
 use motions::Moved;
+use text_moves::Way;
 use vertical::Sticky;
 ghost use mathlib.Core.Path.{_≡_};
 ghost use Rattle.call_bytes.specs.Reply.{Replied};
 ghost use Rattle.call_texts.specs.Carets.{stickyOf, caretOf, held, column, moved};
-ghost use Rattle.call_texts.specs.Moves.{motions};
-ghost use Rattle.call_texts.specs.Moves.{motion as Moves·motion};
+ghost use Rattle.call_texts.specs.Moves.{wayOf, motions};
 
 // A caret of four numbers; it has no sticky column where `held` is 0.
 pub fn caret_of(row: u32, col: u32, held: u32, sticky: u32) -> Caret
@@ -61,33 +64,33 @@ pub fn place(m: Moved, out: &mut [u32; 4]) -> u32
     }
 }
 
-// The motion that a number stands for, in the order of motions.rs; 100 where it stands for none.
-fn move_by(op: u32, k: Caret, t: &[u32], count: u32) -> Moved
-    ensures { λ r. ⌜ r ≡ Moves·motion op count k (now (t .entry)) ⌝ }
+// The move that a number stands for, in the order of motions.rs.
+fn way_of(op: u32) -> Asked
+    ensures { λ r. ⌜ r ≡ wayOf op ⌝ }
 {
     match op {
-        0 => k.move_left(t, count),
-        1 => k.move_right_in_line(t, count),
-        2 => k.move_right_to_end(t, count),
-        3 => k.move_space_fwd(t, count),
-        4 => k.move_backspace_back(t, count),
-        5 => k.move_line_start(t),
-        6 => k.move_first_non_blank(t),
-        7 => k.move_line_end(t),
-        8 => k.move_goto_column(t, count),
-        9 => k.move_last_non_blank(t),
-        10 => k.move_paragraph_prev(t, count),
-        11 => k.move_paragraph_next(t, count),
-        12 => k.move_section_backward(t, count),
-        13 => k.move_section_forward(t, count),
-        14 => k.move_section_end_backward(t, count),
-        15 => k.move_section_end_forward(t, count),
-        16 => k.move_first_non_blank_next_line(t, count),
-        17 => k.move_first_non_blank_prev_line(t, count),
-        18 => k.move_first_non_blank_line(t, count),
-        19 => k.move_top(t),
-        20 => k.move_bottom(t, count),
-        _ => Moved::Refused(100),
+        0 => Asked::For(Move::By(Way::Left)),
+        1 => Asked::For(Move::By(Way::RightInLine)),
+        2 => Asked::For(Move::By(Way::RightToEnd)),
+        3 => Asked::For(Move::By(Way::SpaceFwd)),
+        4 => Asked::For(Move::By(Way::BackspaceBack)),
+        5 => Asked::For(Move::By(Way::LineStart)),
+        6 => Asked::For(Move::By(Way::FirstNonBlank)),
+        7 => Asked::For(Move::By(Way::LineEnd)),
+        8 => Asked::For(Move::By(Way::GotoColumn)),
+        9 => Asked::For(Move::By(Way::LastNonBlank)),
+        10 => Asked::For(Move::By(Way::ParagraphPrev)),
+        11 => Asked::For(Move::By(Way::ParagraphNext)),
+        12 => Asked::For(Move::By(Way::SectionBackward)),
+        13 => Asked::For(Move::By(Way::SectionForward)),
+        14 => Asked::For(Move::By(Way::SectionEndBackward)),
+        15 => Asked::For(Move::By(Way::SectionEndForward)),
+        16 => Asked::For(Move::By(Way::NextLine)),
+        17 => Asked::For(Move::By(Way::PrevLine)),
+        18 => Asked::For(Move::By(Way::ThisLine)),
+        19 => Asked::For(Move::By(Way::Top)),
+        20 => Asked::For(Move::By(Way::Bottom)),
+        _ => Asked::Nothing,
     }
 }
 
@@ -106,5 +109,6 @@ pub fn motion(
         (now (out .entry)) r (now (out .exit)) ⌝ }
 {
     let k = caret_of(row, col, held, sticky);
-    place(move_by(op, k, text, count), out)
+    let none = &text[..0];
+    place(move_as(way_of(op), k, text, none, none, 0, count), out)
 }

@@ -1,14 +1,15 @@
 // `%` and the finds within a row.
+use crate::Asked;
+use crate::asks::seek_as;
 use crate::moves::caret_of;
 use crate::moves::column_of;
 use crate::moves::held_of;
-use motions::Caret;
+use motions::Move;
 use motions::Sought;
 ghost use mathlib.Core.Path.{_≡_};
 ghost use Rattle.call_bytes.specs.Reply.{Replied};
 ghost use Rattle.call_texts.specs.Carets.{caretOf};
-ghost use Rattle.call_texts.specs.Seeks.{sought, seeks};
-ghost use Rattle.call_texts.specs.Seeks.{seek as Seeks·seek};
+ghost use Rattle.call_texts.specs.Seeks.{sought, seekOf, seeks};
 
 // Puts 1 or 0, found or missing, and the caret into `out`; answers 0, or the refusal's number.
 fn tell(m: Sought, out: &mut [u32; 5]) -> u32
@@ -29,23 +30,34 @@ fn tell(m: Sought, out: &mut [u32; 5]) -> u32
     }
 }
 
+// A find within the row.
+fn find(x: u32, forward: bool, till: bool, skip: bool) -> Asked
+    ensures { λ r. ⌜ r ≡ Asked.For (Move.Find x forward till skip) ⌝ }
+{
+    Asked::For(Move::Find {
+        x: x,
+        forward: forward,
+        till: till,
+        skip: skip,
+    })
+}
+
 // What a number stands for: 0 `match_bracket`, which seeks no character; 1 and on
-// `find_char_on_line`, 1 more for forward, 2 more for till, 4 more for skip_adjacent; 100 where it
-// stands for none.
-fn seek_by(op: u32, k: Caret, t: &[u32], x: u32) -> Sought
-    ensures { λ r. ⌜ r ≡ Seeks·seek op x k (now (t .entry)) ⌝ }
+// `find_char_on_line`, 1 more for forward, 2 more for till, 4 more for skip_adjacent.
+fn seek_of(op: u32, x: u32) -> Asked
+    ensures { λ r. ⌜ r ≡ seekOf op x ⌝ }
 {
     match op {
-        0 => k.match_bracket(t),
-        1 => k.find_char_on_line(t, x, false, false, false),
-        2 => k.find_char_on_line(t, x, true, false, false),
-        3 => k.find_char_on_line(t, x, false, true, false),
-        4 => k.find_char_on_line(t, x, true, true, false),
-        5 => k.find_char_on_line(t, x, false, false, true),
-        6 => k.find_char_on_line(t, x, true, false, true),
-        7 => k.find_char_on_line(t, x, false, true, true),
-        8 => k.find_char_on_line(t, x, true, true, true),
-        _ => Sought::Refused(100),
+        0 => Asked::For(Move::Bracket),
+        1 => find(x, false, false, false),
+        2 => find(x, true, false, false),
+        3 => find(x, false, true, false),
+        4 => find(x, true, true, false),
+        5 => find(x, false, false, true),
+        6 => find(x, true, false, true),
+        7 => find(x, false, true, true),
+        8 => find(x, true, true, true),
+        _ => Asked::Nothing,
     }
 }
 
@@ -64,5 +76,5 @@ pub fn seek(
         (now (out .entry)) r (now (out .exit)) ⌝ }
 {
     let k = caret_of(row, col, held, sticky);
-    tell(seek_by(op, k, text, x), out)
+    tell(seek_as(seek_of(op, x), k, text), out)
 }

@@ -1,25 +1,37 @@
 // The edges of a viewport.
+use crate::Asked;
+use crate::asks::move_as;
 use crate::moves::caret_of;
 use crate::moves::place;
-use motions::Caret;
-use motions::Moved;
+use motions::Move;
+use vertical::Edge;
 ghost use mathlib.Core.Path.{_≡_};
 ghost use Rattle.call_bytes.specs.Reply.{Replied};
 ghost use Rattle.call_texts.specs.Carets.{caretOf};
-ghost use Rattle.call_texts.specs.Viewports.{viewports};
-ghost use Rattle.call_texts.specs.Viewports.{viewport as Viewports·viewport};
+ghost use Rattle.call_texts.specs.Viewports.{edgeOf, viewports};
+
+// A motion to an edge.
+fn to(edge: Edge, top: u32, height: u16, offset: u32) -> Asked
+    ensures { λ r. ⌜ r ≡ Asked.For (Move.Viewport edge top height offset) ⌝ }
+{
+    Asked::For(Move::Viewport {
+        edge: edge,
+        top: top,
+        height: height,
+        offset: offset,
+    })
+}
 
 // The viewport motion that a number stands for: 0 `move_viewport_top`, which takes no height, 1
-// `move_viewport_middle`, which takes no offset, 2 `move_viewport_bottom`; 100 where it stands for
-// none.
-fn viewport_by(op: u32, k: Caret, t: &[u32], top: u32, height: u16, offset: u32) -> Moved
-    ensures { λ r. ⌜ r ≡ Viewports·viewport op top height offset k (now (t .entry)) ⌝ }
+// `move_viewport_middle`, which takes no offset, 2 `move_viewport_bottom`.
+fn edge_of(op: u32, top: u32, height: u16, offset: u32) -> Asked
+    ensures { λ r. ⌜ r ≡ edgeOf op top height offset ⌝ }
 {
     match op {
-        0 => k.move_viewport_top(t, top, offset),
-        1 => k.move_viewport_middle(t, top, height),
-        2 => k.move_viewport_bottom(t, top, height, offset),
-        _ => Moved::Refused(100),
+        0 => to(Edge::Top, top, 0, offset),
+        1 => to(Edge::Middle, top, height, 0),
+        2 => to(Edge::Bottom, top, height, offset),
+        _ => Asked::Nothing,
     }
 }
 
@@ -41,5 +53,7 @@ pub fn viewport(
         (now (out .entry)) r (now (out .exit)) ⌝ }
 {
     let k = caret_of(row, col, held, sticky);
-    place(viewport_by(op, k, text, top, height, offset), out)
+    let none = &text[..0];
+    let m = edge_of(op, top, height, offset);
+    place(move_as(m, k, text, none, none, 0, 1), out)
 }

@@ -7,15 +7,12 @@ use Prim.Native.Nat.{ℕ}
 use native.Mathlib.Omega.{arith}
 use lib.Dec.{eqb}
 use borrow.Author.Tests.{eqb-true}
-use Rattle.text_moves.specs.declared.Step.{Step}
-use Rattle.text_moves.specs.Ways.{stepped}
 use Rattle.positions.specs.Positions.{lowest}
 use Rattle.positions.proofs.Lowest.{lowest-none}
 use Rattle.positions.proofs.Checks.{inside, inside-at}
-use Rattle.text_moves.proofs.Staying.{stepped-in}
-use Rattle.text_moves.specs.declared.Jump.{Jump}
-use Rattle.text_moves.specs.Ways.{jumped}
-use Rattle.text_moves.proofs.Staying.{jumped-in}
+use Rattle.text_moves.specs.declared.Way.{Way}
+use Rattle.text_moves.specs.Ways.{gone}
+use Rattle.text_moves.proofs.Going.{gone-in}
 use Rattle.motions.specs.declared.Caret.{Caret}
 use Rattle.motions.specs.declared.Moved.{Moved}
 use Rattle.motions.specs.declared.Moved.the-variants.{To, Refused}
@@ -44,8 +41,5 @@ module _ (t : List ℕ) (k : Caret) where
   pub caret-in : (f : ℕ) (rest : List ℕ) → lowest (f ∷ caretRefusal t k ∷ rest) ≡ 0 → Inside t k
   caret-in f rest z = inside-at t (here k) (lowest-none (caretRefusal t k) rest (lowest-none f (caretRefusal t k ∷ rest) z .1) .0)
 
-  pub step-lands : (s : Step) (n : ℕ) → Lands t (leads t k (stepped t s n (here k)))
-  step-lands s n = moving-lands t (refusalOf t k) (put k (stepped t s n (here k))) (λ z. stepped-in t s n (here k) (inside t (here k) z))
-
-  pub jump-lands : (j : Jump) (n : ℕ) → Lands t (leads t k (jumped t j n (here k)))
-  jump-lands j n = moving-lands t (refusalOf t k) (put k (jumped t j n (here k))) (λ z. jumped-in t j n (here k) (inside t (here k) z))
+  pub way-lands : (w : Way) (n : ℕ) → Lands t (leads t k (gone t w n (here k)))
+  way-lands w n = moving-lands t (refusalOf t k) (put k (gone t w n (here k))) (λ z. gone-in t w n (here k) (inside t (here k) z))

@@ -13,7 +13,7 @@ use Rattle.vertical.proofs.Inside.{rows-inside}
 use Rattle.vertical.proofs.Edges.{viewport-within}
 use Rattle.vertical.specs.declared.Edge.{Edge}
 use Rattle.screen.proofs.Inside.{move-inside}
-use Rattle.row_moves.proofs.Staying.{row-in}
+use Rattle.text_moves.proofs.Staying.{row-in}
 use Rattle.motions.specs.declared.Caret.{Caret}
 use Rattle.motions.specs.Carets.{refusalOf, Inside}
 use Rattle.motions.specs.UpDown.{stopRefusal, verticalRefusal, moveRows, moveScreenRows}

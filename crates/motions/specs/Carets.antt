@@ -8,6 +8,7 @@ use Rattle.positions.specs.declared.Position.{Position}
 use Rattle.positions.specs.declared.Entry.{Entry}
 use Rattle.positions.specs.Positions
 use Rattle.positions.specs.Positions.{position, positionRefusal, refusalAt}
+use Rattle.vertical.specs.declared.Sticky.{Sticky}
 use Rattle.motions.specs.declared.Caret.{Caret}
 use Rattle.motions.specs.declared.Moved.{Moved}
 use Rattle.motions.specs.declared.Moved.the-variants.{To, Refused}
@@ -39,9 +40,13 @@ abbrev pub caretAfter : Caret → Moved → Caret
 caretAfter old (To k) = k
 caretAfter old (Refused f) = old
 
+-- a caret by its parts: every caret that a motion answers with
+abbrev pub caretAt : ℕ → ℕ → Sticky → Caret
+caretAt r c s = record { row = r; col = c; sticky = s }
+
 -- a caret at another row and column: all else is kept
 abbrev pub placed : Caret → ℕ → ℕ → Caret
-placed k r c = record { row = r; col = c; sticky = k .sticky }
+placed k r c = caretAt r c (k .sticky)
 
 abbrev pub put : Caret → Position → Caret
 put k p = placed k (p .row) (p .col)

@@ -8,3 +8,5 @@ pub mod Finds
 pub mod WordMoves
 pub mod UpDown
 pub mod ViewportMoves
+pub mod Checks
+pub mod Going

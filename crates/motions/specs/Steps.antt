@@ -2,14 +2,14 @@
 -- Definitions only. Assumes nothing.
 use Prim.Native.Nat.{ℕ}
 use mathlib.Core.List.{List}
-use Rattle.text_moves.specs.declared.Step.the-variants.{SpaceFwd, BackspaceBack}
-use Rattle.text_moves.specs.Ways.{stepped}
+use Rattle.text_moves.specs.declared.Way.the-variants.{SpaceFwd, BackspaceBack}
+use Rattle.text_moves.specs.Ways.{gone}
 use Rattle.motions.specs.declared.Caret.{Caret}
 use Rattle.motions.specs.declared.Moved.{Moved}
 use Rattle.motions.specs.Carets.{here, leads}
 
 abbrev pub moveSpaceFwd : List ℕ → ℕ → Caret → Moved
-moveSpaceFwd t n k = leads t k (stepped t SpaceFwd n (here k))
+moveSpaceFwd t n k = leads t k (gone t SpaceFwd n (here k))
 
 abbrev pub moveBackspaceBack : List ℕ → ℕ → Caret → Moved
-moveBackspaceBack t n k = leads t k (stepped t BackspaceBack n (here k))
+moveBackspaceBack t n k = leads t k (gone t BackspaceBack n (here k))

@@ -13,12 +13,11 @@ use Rattle.vertical.specs.declared.Sticky.the-variants.{At}
 use Rattle.vertical.specs.declared.Target.{Target}
 use Rattle.visible_rows.specs.Visible.{deltaOf}
 use Rattle.vertical.specs.Moves.{moveVertical}
-use Rattle.vertical.specs.Moves
 use Rattle.screen.specs.Screen.{moveScreen}
 use Rattle.positions.specs.Positions.{lowest}
 use Rattle.motions.specs.declared.Caret.{Caret}
 use Rattle.motions.specs.declared.Moved.{Moved}
-use Rattle.motions.specs.Carets.{caretRefusal, moving}
+use Rattle.motions.specs.Carets.{caretRefusal, moving, caretAt}
 
 -- 6: a tabstop above 1,000
 abbrev pub stopRefusal : ℕ → ℕ
@@ -30,7 +29,7 @@ verticalRefusal t folds tabstop k = lowest (textRefusal t ∷ caretRefusal t k �
 
 -- the caret where a walk has ended: what it aimed for is the sticky column
 abbrev pub atTarget : Target → Caret
-atTarget p = record { row = p .row; col = p .col; sticky = At (p .want) }
+atTarget p = caretAt (p .row) (p .col) (At (p .want))
 
 -- `j` and `k`
 abbrev pub moveRows : List ℕ → List ℕ → ℕ → Bool → ℕ → Caret → Moved
@@ -43,7 +42,3 @@ screenCaret t folds tabstop mode width down count k = atTarget (moveScreen width
 
 abbrev pub moveScreenRows : List ℕ → List ℕ → ℕ → Wrap → ℕ → Bool → ℕ → Caret → Moved
 moveScreenRows t folds tabstop mode width down count k = moving (verticalRefusal t folds tabstop k) (screenCaret t folds tabstop mode width down count k)
-
--- what the walks require of a call that no check refuses
-abbrev pub Ready : List ℕ → List ℕ → ℕ → Caret → ℕ → Type 0
-Ready t folds tabstop k start = Moves.Accepted t folds (record { row = k .row; start = start }) (k .col) tabstop

@@ -4,7 +4,7 @@ use Prim.Native.Nat.{ℕ}
 use mathlib.Core.List.{List}
 use Rattle.vertical.specs.declared.Edge.{Edge}
 use Rattle.vertical.specs.Viewport.{viewportRow}
-use Rattle.row_moves.specs.Rows.{atRow}
+use Rattle.text_moves.specs.Rows.{atRow}
 use Rattle.motions.specs.declared.Caret.{Caret}
 use Rattle.motions.specs.declared.Moved.{Moved}
 use Rattle.motions.specs.Carets.{refusalOf, moving, put}

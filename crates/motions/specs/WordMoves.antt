@@ -10,11 +10,19 @@ use Rattle.list_tokens.specs.Tokens.{inList}
 use Rattle.keywords.specs.Table.{parseOf}
 use Rattle.word_kinds.specs.Places.{Place, place, kindOf}
 use Rattle.word_rounds.specs.declared.Motion.{Motion}
+use Rattle.word_rounds.specs.declared.Motion.the-variants.{Fwd, Back, End, EndBack}
 use Rattle.word_rounds.specs.Rounds.{wordMotion}
 use Rattle.positions.specs.Positions.{lowest}
 use Rattle.motions.specs.declared.Caret.{Caret}
 use Rattle.motions.specs.declared.Moved.{Moved}
 use Rattle.motions.specs.Carets.{caretRefusal, moving, placed}
+
+-- the folds that a word motion takes: all, but none for `ge`
+abbrev pub foldsOf : Motion → List ℕ → List ℕ
+foldsOf Fwd folds = folds
+foldsOf Back folds = folds
+foldsOf End folds = folds
+foldsOf EndBack folds = []
 
 -- text, caret, folds, and then 7 or 8 of the list
 abbrev pub wordRefusal : List ℕ → List ℕ → List ℕ → Caret → ℕ

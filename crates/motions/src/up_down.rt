@@ -1,36 +1,40 @@
 // `j`, `k`, `gj` and `gk`: motions.rs, "Vertical motions". The walks are those of `screen`, which
 // are lent the tables of widths. `j` and `k` are the screen moves of a viewport that doesn't wrap.
 use crate::Caret;
+use crate::Move;
 use crate::Moved;
+use crate::caret_at;
+use positions::Entry;
 use row_wrap::Wrap;
 use text::Line;
 use vertical::Sticky;
 ghost use mathlib.Core.Path.{_≡_};
 ghost use mathlib.Core.Bool.{true, false};
-ghost use Rattle.motions.specs.UpDown.{moveRows, moveScreenRows};
+ghost use Prim.Native.Nat.{_≤_};
+ghost use Rattle.text.specs.Text.{rowCount};
+ghost use Rattle.folds.specs.Folds.{foldRefusal};
+ghost use Rattle.positions.specs.Positions.{Accepted};
+ghost use Rattle.motions.specs.Carets.{here};
+ghost use Rattle.motions.specs.UpDown.{screenCaret, moveRows, moveScreenRows};
 
 impl Caret {
-    // The checks of a vertical motion, 1 to 6, and the motion.
-    fn upright(
+    // Where a vertical motion leads to, of inputs that were accepted. It sets the sticky column.
+    pub(crate) fn to_row(
         self,
         t: &[u32],
         folds: &[u32],
+        tabstop: u32,
+        e: Entry,
         mode: Wrap,
         width: u16,
         down: bool,
         count: u32,
-        tabstop: u32,
-    ) -> Moved
-        ensures { λ r. ⌜ r ≡ moveScreenRows (now (t .entry)) (now (folds .entry)) tabstop mode width
+    ) -> Caret
+        requires { ⌜ Accepted (now t) (here self) e ×
+            (foldRefusal (now folds) (rowCount (now t)) ≡ 0) × (tabstop ≤ 1000) ⌝ }
+        ensures { λ r. ⌜ r ≡ screenCaret (now (t .entry)) (now (folds .entry)) tabstop mode width
             down count self ⌝ }
     {
-        let e = self.enter_folds(t, folds);
-        if e.refusal != 0 {
-            return Moved::Refused(e.refusal);
-        }
-        if tabstop > 1000 {
-            return Moved::Refused(6);
-        }
         let l = Line {
             row: self.row as usize,
             start: e.start,
@@ -52,12 +56,7 @@ impl Caret {
             mode,
             width,
         );
-        let c = self.placed(p.row, p.col);
-        Moved::To(Caret {
-            row: c.row,
-            col: c.col,
-            sticky: Sticky::At(p.want),
-        })
+        caret_at(p.row, p.col, Sticky::At(p.want))
     }
 
     // `k`: so many visible rows up, or the first that is left.
@@ -65,7 +64,14 @@ impl Caret {
         ensures { λ r. ⌜ r ≡ moveRows (now (t .entry)) (now (folds .entry)) tabstop false count self
             ⌝ }
     {
-        self.upright(t, folds, Wrap::None, 0, false, count, tabstop)
+        self.moved_by(
+            t,
+            folds,
+            &t[..0],
+            tabstop,
+            Move::Rows { down: false },
+            count,
+        )
     }
 
     // `j`: so many visible rows down, or the last that is left.
@@ -73,7 +79,7 @@ impl Caret {
         ensures { λ r. ⌜ r ≡ moveRows (now (t .entry)) (now (folds .entry)) tabstop true count self
             ⌝ }
     {
-        self.upright(t, folds, Wrap::None, 0, true, count, tabstop)
+        self.moved_by(t, folds, &t[..0], tabstop, Move::Rows { down: true }, count)
     }
 
     // `gk`: so many segments up; in a viewport that doesn't wrap, or that is 0 cells wide, as `k`.
@@ -89,7 +95,18 @@ impl Caret {
         ensures { λ r. ⌜ r ≡ moveScreenRows (now (t .entry)) (now (folds .entry)) tabstop mode width
             false count self ⌝ }
     {
-        self.upright(t, folds, mode, width, false, count, tabstop)
+        self.moved_by(
+            t,
+            folds,
+            &t[..0],
+            tabstop,
+            Move::Screen {
+                mode: mode,
+                width: width,
+                down: false,
+            },
+            count,
+        )
     }
 
     // `gj`: so many segments down, as `gk` goes up.
@@ -105,6 +122,17 @@ impl Caret {
         ensures { λ r. ⌜ r ≡ moveScreenRows (now (t .entry)) (now (folds .entry)) tabstop mode width
             true count self ⌝ }
     {
-        self.upright(t, folds, mode, width, true, count, tabstop)
+        self.moved_by(
+            t,
+            folds,
+            &t[..0],
+            tabstop,
+            Move::Screen {
+                mode: mode,
+                width: width,
+                down: true,
+            },
+            count,
+        )
     }
 }

@@ -7,19 +7,16 @@ use Prim.Native.Nat.{ℕ, _+_, _≤_, _<_}
 use native.Mathlib.Omega.{arith}
 use lib.Dec.{eqb, ltb, leb}
 use borrow.Author.Tests.{eq-eqb, ne-eqb, eqb-true, ltb-true, leb-true, lt-ltb, le-ltb, le-leb, lt-leb}
-use Rattle.chars.specs.Scalar.{isScalar}
 use Rattle.text_check.specs.Accept.{textRefusal}
 use Rattle.text.specs.Text.{rowCount, rowLen}
 use Rattle.text.specs.Offsets.{rowStart}
-use Rattle.folds.specs.Folds.{foldRefusal}
 use Rattle.text_check.proofs.Accepted.{accepted-short}
 use Rattle.text.proofs.Parts.{row-fits}
 use Rattle.text.proofs.Stands.{line-at, stands-in}
 use Rattle.positions.specs.declared.Position.{Position}
 use Rattle.positions.specs.declared.Entry.{Entry}
-use Rattle.positions.specs.Positions.{positionRefusal, lowest, refusalAt, orSought, refusalWith, refusalFolds}
-use Rattle.positions.specs.Positions.{refusedBy, foundAt, entryBy, entryOf, entryWith, entryFolds, Accepted, Inside}
-use Rattle.positions.proofs.Lowest.{lowest-none, lowest-kept, lowest-last}
+use Rattle.positions.specs.Positions.{positionRefusal, lowest, refusalAt, refusedBy, foundAt, entryBy, entryOf, Accepted, Inside}
+use Rattle.positions.proofs.Lowest.{lowest-none}
 
 -- where no check refuses
 module _ (t : List ℕ) (k : Position) where
@@ -102,39 +99,3 @@ module _ (t : List ℕ) (k : Position) (e : Entry) (is : e ≡ entryOf t k) wher
 
   pub entered : e .refusal ≡ 0 → Accepted t k e
   entered z = by-entered t k (refusalAt t k) e is z (sym entry-number ∙ z)
-
-  -- the answers of `enter_with`, which calls it
-  module _ (x : ℕ) where
-    pub with-long : e .refusal ≡ 1 → e ≡ entryWith t k x
-    unfolding orSought
-    with-long z =
-        let one : refusalAt t k ≡ 1 = sym entry-number ∙ z in
-        is ∙ ap (λ (f : ℕ). entryBy f t k) (rw one)
-
-    module _ (n : e .refusal ≡ 1 → ⊥) where
-      pub sought-wrong : isScalar x ≡ false → refusalWith t k x ≡ 2
-      unfolding orSought
-      sought-wrong s = rw (ne-eqb (refusalAt t k) 1 (λ o. n (entry-number ∙ o)), s)
-
-      pub with-rest : isScalar x ≡ true → e ≡ entryWith t k x
-      unfolding orSought
-      with-rest s = is ∙ ap (λ (f : ℕ). entryBy f t k) (rw (ne-eqb (refusalAt t k) 1 (λ o. n (entry-number ∙ o)), s))
-
-  -- the answers of `enter_folds`
-  module _ (folds : List ℕ) where
-    two : List ℕ
-    two = textRefusal t ∷ positionRefusal t k ∷ []
-
-    pub folds-first : (e .refusal ≡ 0 → ⊥) → e ≡ entryFolds t folds k
-    unfolding two
-    folds-first n =
-        is ∙ ap (λ (f : ℕ). entryBy f t k) (sym (lowest-kept two (foldRefusal folds (rowCount t)) (λ z. n (entry-number ∙ z))))
-
-    module _ (z : e .refusal ≡ 0) {f : ℕ} (told : f ≡ foldRefusal folds (e .rows)) where
-      pub folds-last : refusalFolds t folds k ≡ f
-      unfolding two
-      folds-last =
-          lowest-last two (foldRefusal folds (rowCount t)) (sym entry-number ∙ z) ∙ sym (told ∙ ap (foldRefusal folds) (entered z .all-rows))
-
-      pub folds-right : f ≡ 0 → e ≡ entryFolds t folds k
-      folds-right w = is ∙ ap (λ (g : ℕ). entryBy g t k) (sym entry-number ∙ z ∙ sym (folds-last ∙ w))

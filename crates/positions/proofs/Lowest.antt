@@ -42,3 +42,11 @@ lowest-last [] d z = lowest-one d (ℕ-discrete d 0)
 lowest-last (f ∷ rest) d z =
     let p = lowest-none f rest z in
     rw (eq-eqb f 0 (p .0)) (lowest-last rest d (p .1))
+
+-- the next check is made where the ones before it refuse nothing
+pub lowest-then : (l : List ℕ) (d : ℕ) → cond (eqb (lowest l) 0) d (lowest l) ≡ lowest (l ++ (d ∷ []))
+lowest-then l d = go (ℕ-discrete (lowest l) 0)
+  where
+    go : Dec (lowest l ≡ 0) → cond (eqb (lowest l) 0) d (lowest l) ≡ lowest (l ++ (d ∷ []))
+    go (yes z) = rw (eq-eqb (lowest l) 0 z) (sym (lowest-last l d z))
+    go (no n) = rw (ne-eqb (lowest l) 0 n) (sym (lowest-kept l d n))

@@ -56,15 +56,13 @@ orSought f scalar = cond (eqb f 1) 1 (cond scalar f 2)
 abbrev pub refusalWith : List ℕ → Position → ℕ → ℕ
 refusalWith t p x = orSought (refusalAt t p) (isScalar x)
 
-abbrev pub entryWith : List ℕ → Position → ℕ → Entry
-entryWith t p x = entryBy (refusalWith t p x) t p
-
 -- with folds: text, position, folds
 abbrev pub refusalFolds : List ℕ → List ℕ → Position → ℕ
 refusalFolds t folds p = lowest (textRefusal t ∷ positionRefusal t p ∷ foldRefusal folds (rowCount t) ∷ [])
 
-abbrev pub entryFolds : List ℕ → List ℕ → Position → Entry
-entryFolds t folds p = entryBy (refusalFolds t folds p) t p
+-- the same from what the checks have found out
+unfoldable pub orFolds : Entry → List ℕ → ℕ
+orFolds e folds = cond (eqb (e .refusal) 0) (foldRefusal folds (e .rows)) (e .refusal)
 
 -- a text and a position that no check refuses, and what the checks have found out of them
 pub record Accepted (t : List ℕ) (p : Position) (e : Entry) : Type 0 where

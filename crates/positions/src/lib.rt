@@ -1,7 +1,8 @@
 // Positions of a text: the checks of one, which every motion begins with.
 // From document 01, "Text, rows, carets" and "Refusal numbers".
 ghost use mathlib.Core.Path.{_≡_};
-ghost use Rattle.positions.specs.Positions.{refusedBy, entryOf, entryWith, entryFolds};
+ghost use Rattle.chars.specs.Scalar.{isScalar};
+ghost use Rattle.positions.specs.Positions.{refusedBy, entryOf, orSought, orFolds};
 
 // A row, and a column in it, which may be the row's character count.
 pub struct Position {
@@ -56,31 +57,25 @@ pub fn enter(t: &[u32], p: Position) -> Entry
     }
 }
 
-// The checks, and one of a character sought: 2 where it is no scalar value, next after 1.
-pub fn enter_with(t: &[u32], p: Position, x: u32) -> Entry
-    ensures { λ r. ⌜ r ≡ entryWith (now (t .entry)) p x ⌝ }
+// The refusal with a character sought too: 2 where it is no scalar value, next after 1.
+pub fn or_sought(e: Entry, x: u32) -> u32
+    ensures { λ r. ⌜ r ≡ orSought (e .refusal) (isScalar x) ⌝ }
 {
-    let e = enter(t, p);
     if e.refusal == 1 {
-        return e;
+        return 1;
     }
     if !chars::is_scalar(x) {
-        return refused(2);
+        return 2;
     }
-    e
+    e.refusal
 }
 
-// The checks with folds: text, position, and then those (5).
-pub fn enter_folds(t: &[u32], folds: &[u32], p: Position) -> Entry
-    ensures { λ r. ⌜ r ≡ entryFolds (now (t .entry)) (now (folds .entry)) p ⌝ }
+// The refusal with folds too: text, position, and then those (5).
+pub fn or_folds(e: Entry, folds: &[u32]) -> u32
+    ensures { λ r. ⌜ r ≡ orFolds e (now (folds .entry)) ⌝ }
 {
-    let e = enter(t, p);
     if e.refusal != 0 {
-        return e;
+        return e.refusal;
     }
-    let wrong = folds::fold_refusal(folds, e.rows);
-    if wrong != 0 {
-        return refused(wrong);
-    }
-    e
+    folds::fold_refusal(folds, e.rows)
 }

@@ -50,13 +50,14 @@ use Rattle.motions.specs.Finds.{partnerTo, seeking, landsOn}
 use Rattle.call_texts.specs.Carets.{moved}
 use Rattle.call_rows.specs.Characters.{fact}
 use Rattle.call_rows.specs.Lists.{tokenCount, byTable, inTable, keyword}
-use Rattle.call_texts.specs.Moves.{motion}
+use Rattle.call_texts.specs.Asks.{moveAs, seekAs}
+use Rattle.call_texts.specs.Moves.{wayOf, motion}
 use Rattle.call_texts.specs.Partners.{partnered}
-use Rattle.call_texts.specs.Seeks.{sought, seek}
+use Rattle.call_texts.specs.Seeks.{sought, seekOf, seek}
 use Rattle.call_rows.specs.Tabs.{toldColumn, tabColumn}
-use Rattle.call_folds.specs.Terms.{word}
-use Rattle.call_texts.specs.Viewports.{viewport}
-use Rattle.call_folds.specs.Upright.{upright, vertical}
+use Rattle.call_folds.specs.Terms.{wordOf, word}
+use Rattle.call_texts.specs.Viewports.{edgeOf, viewport}
+use Rattle.call_folds.specs.Upright.{uprightOf, upright, vertical}
 use Rattle.call_rows.specs.Wraps.{toldSegment, toldSegments, offset, modeOf, segmented, segmentsLeft}
 use Rattle.promises.specs.Table.{table, given, asked, Examples}
 use Rattle.promises.specs.Calls.{calls, judged, good}
@@ -69,7 +70,7 @@ unfolding table
     sideOf keyBracket firstFrom lastBelow count stretch nearestOf placed matchingBracketPos keyTo landing findAhead
     roundFrom paragraphs kindOf kindAt onEmptyRow nextRow stepForward endOfBuffer walk goesOn nextWordStart roundOf counted wordMotion
     positionRefusal lowest moving partnerTo seeking landsOn orSought
-    moved keyword motion partnered sought seek toldColumn tabColumn word toldSegments modeOf segmented segmentsLeft
+    moved keyword moveAs seekAs wayOf motion partnered sought seekOf seek toldColumn tabColumn wordOf word toldSegments modeOf segmented segmentsLeft
 computed = refl
 
 -- P1 to P12
@@ -86,6 +87,7 @@ unfolding calls
     roundFrom paragraphs sectionUp sectionDown kindOf kindAt onEmptyRow nextRow stepForward inc dec endOfBuffer walk goesOn
     nextWordStart prevWordStart nextWordEnd prevWordEnd atWordEnd roundOf counted wordMotion
     positionRefusal lowest moving indentOf solidOf spaceFwd backspaceBack partnerTo seeking landsOn orSought
-    fact moved tokenCount byTable inTable keyword motion partnered sought seek toldColumn tabColumn word upright vertical viewport
+    fact moved tokenCount byTable inTable keyword moveAs seekAs wayOf motion partnered sought seekOf seek toldColumn tabColumn wordOf word
+    uprightOf upright vertical edgeOf viewport
     toldSegment toldSegments offset modeOf segmented segmentsLeft
 right-alone = refl

@@ -1,19 +1,23 @@
 -- Where a motion by number leads to is in the text: those by their position alone, and the viewport's. Assumes nothing.
 use mathlib.Core.Path.{_≡_}
-use mathlib.Core.List.{List}
+use mathlib.Core.List.{List, []}
 use mathlib.Core.Bool.{Bool, true, false, cond}
 use Prim.Native.Nat.{ℕ}
 use native.Mathlib.Omega.{arith}
 use lib.Dec.{eqb}
-use Rattle.text_moves.specs.declared.Step.the-variants as step
-use Rattle.text_moves.specs.declared.Jump.the-variants as jump
+use Rattle.text_moves.specs.declared.Way.{Way}
+use Rattle.text_moves.specs.declared.Way.the-variants as way
 use Rattle.motions.specs.declared.Caret.{Caret}
+use Rattle.motions.specs.declared.Move.the-variants.{By}
 use Rattle.motions.specs.declared.Moved.the-variants.{Refused}
-use Rattle.motions.proofs.Landing.{Lands, step-lands, jump-lands}
+use Rattle.motions.proofs.Landing.{Lands, way-lands}
 use Rattle.motions.proofs.Reaching.{viewport-lands}
 use Rattle.vertical.specs.declared.Edge.the-variants.{Top, Middle, Bottom}
-use Rattle.call_texts.specs.Moves.{motion}
-use Rattle.call_texts.specs.Viewports.{viewport}
+use Rattle.call_texts.specs.declared.Asked.{Asked}
+use Rattle.call_texts.specs.declared.Asked.the-variants.{For}
+use Rattle.call_texts.specs.Asks.{moveAs}
+use Rattle.call_texts.specs.Moves.{wayOf, motion}
+use Rattle.call_texts.specs.Viewports.{edgeOf, viewport}
 
 -- one of two answers
 pub either : {A : Type 0} (P : A → Type 0) (b : Bool) (x y : A) → P x → P y → P (cond b x y)
@@ -25,36 +29,37 @@ module _ (t : List ℕ) where
   none-lands f c e = let z : _≡_ {A = ℕ} 0 1 = cc in absurd (omega arith)
 
   pub motion-lands : (op n : ℕ) (k : Caret) → Lands t (motion op n k t)
-  unfolding motion
+  unfolding motion wayOf moveAs
   motion-lands op n k =
-      let P = Lands t in
-      either P (eqb op 0) _ _ (step-lands t k step.Left n)
-      (either P (eqb op 1) _ _ (step-lands t k step.RightInLine n)
-      (either P (eqb op 2) _ _ (step-lands t k step.RightToEnd n)
-      (either P (eqb op 3) _ _ (step-lands t k step.SpaceFwd n)
-      (either P (eqb op 4) _ _ (step-lands t k step.BackspaceBack n)
-      (either P (eqb op 5) _ _ (step-lands t k step.LineStart 1)
-      (either P (eqb op 6) _ _ (step-lands t k step.FirstNonBlank 1)
-      (either P (eqb op 7) _ _ (step-lands t k step.LineEnd 1)
-      (either P (eqb op 8) _ _ (step-lands t k step.GotoColumn n)
-      (either P (eqb op 9) _ _ (step-lands t k step.LastNonBlank 1)
-      (either P (eqb op 10) _ _ (jump-lands t k jump.ParagraphPrev n)
-      (either P (eqb op 11) _ _ (jump-lands t k jump.ParagraphNext n)
-      (either P (eqb op 12) _ _ (jump-lands t k jump.SectionBackward n)
-      (either P (eqb op 13) _ _ (jump-lands t k jump.SectionForward n)
-      (either P (eqb op 14) _ _ (jump-lands t k jump.SectionEndBackward n)
-      (either P (eqb op 15) _ _ (jump-lands t k jump.SectionEndForward n)
-      (either P (eqb op 16) _ _ (jump-lands t k jump.NextLine n)
-      (either P (eqb op 17) _ _ (jump-lands t k jump.PrevLine n)
-      (either P (eqb op 18) _ _ (jump-lands t k jump.ThisLine n)
-      (either P (eqb op 19) _ _ (jump-lands t k jump.Top 1)
-      (either P (eqb op 20) _ _ (jump-lands t k jump.Bottom n)
+      let P : Asked → Type 0 = λ a. Lands t (moveAs a n k t [] [] 0) in
+      let leads : (w : Way) → P (For (By w)) = λ w. way-lands t k w n in
+      either P (eqb op 0) _ _ (leads way.Left)
+      (either P (eqb op 1) _ _ (leads way.RightInLine)
+      (either P (eqb op 2) _ _ (leads way.RightToEnd)
+      (either P (eqb op 3) _ _ (leads way.SpaceFwd)
+      (either P (eqb op 4) _ _ (leads way.BackspaceBack)
+      (either P (eqb op 5) _ _ (leads way.LineStart)
+      (either P (eqb op 6) _ _ (leads way.FirstNonBlank)
+      (either P (eqb op 7) _ _ (leads way.LineEnd)
+      (either P (eqb op 8) _ _ (leads way.GotoColumn)
+      (either P (eqb op 9) _ _ (leads way.LastNonBlank)
+      (either P (eqb op 10) _ _ (leads way.ParagraphPrev)
+      (either P (eqb op 11) _ _ (leads way.ParagraphNext)
+      (either P (eqb op 12) _ _ (leads way.SectionBackward)
+      (either P (eqb op 13) _ _ (leads way.SectionForward)
+      (either P (eqb op 14) _ _ (leads way.SectionEndBackward)
+      (either P (eqb op 15) _ _ (leads way.SectionEndForward)
+      (either P (eqb op 16) _ _ (leads way.NextLine)
+      (either P (eqb op 17) _ _ (leads way.PrevLine)
+      (either P (eqb op 18) _ _ (leads way.ThisLine)
+      (either P (eqb op 19) _ _ (leads way.Top)
+      (either P (eqb op 20) _ _ (leads way.Bottom)
       (none-lands 100)))))))))))))))))))))
 
   pub edge-lands : (op top height offset : ℕ) (k : Caret) → Lands t (viewport op top height offset k t)
-  unfolding viewport
+  unfolding viewport edgeOf moveAs
   edge-lands op top height offset k =
-      let P = Lands t in
+      let P : Asked → Type 0 = λ a. Lands t (moveAs a 1 k t [] [] 0) in
       either P (eqb op 0) _ _ (viewport-lands t k Top top 0 offset)
       (either P (eqb op 1) _ _ (viewport-lands t k Middle top height 0)
       (either P (eqb op 2) _ _ (viewport-lands t k Bottom top height offset) (none-lands 100)))

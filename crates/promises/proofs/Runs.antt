@@ -35,7 +35,7 @@ use Rattle.print.specs.Print.{spell, decimal}
 use Rattle.session_row.specs.Commands.{digitsFrom, digitsOf, countIn}
 use Rattle.session_keys.specs.Keys.{twoBytes, wordKeys, lineKeys, placeKeys, found}
 use Rattle.session_input.specs.Parts.{commandRows, hasStop, textAt, isRefused}
-use Rattle.session_presses.specs.Pressed.{does, pressed}
+use Rattle.session_presses.specs.Pressed.{actOf, acted}
 use Rattle.session.specs.Session.{shownOf, lineOf, linesOf, sessionOf}
 use Rattle.session.specs.Session.{counted as turned}
 use Rattle.promises.specs.Calls.{sessions, judged, good}
@@ -50,5 +50,5 @@ unfolding sessions
     kindOf kindAt onEmptyRow nextRow stepForward endOfBuffer walk goesOn rounds verticalRow landed nextWordStart roundOf counted wordMotion
     positionRefusal lowest orSought moving partnerTo seeking landsOn
     codes spell decimal isSame digitsFrom digitsOf countIn twoBytes wordKeys lineKeys placeKeys found
-    commandRows hasStop textAt isRefused does pressed shownOf lineOf linesOf sessionOf turned
+    commandRows hasStop textAt isRefused actOf acted shownOf lineOf linesOf sessionOf turned
 session-alone = refl

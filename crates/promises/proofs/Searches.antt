@@ -26,7 +26,9 @@ use Rattle.motions.specs.declared.Sought.{Sought}
 use Rattle.motions.specs.declared.Sought.the-variants.{Found, Missing, Refused as Sought·Refused}
 use Rattle.motions.specs.Carets.{here, Inside, refusalOf}
 use Rattle.motions.specs.Finds.{matchBracket, findCharOnLine, seeking, landsOn}
-use Rattle.call_texts.specs.Seeks.{seek}
+use Rattle.call_texts.specs.declared.Asked.{Asked}
+use Rattle.call_texts.specs.Asks.{seekAs}
+use Rattle.call_texts.specs.Seeks.{seekOf, seek}
 use Rattle.promises.specs.Positions.{inMoved, inSought, inPartner, AllIn}
 use Rattle.promises.proofs.Landings.{either}
 use Rattle.promises.proofs.KeyMoves.{key}
@@ -74,17 +76,18 @@ module _ (t : List ℕ) where
         (λ i e. find-within (rowAt t (k .row)) (k .col) x forward till skip (w .in-col) e) w)
 
     pub seek-sits : (op x : ℕ) → Sits (seek op x k t)
-    unfolding seek
+    unfolding seek seekOf seekAs
     seek-sits op x =
-        either Sits (eqb op 0) _ _ key-sits
-        (either Sits (eqb op 1) _ _ (find-sits x false false false)
-        (either Sits (eqb op 2) _ _ (find-sits x true false false)
-        (either Sits (eqb op 3) _ _ (find-sits x false true false)
-        (either Sits (eqb op 4) _ _ (find-sits x true true false)
-        (either Sits (eqb op 5) _ _ (find-sits x false false true)
-        (either Sits (eqb op 6) _ _ (find-sits x true false true)
-        (either Sits (eqb op 7) _ _ (find-sits x false true true)
-        (either Sits (eqb op 8) _ _ (find-sits x true true true) tt))))))))
+        let P : Asked → Type 0 = λ a. Sits (seekAs a k t) in
+        either P (eqb op 0) _ _ key-sits
+        (either P (eqb op 1) _ _ (find-sits x false false false)
+        (either P (eqb op 2) _ _ (find-sits x true false false)
+        (either P (eqb op 3) _ _ (find-sits x false true false)
+        (either P (eqb op 4) _ _ (find-sits x true true false)
+        (either P (eqb op 5) _ _ (find-sits x false false true)
+        (either P (eqb op 6) _ _ (find-sits x true false true)
+        (either P (eqb op 7) _ _ (find-sits x false true true)
+        (either P (eqb op 8) _ _ (find-sits x true true true) tt))))))))
 
   -- a partner, of an accepted text alone
   pub pair-sits : (row col : ℕ) → AllIn t (inPartner (matchingBracketPos t row col))

@@ -23,7 +23,9 @@ use Rattle.motions.specs.UpDown.{verticalRefusal, atTarget, screenCaret, moveRo
 use Rattle.motions.proofs.Landing.{moving-to}
 use Rattle.motions.proofs.Reaching.{own, rows-lands}
 use Rattle.call_rows.specs.Wraps.{modeOf}
-use Rattle.call_folds.specs.Upright.{upright, vertical}
+use Rattle.call_texts.specs.declared.Asked.{Asked}
+use Rattle.call_texts.specs.Asks.{moveAs}
+use Rattle.call_folds.specs.Upright.{uprightOf, upright, vertical}
 use Rattle.promises.specs.Positions.{standing}
 use Rattle.promises.specs.Trails.{onScreen, stepOf, screenWrites}
 use Rattle.promises.specs.Writes.{screenMoves, uprightWrites}
@@ -72,12 +74,13 @@ module _ (t : List ℕ) (k : Caret) (n : ℕ) (folds : List ℕ) (tabstop : ℕ)
             )
 
     upright-keeps : (op : ℕ) → Keeps t (upright op mode width n tabstop k t folds) (uprightWrites op mode width n k t folds)
-    unfolding upright uprightWrites
+    unfolding upright uprightOf moveAs uprightWrites
     upright-keeps op =
-        both t (eqb op 0) (rows-once false)
-        (both t (eqb op 1) (rows-once true)
-        (both t (eqb op 2) (by-screen false)
-        (either (λ (m : Moved). Keeps t m (screenMoves mode width true n k t folds)) (eqb op 3) _ _ (by-screen true) (refused t 100 _))))
+        let answer : Asked → Moved = λ a. moveAs a n k t folds [] tabstop in
+        both t answer (eqb op 0) (rows-once false)
+        (both t answer (eqb op 1) (rows-once true)
+        (both t answer (eqb op 2) (by-screen false)
+        (either (λ (a : Asked). Keeps t (answer a) (screenMoves mode width true n k t folds)) (eqb op 3) _ _ (by-screen true) (refused t 100 _))))
 
   pub vertical-keeps : (op mode width : ℕ) → Keeps t (vertical op mode width n tabstop k t folds) (uprightWrites op (modeOf mode) width n k t folds)
   unfolding vertical

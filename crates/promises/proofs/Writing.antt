@@ -23,8 +23,10 @@ use Rattle.motions.specs.declared.Moved.the-variants.{To, Refused}
 use Rattle.motions.specs.Carets.{here, refusalOf, put, leads}
 use Rattle.motions.specs.WordMoves.{wordRefusal, wordCaret, moveWord}
 use Rattle.motions.proofs.Landing.{moving-to, caret-in}
-use Rattle.call_texts.specs.Moves.{motion}
-use Rattle.call_folds.specs.Terms.{word}
+use Rattle.call_texts.specs.declared.Asked.{Asked}
+use Rattle.call_texts.specs.Asks.{moveAs}
+use Rattle.call_texts.specs.Moves.{wayOf, motion}
+use Rattle.call_folds.specs.Terms.{wordOf, word}
 use Rattle.promises.specs.Positions.{AllIn, standing, inMoved}
 use Rattle.promises.specs.Trails.{trail, wordWrites}
 use Rattle.promises.specs.Writes.{writing, byRow, plainWrites, termWrites, ends, lastOf}
@@ -47,10 +49,11 @@ module _ (t : List ℕ) where
   pub refused : (n : ℕ) (f : Caret → List Position) → Keeps t (Refused n) f
   refused n f = record { fits = λ c e. let z : _≡_ {A = ℕ} 0 1 = cc in absurd (omega arith) }
 
-  -- one motion of two
-  pub both : (b : Bool) {m n : Moved} {f g : Caret → List Position} → Keeps t m f → Keeps t n g → Keeps t (cond b m n) (λ c. cond b (f c) (g c))
-  both true p q = p
-  both false p q = q
+  -- one of two moves that are asked for
+  pub both : {A : Type 0} (answer : A → Moved) (b : Bool) {x y : A} {f g : Caret → List Position} → Keeps t (answer x) f → Keeps t (answer y) g →
+      Keeps t (answer (cond b x y)) (λ c. cond b (f c) (g c))
+  both answer true p q = p
+  both answer false p q = q
 
   module _ (c : Caret) (i : Inside t (here c)) where
     pub once : Fits t (standing c) c
@@ -75,11 +78,11 @@ module _ (t : List ℕ) where
     }
 
     space : Keeps t (motion 3 n k t) (plainWrites 3 n k t)
-    unfolding motion plainWrites
+    unfolding motion wayOf moveAs plainWrites
     space = by-steps (spaceFwd t) (space-in t)
 
     backspace : Keeps t (motion 4 n k t) (plainWrites 4 n k t)
-    unfolding motion plainWrites
+    unfolding motion wayOf moveAs plainWrites
     backspace = by-steps (backspaceBack t) (backspace-in t)
 
     module _ (op : ℕ) where
@@ -116,11 +119,12 @@ module _ (t : List ℕ) where
       }
 
       pub term-keeps : (op : ℕ) (folds : List ℕ) → Keeps t (word op big n k t folds list) (λ c. termWrites op big n k t folds (kindOf (inList list) big))
-      unfolding word termWrites
+      unfolding word wordOf moveAs termWrites
       term-keeps op folds =
-          both (eqb op 0) (by-words folds Fwd false)
-          (both (eqb op 1) (by-words folds Back false)
-          (both (eqb op 2) (by-words folds End false)
-          (both (eqb op 3) (by-words folds End true)
-          (either (λ (m : Moved). Keeps t m (λ c. wordWrites t [] (kindOf (inList list) big) big EndBack false n (place (k .row) (k .col)))) (eqb op 4) _ _
+          let answer : Asked → Moved = λ a. moveAs a n k t folds list 0 in
+          both answer (eqb op 0) (by-words folds Fwd false)
+          (both answer (eqb op 1) (by-words folds Back false)
+          (both answer (eqb op 2) (by-words folds End false)
+          (both answer (eqb op 3) (by-words folds End true)
+          (either (λ (a : Asked). Keeps t (answer a) (λ c. wordWrites t [] (kindOf (inList list) big) big EndBack false n (place (k .row) (k .col)))) (eqb op 4) _ _
           (by-words [] EndBack false) (refused 100 _)))))

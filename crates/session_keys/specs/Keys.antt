@@ -72,7 +72,3 @@ keyOf name = found table name
 unfoldable pub isKnown : List Named → List ℕ → Bool
 isKnown [] name = false
 isKnown (k ∷ rest) name = isSame name (k .name) || isKnown rest name
-
--- the sticky column is cleared, but by j and k
-abbrev pub keeps : List ℕ → Bool
-keeps name = isSame name (codes "j") || isSame name (codes "k")

@@ -4,7 +4,6 @@ use session_row::same;
 ghost use mathlib.Core.Path.{_≡_};
 ghost use mathlib.Core.List.{_++_};
 ghost use Rattle.session_keys.specs.Keys.{wordKeys, lineKeys, placeKeys, found, keyOf};
-ghost use Rattle.session_keys.specs.Keys.{keeps as Keys·keeps};
 
 // A key, by what it does; `Big` where words are divided by blanks alone.
 pub enum Key {
@@ -153,14 +152,4 @@ pub fn key_of(name: &[u8]) -> Key
         return Key::Top;
     }
     by_word(name)
-}
-
-// Whether a key keeps the sticky column.
-pub fn keeps(key: &[u8]) -> bool
-    ensures { λ r. ⌜ r ≡ Keys·keeps (now (key .entry)) ⌝ }
-{
-    if same(key, b"j") {
-        return true;
-    }
-    same(key, b"k")
 }

@@ -1,5 +1,5 @@
 -- No key that is known refuses with 0: so 0 stands for an unknown key alone. Assumes nothing.
-use mathlib.Core.Path.{_≡_, refl}
+use mathlib.Core.Path.{_≡_, refl, sym, _∙_}
 use mathlib.Core.List.{List, [], _∷_}
 use mathlib.Core.Bool.{Bool, true, false, cond, _&&_, _||_}
 use Prim.Native.Nat.{ℕ, _+_}
@@ -17,15 +17,22 @@ use Rattle.bracket_walks.specs.Matching.{partnerOf, placed}
 use Rattle.brackets.specs.Matching.{matchingBracketPos}
 use Rattle.bracket_kinds.specs.Find.{firstBracket}
 use Rattle.brackets.specs.Find.{keyTo}
+use Rattle.lists.specs.Codes.{codes}
 use Rattle.lists.specs.Lists.{isSame}
 use Rattle.motions.specs.declared.Caret.{Caret}
+use Rattle.motions.specs.declared.Move.{Move}
+use Rattle.motions.specs.declared.Move.the-variants.{By, Word, Rows, Screen, Viewport, Bracket, Find}
 use Rattle.motions.specs.declared.Moved.{Moved}
 use Rattle.motions.specs.declared.Moved.the-variants.{To, Refused}
-use Rattle.motions.specs.declared.Sought.the-variants.{Refused as Sought·Refused}
+use Rattle.motions.specs.declared.Sought.{Sought}
+use Rattle.motions.specs.declared.Sought.the-variants.{Found as Sought·Found, Missing, Refused as Sought·Refused}
 use Rattle.motions.specs.Carets.{moving, refusalOf}
-use Rattle.motions.specs.Finds.{partnerTo, seeking, matchBracket}
-use Rattle.session_keys.specs.Keys.{Named, twoBytes, wordKeys, lineKeys, placeKeys, table, found, keyOf, isKnown, keeps}
-use Rattle.session_presses.specs.Pressed.{does, sought, cleared, pressed}
+use Rattle.motions.specs.Finds.{partnerTo, landsOn, seeking}
+use Rattle.motions.specs.Going.{landed, movedBy}
+use Rattle.session_keys.specs.Keys.{Named, twoBytes, wordKeys, lineKeys, placeKeys, table, found, keyOf, isKnown}
+use Rattle.session_presses.specs.declared.Act.{Act}
+use Rattle.session_presses.specs.declared.Act.the-variants.{Clears, Keeps, Unknown}
+use Rattle.session_presses.specs.Pressed.{actOf, does, cleared, acted, pressed}
 
 -- it is none that is refused with 0
 abbrev Numbered : Moved → Type 0
@@ -62,60 +69,77 @@ unfolding keyTo
 key-numbered t row (At i) q = partner-numbered t row i q
 key-numbered t row Nothing q = let z : _≡_ {A = ℕ} 0 1 = cc in omega arith
 
-seeking-numbered : (f : ℕ) (k : Caret) (p : Partner) → (p ≡ Partner·Refused 0 → ⊥) → Numbered (sought (seeking f (partnerTo k p)))
-unfolding seeking partnerTo
-seeking-numbered f k p h = go (eqb f 0) refl p h
+seeking-numbered : (f : ℕ) (s : Sought) → (s ≡ Sought·Refused 0 → ⊥) → Numbered (landed (seeking f s))
+unfolding seeking
+seeking-numbered f s h = go (eqb f 0) refl s h
   where
-    go : (b : Bool) → eqb f 0 ≡ b → (p : Partner) → (p ≡ Partner·Refused 0 → ⊥) → Numbered (sought (cond b (partnerTo k p) (Sought·Refused f)))
-    go true e (There x) h q = let z : _≡_ {A = ℕ} 0 1 = cc in omega arith
-    go true e None h q = let z : _≡_ {A = ℕ} 0 1 = cc in omega arith
-    go true e (Partner·Refused g) h q = let z : g ≡ 0 = cc in h (rw z)
-    go false e p h q = let z : f ≡ 0 = cc in eqb-false f 0 e z
+    go : (b : Bool) → eqb f 0 ≡ b → (s : Sought) → (s ≡ Sought·Refused 0 → ⊥) → Numbered (landed (cond b s (Sought·Refused f)))
+    go true e (Sought·Found x) h q = let z : _≡_ {A = ℕ} 0 1 = cc in omega arith
+    go true e (Missing x) h q = let z : _≡_ {A = ℕ} 0 1 = cc in omega arith
+    go true e (Sought·Refused g) h q = let z : g ≡ 0 = cc in h (rw z)
+    go false e s h q = let z : f ≡ 0 = cc in eqb-false f 0 e z
 
-bracket-numbered : (t : List ℕ) (k : Caret) → Numbered (sought (matchBracket t k))
-bracket-numbered t k =
+partner-to : (k : Caret) (p : Partner) → (p ≡ Partner·Refused 0 → ⊥) → partnerTo k p ≡ Sought·Refused 0 → ⊥
+unfolding partnerTo
+partner-to k (There x) h q = let z : _≡_ {A = ℕ} 0 1 = cc in omega arith
+partner-to k None h q = let z : _≡_ {A = ℕ} 0 1 = cc in omega arith
+partner-to k (Partner·Refused g) h q = let z : g ≡ 0 = cc in h (rw z)
+
+lands-on : (k : Caret) (f : Found) → landsOn k f ≡ Sought·Refused 0 → ⊥
+unfolding landsOn
+lands-on k (At i) q = let z : _≡_ {A = ℕ} 0 1 = cc in omega arith
+lands-on k Nothing q = let z : _≡_ {A = ℕ} 0 1 = cc in omega arith
+
+-- every move
+numbered : (t folds list : List ℕ) (tabstop : ℕ) (m : Move) (n : ℕ) (k : Caret) → Numbered (movedBy t folds list tabstop m n k)
+numbered t folds list tabstop (By w) n k = moves _ _
+numbered t folds list tabstop (Word m big stop) n k = moves _ _
+numbered t folds list tabstop (Rows down) n k = moves _ _
+numbered t folds list tabstop (Screen mode width down) n k = moves _ _
+numbered t folds list tabstop (Viewport edge top height offset) n k = moves _ _
+numbered t folds list tabstop Bracket n k =
     let f = firstBracket (rowAt t (k .row)) (k .col) in
-    seeking-numbered (refusalOf t k) k (keyTo t (k .row) f) (key-numbered t (k .row) f)
+    seeking-numbered (refusalOf t k) (partnerTo k (keyTo t (k .row) f)) (partner-to k (keyTo t (k .row) f) (key-numbered t (k .row) f))
+numbered t folds list tabstop (Find x forward till skip) n k = seeking-numbered _ _ (lands-on k _)
 
--- what holds of each key of a table
-data Each (P : Named → Type 0) : List Named → Type 0 where
-  none : Each P []
-  _also_ : {key : Named} {rest : List Named} → P key → Each P rest → Each P (key ∷ rest)
+-- whether a key does something; all of a table do
+isAct : Act → Bool
+isAct (Clears m) = true
+isAct (Keeps m) = true
+isAct Unknown = false
 
-infixr 5 _also_
+allActs : List Named → Bool
+allActs [] = true
+allActs (key ∷ rest) = isAct (actOf (key .key)) && allActs rest
+
+table-acts : allActs table ≡ true
+unfolding allActs isAct actOf twoBytes wordKeys lineKeys placeKeys
+table-acts = refl
+
+found-unknown : (ks : List Named) (name : List ℕ) → allActs ks ≡ true → isAct (actOf (found ks name)) ≡ false → isKnown ks name ≡ false
+unfolding allActs found isKnown
+found-unknown [] name all q = refl
+found-unknown (key ∷ rest) name all q = go (isSame name (key .name)) (isAct (actOf (key .key))) refl all q (found-unknown rest name)
+  where
+    go :
+        (s a : Bool) → isAct (actOf (key .key)) ≡ a → (a && allActs rest) ≡ true → isAct (actOf (cond s (key .key) (found rest name))) ≡ false →
+        (allActs rest ≡ true → isAct (actOf (found rest name)) ≡ false → isKnown rest name ≡ false) → (s || isKnown rest name) ≡ false
+    go true true e all q ih = let z : _≡_ {A = Bool} true false = sym e ∙ q in let y : _≡_ {A = ℕ} 0 1 = cc in absurd (omega arith)
+    go true false e all q ih = let y : _≡_ {A = ℕ} 0 1 = cc in absurd (omega arith)
+    go false true e all q ih = ih all q
+    go false false e all q ih = let y : _≡_ {A = ℕ} 0 1 = cc in absurd (omega arith)
+
 module _ (t : List ℕ) (n : ℕ) (k : Caret) where
-  abbrev Fine : Named → Type 0
-  Fine key = Numbered (does (key .key) t n k)
-
-  table-numbered : Each Fine table
-  unfolding does twoBytes wordKeys lineKeys placeKeys
-  table-numbered =
-      moves _ _ also moves _ _ also moves _ _ also moves _ _ also moves _ _ also moves _ _ also moves _ _ also moves _ _
-      also moves _ _ also moves _ _ also moves _ _ also moves _ _ also moves _ _ also moves _ _ also moves _ _ also moves _ _
-      also moves _ _ also moves _ _ also moves _ _ also moves _ _ also moves _ _ also moves _ _ also moves _ _ also moves _ _
-      also moves _ _ also moves _ _ also bracket-numbered t k also moves _ _ also moves _ _
-      also none
-
-  found-unknown : (ks : List Named) → Each Fine ks → (name : List ℕ) → does (found ks name) t n k ≡ Refused 0 → isKnown ks name ≡ false
-  unfolding found isKnown
-  found-unknown [] none name q = refl
-  found-unknown (key ∷ rest) (fine also others) name q = go (isSame name (key .name)) q (found-unknown rest others name)
-    where
-      go :
-          (b : Bool) → does (cond b (key .key) (found rest name)) t n k ≡ Refused 0 →
-          (does (found rest name) t n k ≡ Refused 0 → isKnown rest name ≡ false) → (b || isKnown rest name) ≡ false
-      go true q ih = absurd (fine q)
-      go false q ih = ih q
-
   cleared-zero : (m : Moved) → cleared m ≡ Refused 0 → m ≡ Refused 0
   cleared-zero (To c) q = let z : _≡_ {A = ℕ} 0 1 = cc in absurd (omega arith)
   cleared-zero (Refused f) q = q
 
+  acted-unknown : (a : Act) → acted a t n k ≡ Refused 0 → isAct a ≡ false
+  unfolding acted isAct
+  acted-unknown (Clears m) q = absurd (numbered t [] (codes "@,48-57,_") 8 m n k (cleared-zero (does m t n k) q))
+  acted-unknown (Keeps m) q = absurd (numbered t [] (codes "@,48-57,_") 8 m n k q)
+  acted-unknown Unknown q = refl
+
   -- a key that is refused with 0 is in no table
   pub pressed-unknown : (name : List ℕ) → pressed name t n k ≡ Refused 0 → isKnown table name ≡ false
-  unfolding pressed
-  pressed-unknown name = go (keeps name)
-    where
-      go : (b : Bool) → cond b (does (keyOf name) t n k) (cleared (does (keyOf name) t n k)) ≡ Refused 0 → isKnown table name ≡ false
-      go true q = found-unknown table table-numbered name q
-      go false q = found-unknown table table-numbered name (cleared-zero (does (keyOf name) t n k) q)
+  pressed-unknown name q = found-unknown table name table-acts (acted-unknown (actOf (keyOf name)) q)

@@ -1,85 +1,84 @@
--- What a key does: its motion, and the sticky column after it. Document 01, "The session".
+-- What a key does: its move, and the sticky column after it. Document 01, "The session".
 -- Definitions only; the laws are in `proofs/Laws.antt` and `proofs/Numbers.antt`. Assumes nothing.
 use Prim.Native.Nat.{ℕ}
 use mathlib.Core.List.{List, []}
-use mathlib.Core.Bool.{Bool, true, false, cond}
+use mathlib.Core.Bool.{Bool, true, false}
 use Rattle.lists.specs.Codes.{codes}
 use Rattle.word_rounds.specs.declared.Motion.{Motion}
 use Rattle.word_rounds.specs.declared.Motion.the-variants.{Fwd, Back, End, EndBack}
-use Rattle.motions.specs.declared.Caret.{Caret}
 use Rattle.vertical.specs.declared.Sticky.the-variants.{Absent}
+use Rattle.text_moves.specs.declared.Way.{Way}
+use Rattle.text_moves.specs.declared.Way.the-variants as way
+use Rattle.motions.specs.declared.Caret.{Caret}
+use Rattle.motions.specs.declared.Move.{Move}
+use Rattle.motions.specs.declared.Move.the-variants.{By, Word, Rows, Bracket}
 use Rattle.motions.specs.declared.Moved.{Moved}
 use Rattle.motions.specs.declared.Moved.the-variants.{To, Refused}
-use Rattle.motions.specs.declared.Sought.{Sought}
-use Rattle.motions.specs.declared.Sought.the-variants.{Found, Missing, Refused as Sought·Refused}
-use Rattle.motions.specs.Columns
-use Rattle.motions.specs.Lines
-use Rattle.motions.specs.Sections
-use Rattle.motions.specs.Paragraphs
-use Rattle.motions.specs.WordMoves.{moveWord}
-use Rattle.motions.specs.Finds.{matchBracket}
-use Rattle.motions.specs.UpDown.{moveRows}
+use Rattle.motions.specs.Going.{movedBy}
 use Rattle.session_keys.specs.declared.Key.{Key}
 use Rattle.session_keys.specs.declared.Key.the-variants as Key
-use Rattle.session_keys.specs.Keys.{keyOf, keeps}
+use Rattle.session_keys.specs.Keys.{keyOf}
+use Rattle.session_presses.specs.declared.Act.{Act}
+use Rattle.session_presses.specs.declared.Act.the-variants.{Clears, Keeps, Unknown}
+
+-- a move on the text alone, and a word motion with stop off
+abbrev pub by : Way → Act
+by w = Clears (By w)
+
+abbrev pub word : Bool → Motion → Act
+word big m = Clears (Word m big false)
+
+-- what each key does; the sticky column is cleared, but by j and k
+unfoldable pub actOf : Key → Act
+actOf Key.Left = by way.Left
+actOf Key.Right = by way.RightInLine
+actOf Key.Word = word false Fwd
+actOf Key.Back = word false Back
+actOf Key.End = word false End
+actOf Key.BigWord = word true Fwd
+actOf Key.BigBack = word true Back
+actOf Key.BigEnd = word true End
+actOf Key.EndBack = word false EndBack
+actOf Key.BigEndBack = word true EndBack
+actOf Key.LineStart = by way.LineStart
+actOf Key.FirstNonBlank = by way.FirstNonBlank
+actOf Key.LineEnd = by way.LineEnd
+actOf Key.LastNonBlank = by way.LastNonBlank
+actOf Key.ParagraphPrev = by way.ParagraphPrev
+actOf Key.ParagraphNext = by way.ParagraphNext
+actOf Key.SectionBackward = by way.SectionBackward
+actOf Key.SectionForward = by way.SectionForward
+actOf Key.SectionEndBackward = by way.SectionEndBackward
+actOf Key.SectionEndForward = by way.SectionEndForward
+actOf Key.NextLine = by way.NextLine
+actOf Key.PrevLine = by way.PrevLine
+actOf Key.Line = by way.ThisLine
+actOf Key.Top = by way.Top
+actOf Key.Bottom = by way.Bottom
+actOf Key.Column = by way.GotoColumn
+actOf Key.Bracket = Clears Bracket
+actOf Key.Down = Keeps (Rows true)
+actOf Key.Up = Keeps (Rows false)
+actOf Key.Unknown = Unknown
 
 -- what a key does with a text, a count and a caret
 abbrev pub Does : Type 0
 Does = List ℕ → ℕ → Caret → Moved
 
--- a word motion by the list `@,48-57,_`, with no folds, and with stop off
-abbrev pub word : Bool → Motion → Does
-word big m t n k = moveWord t [] (codes "@,48-57,_") big m false n k
+-- a move with no folds, the list `@,48-57,_` and a tabstop of 8
+abbrev pub does : Move → Does
+does m t n k = movedBy t [] (codes "@,48-57,_") 8 m n k
 
--- j and k: with no folds, and a tabstop of 8
-abbrev pub upright : Bool → Does
-upright down t n k = moveRows t [] 8 down n k
-
--- `%` moves to what it finds, or not at all
-abbrev pub sought : Sought → Moved
-sought (Found k) = To k
-sought (Missing k) = To k
-sought (Sought·Refused f) = Refused f
-
--- 0 stands for a key that is unknown, and for no other (`pressed-unknown` of `proofs/Numbers.antt`)
-unfoldable pub does : Key → Does
-does Key.Left = Columns.moveLeft
-does Key.Right = Columns.moveRightInLine
-does Key.Word = word false Fwd
-does Key.Back = word false Back
-does Key.End = word false End
-does Key.BigWord = word true Fwd
-does Key.BigBack = word true Back
-does Key.BigEnd = word true End
-does Key.EndBack = word false EndBack
-does Key.BigEndBack = word true EndBack
-does Key.LineStart = λ t n k. Columns.moveLineStart t k
-does Key.FirstNonBlank = λ t n k. Columns.moveFirstNonBlank t k
-does Key.LineEnd = λ t n k. Columns.moveLineEnd t k
-does Key.LastNonBlank = λ t n k. Columns.moveLastNonBlank t k
-does Key.ParagraphPrev = Paragraphs.moveParagraphPrev
-does Key.ParagraphNext = Paragraphs.moveParagraphNext
-does Key.SectionBackward = Sections.moveSectionBackward
-does Key.SectionForward = Sections.moveSectionForward
-does Key.SectionEndBackward = Sections.moveSectionEndBackward
-does Key.SectionEndForward = Sections.moveSectionEndForward
-does Key.NextLine = Lines.moveFirstNonBlankNextLine
-does Key.PrevLine = Lines.moveFirstNonBlankPrevLine
-does Key.Line = Lines.moveFirstNonBlankLine
-does Key.Top = λ t n k. Lines.moveTop t k
-does Key.Bottom = Lines.moveBottom
-does Key.Column = Columns.moveGotoColumn
-does Key.Bracket = λ t n k. sought (matchBracket t k)
-does Key.Down = upright true
-does Key.Up = upright false
-does Key.Unknown = λ t n k. Refused 0
-
--- the sticky column is cleared, but by j and k
+-- the sticky column is cleared
 abbrev pub cleared : Moved → Moved
 cleared (To k) = To (record { row = k .row; col = k .col; sticky = Absent })
 cleared (Refused f) = Refused f
 
-unfoldable pub pressed : List ℕ → Does
-pressed name t n k =
-    let m = does (keyOf name) t n k in
-    cond (keeps name) m (cleared m)
+-- 0 stands for a key that is unknown, and for no other (`pressed-unknown` of `proofs/Numbers.antt`)
+unfoldable pub acted : Act → Does
+acted (Clears m) t n k = cleared (does m t n k)
+acted (Keeps m) t n k = does m t n k
+acted Unknown t n k = Refused 0
+
+abbrev pub pressed : List ℕ → Does
+pressed name = acted (actOf (keyOf name))

@@ -1,89 +1,79 @@
 // What a key of a session does.
 use motions::Caret;
+use motions::Move;
 use motions::Moved;
-use motions::Sought;
 use session_keys::Key;
+use text_moves::Way;
 use vertical::Sticky;
 use word_rounds::Motion;
 ghost use mathlib.Core.Path.{_≡_};
-ghost use Rattle.session_presses.specs.Pressed.{does, pressed};
-ghost use Rattle.session_presses.specs.Pressed.{word as Pressed·word, upright as Pressed·upright};
-ghost use Rattle.session_presses.specs.Pressed.{sought as Pressed·sought, cleared as Pressed·cleared};
+ghost use mathlib.Core.Bool.{false};
+ghost use Rattle.session_presses.specs.Pressed.{actOf, does, pressed};
+ghost use Rattle.session_presses.specs.Pressed.{cleared as Pressed·cleared};
 
 // The keyword list `@,48-57,_`.
 const LIST: [u32; 9] = [64, 44, 52, 56, 45, 53, 55, 44, 95];
 
-// The caret that a search leaves.
-fn sought(s: Sought) -> Moved
-    ensures { λ r. ⌜ r ≡ Pressed·sought s ⌝ }
-{
-    match s {
-        Sought::Found(k) => Moved::To(k),
-        Sought::Missing(k) => Moved::To(k),
-        Sought::Refused(f) => Moved::Refused(f),
-    }
+// What a key does: a move after which the sticky column is cleared, or one that keeps it.
+pub enum Act {
+    Clears(Move),
+    Keeps(Move),
+    Unknown,
 }
 
-// A word motion, with no folds and with stop off.
-fn word(big: bool, m: Motion, t: &[u32], n: u32, k: Caret) -> Moved
-    ensures { λ r. ⌜ r ≡ Pressed·word big m (now (t .entry)) n k ⌝ }
+// A move on the text alone.
+fn by(w: Way) -> Act
+    ensures { λ r. ⌜ r ≡ Act.Clears (Move.By w) ⌝ }
 {
-    let list = LIST;
-    let none = &t[..0];
-    match m {
-        Motion::Fwd => k.move_word_fwd(t, none, big, n, &list),
-        Motion::Back => k.move_word_back(t, none, big, n, &list),
-        Motion::End => k.move_word_end(t, none, big, n, false, &list),
-        Motion::EndBack => k.move_word_end_back(t, big, n, &list),
-    }
+    Act::Clears(Move::By(w))
 }
 
-// Down or up, with no folds and a tabstop of 8.
-fn upright(down: bool, t: &[u32], n: u32, k: Caret) -> Moved
-    ensures { λ r. ⌜ r ≡ Pressed·upright down (now (t .entry)) n k ⌝ }
+// A word motion; `e` and `E` have stop off.
+fn word(big: bool, motion: Motion) -> Act
+    ensures { λ r. ⌜ r ≡ Act.Clears (Move.Word motion big false) ⌝ }
 {
-    let none = &t[..0];
-    if down {
-        return k.move_down(t, none, n, 8);
-    }
-    k.move_up(t, none, n, 8)
+    Act::Clears(Move::Word {
+        motion: motion,
+        big: big,
+        stop: false,
+    })
 }
 
-// The motion of a key.
-fn motion(key: Key, t: &[u32], n: u32, k: Caret) -> Moved
-    ensures { λ r. ⌜ r ≡ does key (now (t .entry)) n k ⌝ }
+// What each key does.
+fn act_of(key: Key) -> Act
+    ensures { λ r. ⌜ r ≡ actOf key ⌝ }
 {
     match key {
-        Key::Left => k.move_left(t, n),
-        Key::Right => k.move_right_in_line(t, n),
-        Key::Word => word(false, Motion::Fwd, t, n, k),
-        Key::Back => word(false, Motion::Back, t, n, k),
-        Key::End => word(false, Motion::End, t, n, k),
-        Key::BigWord => word(true, Motion::Fwd, t, n, k),
-        Key::BigBack => word(true, Motion::Back, t, n, k),
-        Key::BigEnd => word(true, Motion::End, t, n, k),
-        Key::EndBack => word(false, Motion::EndBack, t, n, k),
-        Key::BigEndBack => word(true, Motion::EndBack, t, n, k),
-        Key::LineStart => k.move_line_start(t),
-        Key::FirstNonBlank => k.move_first_non_blank(t),
-        Key::LineEnd => k.move_line_end(t),
-        Key::LastNonBlank => k.move_last_non_blank(t),
-        Key::ParagraphPrev => k.move_paragraph_prev(t, n),
-        Key::ParagraphNext => k.move_paragraph_next(t, n),
-        Key::SectionBackward => k.move_section_backward(t, n),
-        Key::SectionForward => k.move_section_forward(t, n),
-        Key::SectionEndBackward => k.move_section_end_backward(t, n),
-        Key::SectionEndForward => k.move_section_end_forward(t, n),
-        Key::NextLine => k.move_first_non_blank_next_line(t, n),
-        Key::PrevLine => k.move_first_non_blank_prev_line(t, n),
-        Key::Line => k.move_first_non_blank_line(t, n),
-        Key::Top => k.move_top(t),
-        Key::Bottom => k.move_bottom(t, n),
-        Key::Column => k.move_goto_column(t, n),
-        Key::Bracket => sought(k.match_bracket(t)),
-        Key::Down => upright(true, t, n, k),
-        Key::Up => upright(false, t, n, k),
-        Key::Unknown => Moved::Refused(0),
+        Key::Left => by(Way::Left),
+        Key::Right => by(Way::RightInLine),
+        Key::Word => word(false, Motion::Fwd),
+        Key::Back => word(false, Motion::Back),
+        Key::End => word(false, Motion::End),
+        Key::BigWord => word(true, Motion::Fwd),
+        Key::BigBack => word(true, Motion::Back),
+        Key::BigEnd => word(true, Motion::End),
+        Key::EndBack => word(false, Motion::EndBack),
+        Key::BigEndBack => word(true, Motion::EndBack),
+        Key::LineStart => by(Way::LineStart),
+        Key::FirstNonBlank => by(Way::FirstNonBlank),
+        Key::LineEnd => by(Way::LineEnd),
+        Key::LastNonBlank => by(Way::LastNonBlank),
+        Key::ParagraphPrev => by(Way::ParagraphPrev),
+        Key::ParagraphNext => by(Way::ParagraphNext),
+        Key::SectionBackward => by(Way::SectionBackward),
+        Key::SectionForward => by(Way::SectionForward),
+        Key::SectionEndBackward => by(Way::SectionEndBackward),
+        Key::SectionEndForward => by(Way::SectionEndForward),
+        Key::NextLine => by(Way::NextLine),
+        Key::PrevLine => by(Way::PrevLine),
+        Key::Line => by(Way::ThisLine),
+        Key::Top => by(Way::Top),
+        Key::Bottom => by(Way::Bottom),
+        Key::Column => by(Way::GotoColumn),
+        Key::Bracket => Act::Clears(Move::Bracket),
+        Key::Down => Act::Keeps(Move::Rows { down: true }),
+        Key::Up => Act::Keeps(Move::Rows { down: false }),
+        Key::Unknown => Act::Unknown,
     }
 }
 
@@ -101,14 +91,22 @@ fn cleared(m: Moved) -> Moved
     }
 }
 
+// A move with no folds and a tabstop of 8.
+fn motion(m: Move, t: &[u32], n: u32, k: Caret) -> Moved
+    ensures { λ r. ⌜ r ≡ does m (now (t .entry)) n k ⌝ }
+{
+    let list = LIST;
+    k.moved_by(t, &t[..0], &list, 8, m, n)
+}
+
 // What a key does with a count: where it leads to, or the number that the call is refused with, 0
 // for an unknown key.
 pub fn press(key: &[u8], k: Caret, t: &[u32], n: u32) -> Moved
     ensures { λ r. ⌜ r ≡ pressed (now (key .entry)) (now (t .entry)) n k ⌝ }
 {
-    let m = motion(session_keys::key_of(key), t, n, k);
-    if session_keys::keeps(key) {
-        return m;
+    match act_of(session_keys::key_of(key)) {
+        Act::Clears(m) => cleared(motion(m, t, n, k)),
+        Act::Keeps(m) => motion(m, t, n, k),
+        Act::Unknown => Moved::Refused(0),
     }
-    cleared(m)
 }

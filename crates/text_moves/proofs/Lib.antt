@@ -1,2 +1,4 @@
--- Laws of steps and jumps, which the proofs of the crates above cite.
+-- Laws of the moves, which the proofs of the crates above cite.
 pub mod Staying
+pub mod Led
+pub mod Going

@@ -1,1 +1,4 @@
+pub mod Rows
+pub mod Sections
+pub mod Paragraphs
 pub mod Ways

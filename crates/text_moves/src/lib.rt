@@ -1,34 +1,35 @@
-// The ways from a position to another: steps within its row and by characters, and jumps to other
-// rows. There is no caret here: a way takes a text and a position that were accepted.
-pub mod across;
-pub mod within;
+// The moves on a text alone, from a position to another: within its row, by characters, and to
+// other rows. There is no caret here: a move takes a text and a position that were accepted. From
+// motions.rs; the walks are those of `steps` and `row_walks`.
+mod paragraphs;
+pub mod rows;
+mod sections;
+mod ways;
+mod within;
 
-// The steps within a row, and those by characters from row to row.
-pub enum Step {
+pub use ways::go;
+
+// The moves, in the order of motions.rs: within a row and by characters, then to other rows.
+pub enum Way {
     Left,
     RightInLine,
     RightToEnd,
-    LineStart,
-    LineEnd,
-    GotoColumn,
-    FirstNonBlank,
-    LastNonBlank,
     SpaceFwd,
     BackspaceBack,
-}
-
-// The moves to other rows, and the steps.
-pub enum Jump {
-    Top,
-    Bottom,
-    NextLine,
-    PrevLine,
-    ThisLine,
+    LineStart,
+    FirstNonBlank,
+    LineEnd,
+    GotoColumn,
+    LastNonBlank,
+    ParagraphPrev,
+    ParagraphNext,
     SectionBackward,
     SectionForward,
     SectionEndBackward,
     SectionEndForward,
-    ParagraphPrev,
-    ParagraphNext,
-    By(Step),
+    NextLine,
+    PrevLine,
+    ThisLine,
+    Top,
+    Bottom,
 }

@@ -1,20 +1,31 @@
--- `session_presses::press` meets its contract. Assumes nothing.
+-- `press` meets its contract, by the cases of what the key does. Assumes nothing.
 use mathlib.Core.Path.{ap, sym, _∙_}
 use borrow.Author.Needs.{needs}
-use Rattle.session_presses.specs.Pressed.{cleared, pressed}
+use Rattle.session_keys.specs.declared.Key.{Key}
+use Rattle.session_presses.specs.Pressed.{actOf, cleared, acted}
 use Rattle.session_presses.proofs.press.Statement.{statement}
 use Rattle.session_presses.proofs.press.Tie as tie
 
 returns : tie.Need-returns
-unfolding pressed
+unfolding acted
 returns c =
-    rw (sym (c .before .keeps .ensures) ∙ c .if1 .taken, ← c .before .before .before .key-of .ensures) (c .before .before .motion .ensures)
+    let at-act = c .before .before .before in
+    let at-key = at-act .before .before in
+    rw (← at-key .before .key-of .ensures, ← at-key .act-of .ensures, at-act .m .given .1)
+    (c .cleared .ensures ∙ ap cleared (c .before .motion .ensures))
 
 returns-2 : tie.Need-returns-2
-unfolding pressed
+unfolding acted
 returns-2 c =
-    rw (sym (c .before .before .keeps .ensures) ∙ c .before .if1 .left, ← c .before .before .before .before .key-of .ensures)
-    (c .cleared .ensures ∙ ap cleared (c .before .before .before .motion .ensures))
+    let at-act = c .before .before in
+    let at-key = at-act .before .before in
+    rw (← at-key .before .key-of .ensures, ← at-key .act-of .ensures, at-act .m2 .given .1) (c .motion2 .ensures)
+
+returns-3 : tie.Need-returns-3
+unfolding acted
+returns-3 c =
+    let at-key = c .before .before in
+    rw (← at-key .before .key-of .ensures, ← at-key .act-of .ensures, c .enum-told .given .1)
 
 pub press-spec : {M : Type 1} → statement M
 press-spec =
@@ -22,7 +33,12 @@ press-spec =
     (tie.spec
     (λ c κs. search needs)
     (λ c κs. search needs)
+    (λ c. search needs)
     (λ c κs. search needs)
+    (λ c κs. search needs)
+    (λ c. search needs)
+    (λ c κs. search needs)
+    (λ c. search needs)
     returns
-    (λ c κs. search needs)
-    returns-2)
+    returns-2
+    returns-3)

@@ -1,9 +1,12 @@
--- `upright::vertical_by` meets its contract: the mode's number, then the motion. Assumes nothing.
+-- `upright::vertical_by` meets its contract: the mode's number, then the move. Assumes nothing.
 use mathlib.Core.Path.{ap, _∙_}
+use mathlib.Core.List.{[]}
 use borrow.Author.Needs.{needs}
 use borrow.Author.Tests.{lt-leb, le-leb}
 use Rattle.row_wrap.specs.declared.Wrap.{Wrap}
-use Rattle.call_folds.specs.Upright.{upright, vertical}
+use Rattle.call_texts.specs.declared.Asked.{Asked}
+use Rattle.call_texts.specs.Asks.{moveAs}
+use Rattle.call_folds.specs.Upright.{uprightOf, upright, vertical}
 use Rattle.call_folds.proofs.upright.vertical_by.Statement.{statement}
 use Rattle.call_folds.proofs.upright.vertical_by.Tie as tie
 
@@ -12,13 +15,19 @@ unfolding vertical
 returns c = rw (lt-leb _ 2 (c .if1 .taken))
 
 returns-2 : tie.Need-returns-2
-unfolding vertical
+unfolding vertical upright
 returns-2 c =
-    let i = c .before .before in
-    let a = i .before .before .before .args in
-    rw (le-leb _ 2 (i .if1 .left))
-    (c .upright-by .ensures
-    ∙ ap (λ (w : Wrap). upright (a .op) w (a .width) (a .count) (a .tabstop) (a .k) (a .t .now) (a .folds .now)) (c .before .mode-of .ensures))
+    let at-number = c .before .before in
+    let at-mode = at-number .before in
+    let at-test = at-mode .before in
+    let given = at-test .before .before .before .args in
+    rw (le-leb _ 2 (at-test .if1 .left))
+    (c .move-as .ensures
+    ∙ ap (λ (a : Asked). moveAs a (given .count) (given .k) (given .t .now) (given .folds .now) [] (given .tabstop)) (at-number .upright-of .ensures)
+    ∙ ap (λ (w : Wrap). moveAs (uprightOf (given .op) w (given .width)) (given .count) (given .k) (given .t .now) (given .folds .now) [] (given .tabstop))
+    (at-mode .mode-of .ensures))
 
 pub vertical-by-spec : {M : Type 1} → statement M
-vertical-by-spec = tie.close (tie.spec returns (λ c κs. search needs) (λ c κs. search needs) returns-2)
+vertical-by-spec =
+    tie.close
+    (tie.spec returns (λ c κs. search needs) (λ c κs. search needs) (λ c. search needs) (λ c κs. search needs) returns-2)

@@ -1,19 +1,26 @@
--- `seek` meets its contract: it hands on what the search answers. Assumes nothing.
+-- `seeks::seek` meets its contract: it hands on what the search answers. Assumes nothing.
 use mathlib.Core.Path.{ap, _∙_}
 use borrow.Author.Needs.{needs}
 use Rattle.motions.specs.declared.Caret.{Caret}
-use Rattle.call_texts.specs.Seeks.{sought, seek}
 use Rattle.call_bytes.proofs.Replies.{replied-of}
+use Rattle.call_texts.specs.declared.Asked.{Asked}
+use Rattle.call_texts.specs.Asks.{seekAs}
+use Rattle.call_texts.specs.Seeks.{sought, seekOf, seek}
 use Rattle.call_texts.proofs.seeks.seek.Statement.{statement}
 use Rattle.call_texts.proofs.seeks.seek.Tie as tie
 
 returns : tie.Need-returns
+unfolding seek
 returns c =
-    let a = c .before .before .before .before .before .args in
+    let at-search = c .before .before in
+    let at-number = at-search .before in
+    let at-caret = at-number .before in
+    let given = at-caret .before .before .args in
     replied-of sought
-    (c .before .before .seek-by .ensures ∙ ap (λ (k : Caret). seek (a .op) (a .x) k (a .text .now)) (c .before .before .before .caret-of .ensures))
+    (at-search .seek-as .ensures
+    ∙ ap (λ (a : Asked). seekAs a (at-caret .caret-of .result) (given .text .now)) (at-number .seek-of .ensures)
+    ∙ ap (λ (k : Caret). seekAs (seekOf (given .op) (given .x)) k (given .text .now)) (at-caret .caret-of .ensures))
     (c .tell .ensures)
 
 pub seek-spec : {M : Type 1} → statement M
-seek-spec =
-    tie.close (tie.spec (λ c κs. search needs) (λ c κs. search needs) (λ c κs. search needs) returns)
+seek-spec = tie.close (tie.spec (λ c κs. search needs) (λ c κs. search needs) (λ c κs. search needs) (λ c κs. search needs) returns)

@@ -1,0 +1,34 @@
+-- The calls number by number: each answers as the method that it stands for. All hold by computation. Assumes nothing.
+use mathlib.Core.Path.{_≡_, refl}
+use mathlib.Core.List.{List, []}
+use mathlib.Core.Bool.{Bool, true, false}
+use Prim.Native.Nat.{ℕ}
+use Rattle.row_wrap.specs.declared.Wrap.{Wrap}
+use Rattle.word_rounds.specs.declared.Motion.the-variants.{Fwd, Back, End, EndBack}
+use Rattle.motions.specs.declared.Caret.{Caret}
+use Rattle.motions.specs.WordMoves.{moveWord}
+use Rattle.motions.specs.UpDown.{moveRows, moveScreenRows}
+use Rattle.call_texts.specs.Asks.{moveAs}
+use Rattle.call_folds.specs.Terms.{wordOf, word}
+use Rattle.call_folds.specs.Upright.{uprightOf, upright}
+
+pub record Words (t folds list : List ℕ) (big : Bool) (n : ℕ) (k : Caret) : Type 0 where
+  pub w0 : word 0 big n k t folds list ≡ moveWord t folds list big Fwd false n k
+  pub w1 : word 1 big n k t folds list ≡ moveWord t folds list big Back false n k
+  pub w2 : word 2 big n k t folds list ≡ moveWord t folds list big End false n k
+  pub w3 : word 3 big n k t folds list ≡ moveWord t folds list big End true n k
+  pub w4 : word 4 big n k t folds list ≡ moveWord t [] list big EndBack false n k
+
+pub word-numbers : (t folds list : List ℕ) (big : Bool) (n : ℕ) (k : Caret) → Words t folds list big n k
+unfolding word wordOf moveAs
+word-numbers t folds list big n k = record { w0 = refl; w1 = refl; w2 = refl; w3 = refl; w4 = refl }
+
+pub record Uprights (t folds : List ℕ) (mode : Wrap) (width n tabstop : ℕ) (k : Caret) : Type 0 where
+  pub u0 : upright 0 mode width n tabstop k t folds ≡ moveRows t folds tabstop false n k
+  pub u1 : upright 1 mode width n tabstop k t folds ≡ moveRows t folds tabstop true n k
+  pub u2 : upright 2 mode width n tabstop k t folds ≡ moveScreenRows t folds tabstop mode width false n k
+  pub u3 : upright 3 mode width n tabstop k t folds ≡ moveScreenRows t folds tabstop mode width true n k
+
+pub upright-numbers : (t folds : List ℕ) (mode : Wrap) (width n tabstop : ℕ) (k : Caret) → Uprights t folds mode width n tabstop k
+unfolding upright uprightOf moveAs
+upright-numbers t folds mode width n tabstop k = record { u0 = refl; u1 = refl; u2 = refl; u3 = refl }

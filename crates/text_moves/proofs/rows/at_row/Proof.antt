@@ -1,0 +1,22 @@
+-- `rows::at_row` meets its contract: the row found is row `to`. Assumes nothing.
+use mathlib.Core.Path.{ap, _∙_}
+use native.Mathlib.Omega.{arith}
+use Rattle.text.specs.declared.Line.{Line}
+use Rattle.text.proofs.Stands.{line-there}
+use Rattle.text_moves.specs.Rows.{atRow}
+use Rattle.text_moves.proofs.rows.at_row.Statement.{statement}
+use Rattle.text_moves.proofs.rows.at_row.Tie as tie
+
+line-from-requires : tie.Need-line-from-requires
+line-from-requires c κs = let p = c .before .pre in (p .0 .line, p .0 .all-rows, p .1)
+
+at-line-requires : tie.Need-at-line-requires
+at-line-requires c κs =
+    let s = c .before .before in
+    (line-there (s .args .t .now) (c .line-from .result) _ (c .line-from .ensures) (omega (arith, s .pre .0 .all-rows, s .pre .1)), s .pre .0 .brief)
+
+returns : tie.Need-returns
+returns c = c .at-line .ensures ∙ ap (λ (l : Line). atRow (c .before .before .before .args .t .now) (l .row)) (c .before .line-from .ensures)
+
+pub at-row-spec : {M : Type 1} → statement M
+at-row-spec = tie.close (tie.spec line-from-requires at-line-requires returns)

@@ -1,0 +1,38 @@
+-- `rows::bottom` meets its contract: the last row with content, or the row of that number.
+-- Assumes nothing.
+use Prim.Native.Nat.{ℕ, _-_, min}
+use mathlib.Core.Path.{ap, _∙_}
+use native.Mathlib.Omega.{arith}
+use borrow.Author.Needs.{needs}
+use borrow.Author.Tests.{eq-eqb, ne-eqb}
+use Rattle.positions.proofs.Entered.{accepted-rows}
+use Rattle.text_moves.specs.Rows.{atRow}
+use Rattle.text_moves.proofs.rows.bottom.Statement.{statement}
+use Rattle.text_moves.proofs.rows.bottom.Tie as tie
+
+sub-last : tie.Need-sub-last
+sub-last c = omega (arith, accepted-rows (c .before .before .pre))
+
+at-row-requires : tie.Need-at-row-requires
+at-row-requires c κs = let s = c .before .before .before in (s .pre, omega (arith, accepted-rows (s .pre)))
+
+returns : tie.Need-returns
+returns c =
+    let s = c .before .before .before .before in
+    rw (eq-eqb (s .args .count) 0 (c .before .if1 .taken))
+    (c .at-row .ensures ∙ ap (λ (n : ℕ). atRow (s .args .t .now) (n - 1)) (s .pre .content-rows))
+
+at-row-requires-2 : tie.Need-at-row-requires-2
+at-row-requires-2 c κs = let s = c .before .before .before .before in (s .pre, omega (arith, c .least .ensures, accepted-rows (s .pre)))
+
+returns-2 : tie.Need-returns-2
+returns-2 c =
+    let s = c .before .before .before .before .before in
+    let a = s .args in
+    rw (ne-eqb (a .count) 0 (c .before .before .if1 .left))
+    (c .at-row2 .ensures ∙
+    ap (atRow (a .t .now)) (c .before .least .ensures ∙ ap (λ (n : ℕ). min (a .count - 1) (n - 1)) (s .pre .content-rows)))
+
+pub bottom-spec : {M : Type 1} → statement M
+bottom-spec =
+    tie.close (tie.spec sub-last at-row-requires returns (λ c. search needs) (λ c κs. search needs) at-row-requires-2 returns-2)

@@ -1,0 +1,49 @@
+-- `rows::this_line` meets its contract: from the last row with content on it stays, if it was to go down.
+-- Assumes nothing.
+use Prim.Native.Nat.{ℕ, _+_, _-_, min, max}
+use mathlib.Core.Path.{_≡_, ap, _∙_}
+use mathlib.Core.Bool.{Bool, true, false, _&&_}
+use native.Mathlib.Omega.{arith}
+use lib.Dec.{ltb, leb}
+use borrow.Author.Needs.{needs}
+use Rattle.text.specs.Text.{contentRows}
+use Rattle.positions.proofs.Entered.{accepted-rows}
+use Rattle.text_moves.specs.Rows.{atRow}
+use Rattle.text_moves.proofs.rows.this_line.Statement.{statement}
+use Rattle.text_moves.proofs.rows.this_line.Tie as tie
+
+-- the test, by the numbers that the contract has
+stays : (row count content n m : ℕ) (b : Bool) → m ≡ max count 1 → content ≡ n → (ltb 0 (m - 1) && leb (content - 1) row) ≡ b →
+    (ltb 0 (max count 1 - 1) && leb (n - 1) row) ≡ b
+stays row count content n m b e q h = rw (← e, ← q) h
+
+sub-last : tie.Need-sub-last
+sub-last c = omega (arith, accepted-rows (c .before .before .before .pre))
+
+returns : tie.Need-returns
+returns c =
+    let m = c .before .before .before in
+    let s = m .before .before in
+    let a = s .args in
+    rw (stays (a .p .row) (a .count) (a .e .content) (contentRows (a .t .now)) _ true (m .most .ensures) (s .pre .content-rows) (c .if1 .taken))
+
+at-row-requires : tie.Need-at-row-requires
+at-row-requires c κs =
+    let s = c .before .before .before .before .before .before .before in
+    (s .pre, omega (arith, c .least .ensures, accepted-rows (s .pre)))
+
+returns-2 : tie.Need-returns-2
+returns-2 c =
+    let i = c .before .before .before in
+    let m = i .before .before .before in
+    let s = m .before .before in
+    let a = s .args in
+    rw (stays (a .p .row) (a .count) (a .e .content) (contentRows (a .t .now)) _ false (m .most .ensures) (s .pre .content-rows) (i .if1 .left))
+    (c .at-row .ensures ∙ ap (atRow (a .t .now)) (c .before .least .ensures ∙
+    ap (λ (n : ℕ). min (a .p .row + (n - 1)) (a .e .content - 1)) (m .most .ensures) ∙
+    ap (λ (n : ℕ). min (a .p .row + (max (a .count) 1 - 1)) (n - 1)) (s .pre .content-rows)))
+
+pub this-line-spec : {M : Type 1} → statement M
+this-line-spec =
+    tie.close
+    (tie.spec (λ c κs. search needs) (λ c. search needs) sub-last returns (λ c. search needs) (λ c κs. search needs) at-row-requires returns-2)

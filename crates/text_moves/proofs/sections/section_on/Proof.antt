@@ -1,0 +1,30 @@
+-- `sections::section_on` meets its contract: column 0 of the row that the walk leads to.
+-- Assumes nothing.
+use Prim.Native.Nat.{ℕ, _-_}
+use Rattle.text.specs.Text.{contentRows}
+use mathlib.Core.Path.{ap, _∙_}
+use native.Mathlib.Omega.{arith}
+use borrow.Author.Needs.{needs}
+use Rattle.positions.specs.Positions.{position}
+use Rattle.positions.proofs.Entered.{accepted-rows}
+use Rattle.row_walks.specs.Sections.{sectionDown}
+use Rattle.text_moves.proofs.sections.section_on.Statement.{statement}
+use Rattle.text_moves.proofs.sections.section_on.Tie as tie
+
+sub-last : tie.Need-sub-section-down
+sub-last c = omega (arith, accepted-rows (c .before .before .pre .0))
+
+-- a mark is no separator
+section-down-requires : tie.Need-section-down-requires
+section-down-requires c κs =
+    let s = c .before .before .before in
+    (s .pre .0 .line, ap (λ (n : ℕ). n - 1) (s .pre .0 .content-rows), λ e. omega arith)
+
+returns : tie.Need-returns
+returns c =
+    let a = c .before .before .before .before .args in
+    ap (λ (r : ℕ). position r 0) (c .section-down .ensures .0 ∙
+    ap (λ (n : ℕ). sectionDown (a .t .now) (a .x) n (a .p .row) (contentRows (a .t .now) - 1 - a .p .row)) (c .before .most .ensures))
+
+pub section-on-spec : {M : Type 1} → statement M
+section-on-spec = tie.close (tie.spec sub-last (λ c κs. search needs) section-down-requires returns)

@@ -1,0 +1,35 @@
+// Column 0 of rows that begin with a mark: the moves of `[[`, `]]`, `[]` and `][`.
+use positions::Entry;
+use positions::Position;
+use row_walks::sections::section_down;
+use row_walks::sections::section_up;
+use text::Line;
+use text::most;
+ghost use mathlib.Core.Path.{_≡_};
+ghost use Prim.Native.Nat.{_<_};
+ghost use Rattle.positions.specs.Positions.{Accepted};
+ghost use Rattle.text_moves.specs.Sections.{sectionBack, sectionOn};
+
+pub fn section_back(t: &[u32], p: Position, e: Entry, x: u32, count: u32) -> Position
+    requires { ⌜ Accepted (now t) p e × (10 < x) ⌝ }
+    ensures { λ r. ⌜ r ≡ sectionBack (now (t .entry)) x count p ⌝ }
+{
+    let l = Line {
+        row: p.row,
+        start: e.start,
+    };
+    let row = section_up(t, l, x, most(count as usize, 1));
+    Position { row: row, col: 0 }
+}
+
+pub fn section_on(t: &[u32], p: Position, e: Entry, x: u32, count: u32) -> Position
+    requires { ⌜ Accepted (now t) p e × (10 < x) ⌝ }
+    ensures { λ r. ⌜ r ≡ sectionOn (now (t .entry)) x count p ⌝ }
+{
+    let l = Line {
+        row: p.row,
+        start: e.start,
+    };
+    let row = section_down(t, l, e.content - 1, x, most(count as usize, 1));
+    Position { row: row, col: 0 }
+}
