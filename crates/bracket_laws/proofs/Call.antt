@@ -13,23 +13,23 @@ use Rattle.text.specs.Text.{rowCount, rowLen}
 use Rattle.text.specs.Offsets.{rowStart}
 use Rattle.row_search.specs.declared.Found.{Found}
 use Rattle.row_search.specs.declared.Found.the-variants.{At, Nothing}
-use Rattle.bracket_walks.specs.declared.Pos.{Pos}
+use Rattle.text.specs.declared.Position.{Position}
 use Rattle.bracket_walks.specs.declared.Partner.the-variants.{There, None, Refused}
 use Rattle.bracket_walks.specs.Matching.{partnerOf, placed}
 use Rattle.brackets.specs.Matching.{matchingBracketPos, Inside}
 use Rattle.brackets.proofs.Call.{call-refused}
 use Rattle.bracket_laws.specs.Demand.{Refusal}
 
-pub there-once : {p q : Pos} → There p ≡ There q → p ≡ q
+pub there-once : {p q : Position} → There p ≡ There q → p ≡ q
 there-once e = cc
 
-there-answers : {p : Pos} {f : ℕ} → There p ≡ Refused f → ⊥
+there-answers : {p : Position} {f : ℕ} → There p ≡ Refused f → ⊥
 there-answers e = let z : _≡_ {A = ℕ} 0 1 = cc in omega arith
 
 refused-once : {f g : ℕ} → Refused f ≡ Refused g → f ≡ g
 refused-once e = cc
 
-pub there-some : {p : Pos} → There p ≡ None → ⊥
+pub there-some : {p : Position} → There p ≡ None → ⊥
 there-some e = let z : _≡_ {A = ℕ} 0 1 = cc in omega arith
 
 module _ (t : List ℕ) (row col : ℕ) where
@@ -64,7 +64,7 @@ module _ (t : List ℕ) (row col : ℕ) where
   call-refusal f r = call-refused t row col (λ z. r .some (sym (r .number) ∙ z)) ∙ ap Refused (r .number)
 
   -- so a text that a partner is told of is accepted
-  pub call-accepted : (q : Pos) → matchingBracketPos t row col ≡ There q → textRefusal t ≡ 0
+  pub call-accepted : (q : Position) → matchingBracketPos t row col ≡ There q → textRefusal t ≡ 0
   call-accepted q e = on (ℕ-discrete (textRefusal t) 0)
     where
       on : Dec (textRefusal t ≡ 0) → textRefusal t ≡ 0

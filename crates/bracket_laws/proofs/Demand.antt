@@ -6,7 +6,7 @@ use Prim.Native.Nat.{ℕ, _<_}
 use lib.ListN.{getD}
 use Rattle.text_check.specs.Accept.{textRefusal}
 use Rattle.bracket_kinds.specs.declared.Kind.{Kind}
-use Rattle.bracket_walks.specs.declared.Pos.{Pos}
+use Rattle.text.specs.declared.Position.{Position}
 use Rattle.row_search.specs.declared.Found.{Found}
 use Rattle.row_search.specs.declared.Found.the-variants.{At, Nothing}
 use Rattle.bracket_walks.specs.declared.Partner.the-variants.{There, None}
@@ -27,7 +27,7 @@ pub refuses : (t : List ℕ) → Refuses t
 refuses t = record { refused = λ p. call-told t (p .row) (p .col); refused-only = λ p. call-refusal t (p .row) (p .col) }
 
 module _ (t : List ℕ) (ok : textRefusal t ≡ 0) where
-  told : (p q : Pos) → answerAt t p ≡ There q → PartnerAt t p q
+  told : (p q : Position) → answerAt t p ≡ There q → PartnerAt t p q
   unfolding placed
   told p q e = on (inside? t (p .row) (p .col))
     where
@@ -44,13 +44,13 @@ module _ (t : List ℕ) (ok : textRefusal t ≡ 0) where
       on (yes h) = met h (partnerOf t (offsetOf t p)) refl (sym (call-inside t (p .row) (p .col) ok h) ∙ e)
       on (no n) = absurd (there-some (sym e ∙ call-outside t (p .row) (p .col) ok n))
 
-  found : (p q : Pos) → PartnerAt t p q → answerAt t p ≡ There q
+  found : (p q : Position) → PartnerAt t p q → answerAt t p ≡ There q
   unfolding placed
   found p q a =
       let h = partner-found t (offsetOf t p) (offset-in (a .from)) (offsetOf t q) (a .partner) in
       call-inside t (p .row) (p .col) ok (a .from) ∙ ap (placed t) h ∙ ap There (pos-offset (a .to))
 
-  none : (p : Pos) → answerAt t p ≡ None → NoPartner t p
+  none : (p : Position) → answerAt t p ≡ None → NoPartner t p
   unfolding placed
   none p e = on (inside? t (p .row) (p .col))
     where
@@ -62,7 +62,7 @@ module _ (t : List ℕ) (ok : textRefusal t ≡ 0) where
       on (yes h) = met h (partnerOf t (offsetOf t p)) refl (sym (call-inside t (p .row) (p .col) ok h) ∙ e)
       on (no n) = outside n
 
-  none-only : (p : Pos) → NoPartner t p → answerAt t p ≡ None
+  none-only : (p : Position) → NoPartner t p → answerAt t p ≡ None
   unfolding placed
   none-only p (outside n) = call-outside t (p .row) (p .col) ok n
   none-only p (alone h a) = call-inside t (p .row) (p .col) ok h ∙ ap (placed t) (alone-found t (offsetOf t p) (offset-in h) a)
@@ -76,7 +76,7 @@ module _ (t : List ℕ) (ok : textRefusal t ≡ 0) where
       let a = told p q e in
       found q p (record { from = a .to; to = a .from; partner = partner-back (a .partner) })
 
-  pair-forward : {k : Kind} {p q : Pos} → PairAt k t p q → Forward k t (offsetOf t p) (offsetOf t q)
+  pair-forward : {k : Kind} {p q : Position} → PairAt k t p q → Forward k t (offsetOf t p) (offsetOf t q)
   pair-forward {k} {p} {q} a =
       let m = told p q (a .answer) in
       of-kind k (sym (point-pos (m .from)) ∙ a .opens) (m .partner)
@@ -84,7 +84,7 @@ module _ (t : List ℕ) (ok : textRefusal t ≡ 0) where
   pub never-cross : NeverCross t
   never-cross = record { stand = stand; share-none = share-none }
     where
-      stand : (k : Kind) (p q p′ q′ : Pos) → PairAt k t p q → PairAt k t p′ q′ → Stand Before p q p′ q′
+      stand : (k : Kind) (p q p′ q′ : Position) → PairAt k t p q → PairAt k t p′ q′ → Stand Before p q p′ q′
       stand k p q p′ q′ a b = on (pairs-stand (pair-forward a) (pair-forward b))
         where
           m : PartnerAt t p q
@@ -101,12 +101,12 @@ module _ (t : List ℕ) (ok : textRefusal t ≡ 0) where
           on (within l h) = within (offset-before (n .from) (m .from) l) (offset-before (m .to) (n .to) h)
 
       -- the open of one is not the close of another
-      apart : {k : Kind} {p q p′ q′ : Pos} → PairAt k t p q → PairAt k t p′ q′ → p ≡ q′ → ⊥
+      apart : {k : Kind} {p q p′ q′ : Position} → PairAt k t p q → PairAt k t p′ q′ → p ≡ q′ → ⊥
       apart {k} a b e =
           let f = pair-forward a .balanced .opens in
           let g = pair-forward b .balanced .closes in
-          hands-differ k k (sym f ∙ ap (λ (x : Pos). getD t (offsetOf t x) 0) e ∙ g)
+          hands-differ k k (sym f ∙ ap (λ (x : Position). getD t (offsetOf t x) 0) e ∙ g)
 
-      share-none : (k : Kind) (p q p′ q′ : Pos) → PairAt k t p q → PairAt k t p′ q′ → (p ≡ p′ → ⊥) → (p ≡ q′ → ⊥) × (q ≡ p′ → ⊥) × (q ≡ q′ → ⊥)
+      share-none : (k : Kind) (p q p′ q′ : Position) → PairAt k t p q → PairAt k t p′ q′ → (p ≡ p′ → ⊥) → (p ≡ q′ → ⊥) × (q ≡ p′ → ⊥) × (q ≡ q′ → ⊥)
       share-none k p q p′ q′ a b n =
           (apart a b, λ e. apart b a (sym e), λ e. n (there-once (sym (symmetric p q (a .answer)) ∙ ap (answerAt t) e ∙ symmetric p′ q′ (b .answer))))

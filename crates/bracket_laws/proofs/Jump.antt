@@ -12,7 +12,7 @@ use Rattle.text.specs.Text.{rowAt}
 use Rattle.row_search.specs.declared.Found.{Found}
 use Rattle.row_search.specs.declared.Found.the-variants.{At, Nothing}
 use Rattle.bracket_walks.specs.declared.Partner.the-variants.{There, None, Refused}
-use Rattle.bracket_walks.specs.declared.Pos.{Pos}
+use Rattle.text.specs.declared.Position.{Position}
 use Rattle.bracket_laws.specs.Pairs.{IsPartner, forward, backward}
 use Rattle.bracket_laws.specs.Demand.{PartnerAt}
 use Rattle.bracket_kinds.specs.Find.{firstBracket}
@@ -36,7 +36,7 @@ not-itself (forward k f) = omega (arith, f .balanced .after)
 not-itself (backward k f) = omega (arith, f .balanced .after)
 
 module _ (t : List ℕ) (ok : textRefusal t ≡ 0) (row col : ℕ) where
-  lands : (q : Pos) → keyFrom t row col ≡ There q → Lands t row col q
+  lands : (q : Position) → keyFrom t row col ≡ There q → Lands t row col q
   unfolding keyTo
   lands q e = on (firstBracket (rowAt t row) col) refl e
     where
@@ -44,7 +44,7 @@ module _ (t : List ℕ) (ok : textRefusal t ≡ 0) (row col : ℕ) where
       on (At i) f g = record { at = i; first = plain-first t row col i f; partner = unique t ok .told (posAt row i) q g }
       on Nothing f g = absurd (there-some (sym g))
 
-  lands-only : (q : Pos) → Lands t row col q → keyFrom t row col ≡ There q
+  lands-only : (q : Position) → Lands t row col q → keyFrom t row col ≡ There q
   unfolding keyTo
   lands-only q a = ap (keyTo t row) (plain-found t row col (a .at) (a .first)) ∙ unique t ok .found (posAt row (a .at)) q (a .partner)
 

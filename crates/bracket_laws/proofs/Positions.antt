@@ -12,15 +12,15 @@ use Rattle.text.specs.Offsets.{rowStart, At}
 use Rattle.text.proofs.At.{on-char, char-there, point-at}
 use Rattle.text.proofs.Before.{same-row, same-col, rows-apart}
 use Rattle.text.proofs.Stands.{row-there}
-use Rattle.bracket_walks.specs.declared.Pos.{Pos}
+use Rattle.text.specs.declared.Position.{Position}
 use Rattle.bracket_walks.specs.Matching.{posOf}
 use Rattle.bracket_laws.specs.Demand.{inText, offsetOf, Before}
 
 -- two positions of the same row and column
-pub pos-eq : {p q : Pos} → p .row ≡ q .row → p .col ≡ q .col → p ≡ q
+pub pos-eq : {p q : Position} → p .row ≡ q .row → p .col ≡ q .col → p ≡ q
 pos-eq e f = λ i. record { row = e i; col = f i }
 
-module _ {t : List ℕ} {p : Pos} (h : inText t p) where
+module _ {t : List ℕ} {p : Position} (h : inText t p) where
   pub at-pos : At t (p .row) (p .col) (offsetOf t p)
   at-pos = record { in-row = h .in-row; in-col = omega (arith, h .in-col); offset = refl }
 
@@ -46,7 +46,7 @@ module _ (t : List ℕ) (j : ℕ) (h : j < length t) (n : getD t j 0 ≡ 10 → 
       let a = row-there t j (omega arith) in
       record { in-row = a .in-row; in-col = on-char a h n }
 
-module _ {t : List ℕ} {p q : Pos} (a : inText t p) (b : inText t q) where
+module _ {t : List ℕ} {p q : Position} (a : inText t p) (b : inText t q) where
   pub offset-once : offsetOf t p ≡ offsetOf t q → p ≡ q
   offset-once e = sym (pos-offset a) ∙ ap (posOf t) e ∙ pos-offset b
 

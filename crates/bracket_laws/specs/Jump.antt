@@ -8,7 +8,7 @@ use lib.ListN.{getD}
 use Rattle.text.specs.Text.{rowAt, rowLen}
 use Rattle.bracket_kinds.specs.declared.Kind.{Kind}
 use Rattle.bracket_kinds.specs.declared.Kind.the-variants.{Angle}
-use Rattle.bracket_walks.specs.declared.Pos.{Pos}
+use Rattle.text.specs.declared.Position.{Position}
 use Rattle.bracket_walks.specs.declared.Partner.the-variants.{There, None, Refused}
 use Rattle.bracket_kinds.specs.Kinds.{openOf, closeOf}
 use Rattle.bracket_laws.specs.Demand.{PartnerAt, NoPartner}
@@ -30,11 +30,11 @@ pub record FirstPlain (t : List ℕ) (row col i : ℕ) : Type 0 where
   pub plain : plainAt t row i
   pub first : (m : ℕ) → col ≤ m → m < i → plainAt t row m → ⊥
 
-abbrev pub posAt : ℕ → ℕ → Pos
+abbrev pub posAt : ℕ → ℕ → Position
 posAt row col = record { row = row; col = col }
 
 -- q is the partner of the first such bracket
-pub record Lands (t : List ℕ) (row col : ℕ) (q : Pos) : Type 0 where
+pub record Lands (t : List ℕ) (row col : ℕ) (q : Position) : Type 0 where
   pub at : ℕ
   pub first : FirstPlain t row col at
   pub partner : PartnerAt t (posAt row at) q
@@ -46,8 +46,8 @@ pub data Stays (t : List ℕ) (row col : ℕ) : Type 0 where
 
 -- where the key goes it lands on that partner, away from where it was; it stays exactly where there is none; it refuses nothing
 pub record KeyGoes (t : List ℕ) : Type 0 where
-  pub lands : (row col : ℕ) (q : Pos) → keyFrom t row col ≡ There q → Lands t row col q
-  pub lands-only : (row col : ℕ) (q : Pos) → Lands t row col q → keyFrom t row col ≡ There q
+  pub lands : (row col : ℕ) (q : Position) → keyFrom t row col ≡ There q → Lands t row col q
+  pub lands-only : (row col : ℕ) (q : Position) → Lands t row col q → keyFrom t row col ≡ There q
   pub moves : (row col : ℕ) → keyFrom t row col ≡ There (posAt row col) → ⊥
   pub stays : (row col : ℕ) → keyFrom t row col ≡ None → Stays t row col
   pub stays-only : (row col : ℕ) → Stays t row col → keyFrom t row col ≡ None

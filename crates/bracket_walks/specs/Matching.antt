@@ -10,7 +10,7 @@ use Rattle.bracket_kinds.specs.declared.Side.{Side}
 use Rattle.bracket_kinds.specs.declared.Side.the-variants.{Open, Close, Neither}
 use Rattle.row_search.specs.declared.Found.{Found}
 use Rattle.row_search.specs.declared.Found.the-variants.{At, Nothing}
-use Rattle.bracket_walks.specs.declared.Pos.{Pos}
+use Rattle.text.specs.declared.Position.{Position}
 use Rattle.bracket_walks.specs.declared.Partner.{Partner}
 use Rattle.bracket_walks.specs.declared.Partner.the-variants.{There, None}
 use Rattle.bracket_kinds.specs.Kinds.{openOf, closeOf, sideOf}
@@ -53,7 +53,7 @@ abbrev pub partnerOf : List ℕ → ℕ → Found
 partnerOf t i = nearestOf (sideOf (getD t i 0)) t i
 
 -- an offset as a row and a column
-abbrev pub posOf : List ℕ → ℕ → Pos
+abbrev pub posOf : List ℕ → ℕ → Position
 posOf t at = record { row = rowOf t at; col = at - rowStart t (rowOf t at) }
 
 unfoldable pub placed : List ℕ → Found → Partner

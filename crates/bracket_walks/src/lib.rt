@@ -2,15 +2,11 @@
 // From motions.rs, "Find / match", and demand 3 of the request.
 pub mod walks;
 
-// A place of a text.
-pub struct Pos {
-    pub row: u32,
-    pub col: u32,
-}
+use text::Position;
 
 // The answer of `matching_bracket_pos`: the Rust's `Some` or `None`, or the number of a refusal.
 pub enum Partner {
-    There(Pos),
+    There(Position),
     None,
     Refused(u32),
 }

@@ -1,10 +1,10 @@
 // The walks from a bracket to its partner, of `matching_bracket_pos` in motions.rs: one walk in one
 // direction keeps the depth and the row beside the offset.
 use crate::Partner;
-use crate::Pos;
 use bracket_kinds::Side;
 use bracket_kinds::kinds;
 use text::Line;
+use text::Position;
 ghost use mathlib.Core.Path.{_≡_};
 ghost use Prim.Native.Nat.{_-_, _≤_};
 ghost use Rattle.bracket_walks.specs.Matching.{closeFrom, openBelow, partnerOf, placed};
@@ -82,10 +82,7 @@ fn place(row: usize, start: usize, at: usize) -> Partner
     ensures { λ r. ⌜ r ≡ Partner.There (record { row = row; col = at - start }) ⌝ }
 {
     let col = at - start;
-    Partner::There(Pos {
-        row: row as u32,
-        col: col as u32,
-    })
+    Partner::There(Position { row: row, col: col })
 }
 
 // The partner of what stands at an offset of the row `l`, or none.

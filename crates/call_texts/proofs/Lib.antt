@@ -1,2 +1,3 @@
 -- The numbers of the calls.
 pub mod Numbers
+pub mod Placing

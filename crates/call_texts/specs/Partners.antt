@@ -1,5 +1,5 @@
 -- The reply of `matching_bracket_pos`. Cited by `call_texts::pairs`. Assumes nothing.
-use Prim.Native.Nat.{ℕ}
+use Prim.Native.Nat.{ℕ, _<_, _^_}
 use mathlib.Core.List.{List, [], _∷_}
 use Rattle.bracket_walks.specs.declared.Partner.{Partner}
 use Rattle.bracket_walks.specs.declared.Partner.the-variants.{There, None, Refused}
@@ -11,6 +11,12 @@ unfoldable pub partnered : Partner → Reply
 partnered (There p) = answer (1 ∷ p .row ∷ p .col ∷ [])
 partnered None = answer (0 ∷ 0 ∷ 0 ∷ [])
 partnered (Refused f) = refused f
+
+-- a partner whose row and column fit a u32
+abbrev pub Fits : Partner → Type 0
+Fits (There p) = (p .row < 2 ^ 32) × (p .col < 2 ^ 32)
+Fits None = Unit
+Fits (Refused f) = Unit
 
 abbrev pub partner : ℕ → ℕ → List ℕ → Reply
 partner row col t = partnered (matchingBracketPos t row col)

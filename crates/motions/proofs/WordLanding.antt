@@ -4,11 +4,11 @@ use mathlib.Core.List.{List, [], _∷_}
 use mathlib.Core.Bool.{Bool}
 use Prim.Native.Nat.{ℕ}
 use Rattle.text_check.specs.Accept.{textRefusal}
-use Rattle.text.specs.Text.{rowCount}
+use Rattle.text.specs.Text.{rowCount, position}
 use Rattle.folds.specs.Folds.{foldRefusal}
 use Rattle.list_tokens.specs.Tokens.{inList}
 use Rattle.keywords.specs.Table.{parseOf}
-use Rattle.word_kinds.specs.Places.{place, kindOf}
+use Rattle.word_kinds.specs.Places.{kindOf}
 use Rattle.word_loops.proofs.Within.{In}
 use Rattle.word_rounds.specs.declared.Motion.{Motion}
 use Rattle.word_rounds.specs.Rounds.{wordMotion}
@@ -25,7 +25,7 @@ module _ (t folds list : List ℕ) (k : Caret) where
       there : wordRefusal t folds list k ≡ 0 → Inside t (wordCaret t folds (inList list) big m stop count k)
       there e =
           let i = caret-in t k (textRefusal t) (foldRefusal folds (rowCount t) ∷ parseOf list .refusal ∷ []) e in
-          let j : In t (wordMotion t folds (kindOf (inList list) big) big m stop count (place (k .row) (k .col))) =
-          word-motion-in t folds (kindOf (inList list) big) big m stop count (place (k .row) (k .col))
+          let j : In t (wordMotion t folds (kindOf (inList list) big) big m stop count (position (k .row) (k .col))) =
+          word-motion-in t folds (kindOf (inList list) big) big m stop count (position (k .row) (k .col))
           (record { in-row = i .in-row; in-col = i .in-col }) in
           record { in-row = j .in-row; in-col = j .in-col }

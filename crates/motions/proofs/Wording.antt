@@ -5,13 +5,13 @@ use Prim.Native.Nat.{ℕ, _+_, _-_, _≤_, _<_, _^_}
 use native.Mathlib.Omega.{arith}
 use lib.ListN.{length}
 use Rattle.text.specs.Offsets.{rowStart, Stands}
-use Rattle.text.specs.Text.{rowCount}
+use Rattle.text.specs.Text.{rowCount, position}
+use Rattle.text.specs.declared.Position.{Position}
 use Rattle.text.proofs.Parts.{count-le}
 use Rattle.folds.specs.Folds.{foldRefusal}
 use Rattle.positions.specs.declared.Entry.{Entry}
 use Rattle.positions.specs.Positions.{Accepted}
 use Rattle.word_kinds.specs.declared.Spot.{Spot}
-use Rattle.word_kinds.specs.Places.{Place, place}
 use Rattle.word_kinds.specs.Spots.{placeOf, IsSpot}
 use Rattle.word_rounds.specs.Turns.{Folded}
 use Rattle.motions.specs.declared.Caret.{Caret}
@@ -23,8 +23,8 @@ module _ (t : List ℕ) (k : Caret) (e : Entry) (h : Accepted t (here k) e) wher
   spot-of : IsSpot t (record { row = k .row; at = e .start + k .col })
   spot-of = subst (λ (s : ℕ). Stands t (k .row) s (e .start + k .col)) (h .here .begins) (h .here)
 
-  pub place-of : placeOf t (record { row = k .row; at = e .start + k .col }) ≡ place (k .row) (k .col)
-  place-of = ap (place (k .row)) (omega (arith, h .here .begins))
+  pub place-of : placeOf t (record { row = k .row; at = e .start + k .col }) ≡ position (k .row) (k .col)
+  place-of = ap (position (k .row)) (omega (arith, h .here .begins))
 
 -- what a word motion from it requires
 pub word-ready : (t folds : List ℕ) (k : Caret) (e : Entry) → Accepted t (here k) e → foldRefusal folds (rowCount t) ≡ 0 →
@@ -38,5 +38,5 @@ spot-fits {t} {r} start b s = (omega (arith, b, s .in-row, count-le t), omega (a
 
 -- and the caret of a spot
 pub caret-of-spot :
-    (t : List ℕ) (k : Caret) (r : Spot) (c : ℕ) (w : Place) → c ≡ r .at - rowStart t (r .row) → placeOf t r ≡ w → placed k (r .row) c ≡ atPlace k w
+    (t : List ℕ) (k : Caret) (r : Spot) (c : ℕ) (w : Position) → c ≡ r .at - rowStart t (r .row) → placeOf t r ≡ w → placed k (r .row) c ≡ atPlace k w
 caret-of-spot t k r c w q e = ap (placed k (r .row)) q ∙ ap (atPlace k) e

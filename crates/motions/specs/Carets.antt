@@ -4,10 +4,11 @@ use Prim.Native.Nat.{ℕ}
 use mathlib.Core.List.{List}
 use mathlib.Core.Bool.{cond}
 use lib.Dec.{eqb}
-use Rattle.positions.specs.declared.Position.{Position}
+use Rattle.text.specs.Text.{position}
+use Rattle.text.specs.declared.Position.{Position}
 use Rattle.positions.specs.declared.Entry.{Entry}
 use Rattle.positions.specs.Positions
-use Rattle.positions.specs.Positions.{position, positionRefusal, refusalAt}
+use Rattle.positions.specs.Positions.{positionRefusal, refusalAt}
 use Rattle.vertical.specs.declared.Sticky.{Sticky}
 use Rattle.motions.specs.declared.Caret.{Caret}
 use Rattle.motions.specs.declared.Moved.{Moved}

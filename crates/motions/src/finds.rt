@@ -27,7 +27,7 @@ impl Caret {
             start: e.start,
         };
         match brackets::matching::match_bracket_from(t, l, self.col as usize) {
-            Partner::There(q) => Sought::Found(self.placed(q.row as usize, q.col as usize)),
+            Partner::There(q) => Sought::Found(self.placed(q.row, q.col)),
             Partner::None => Sought::Missing(self),
             Partner::Refused(f) => Sought::Refused(f),
         }

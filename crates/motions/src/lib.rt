@@ -3,8 +3,8 @@
 // answers with the new caret. A caret goes in by value, so that the caller's own stands as it did
 // where a call is refused. Every motion is a `Move`, and goes by `Caret::go`.
 use positions::Entry;
-use positions::Position;
 use row_wrap::Wrap;
+use text::Position;
 use text_moves::Way;
 use vertical::Edge;
 use vertical::Sticky;

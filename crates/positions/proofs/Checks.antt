@@ -13,7 +13,7 @@ use Rattle.text.specs.Offsets.{rowStart}
 use Rattle.text_check.proofs.Accepted.{accepted-short}
 use Rattle.text.proofs.Parts.{row-fits}
 use Rattle.text.proofs.Stands.{line-at, stands-in}
-use Rattle.positions.specs.declared.Position.{Position}
+use Rattle.text.specs.declared.Position.{Position}
 use Rattle.positions.specs.declared.Entry.{Entry}
 use Rattle.positions.specs.Positions.{positionRefusal, lowest, refusalAt, refusedBy, foundAt, entryBy, entryOf, Accepted, Inside}
 use Rattle.positions.proofs.Lowest.{lowest-none}

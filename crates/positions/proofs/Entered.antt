@@ -12,7 +12,7 @@ use Rattle.text_check.specs.Accept.{textRefusal}
 use Rattle.text.specs.Text.{rowCount}
 use Rattle.text.proofs.Content.{content-near}
 use Rattle.folds.specs.Folds.{foldRefusal}
-use Rattle.positions.specs.declared.Position.{Position}
+use Rattle.text.specs.declared.Position.{Position}
 use Rattle.positions.specs.declared.Entry.{Entry}
 use Rattle.positions.specs.Positions.{positionRefusal, refusalAt, orSought, refusalWith, refusalFolds, orFolds, entryOf, Accepted}
 use Rattle.positions.proofs.Lowest.{lowest-then}

@@ -8,14 +8,11 @@ use lib.ListN.{length}
 use lib.Dec.{eqb, ltb, leb}
 use Rattle.chars.specs.Scalar.{isScalar}
 use Rattle.text_check.specs.Accept.{textRefusal}
-use Rattle.text.specs.Text.{rowCount, rowLen, contentRows}
+use Rattle.text.specs.Text.{rowCount, rowLen, contentRows, position}
 use Rattle.text.specs.Offsets.{rowStart, Stands}
 use Rattle.folds.specs.Folds.{foldRefusal}
-use Rattle.positions.specs.declared.Position.{Position}
+use Rattle.text.specs.declared.Position.{Position}
 use Rattle.positions.specs.declared.Entry.{Entry}
-
-abbrev pub position : ℕ → ℕ → Position
-position r c = record { row = r; col = c }
 
 -- at another column of its row
 abbrev pub inRow : Position → ℕ → Position

@@ -1,14 +1,9 @@
 // Positions of a text: the checks of one, which every motion begins with.
 // From document 01, "Text, rows, carets" and "Refusal numbers".
+use text::Position;
 ghost use mathlib.Core.Path.{_≡_};
 ghost use Rattle.chars.specs.Scalar.{isScalar};
 ghost use Rattle.positions.specs.Positions.{refusedBy, entryOf, orSought, orFolds};
-
-// A row, and a column in it, which may be the row's character count.
-pub struct Position {
-    pub row: usize,
-    pub col: usize,
-}
 
 // What the checks of a call find out: its refusal, where the position's row starts, how many rows
 // the text has, and how many have content. The numbers are 0 beside a refusal.

@@ -7,13 +7,13 @@ use native.Mathlib.Decide.{ℕ-discrete}
 use native.Mathlib.Omega.{arith}
 use borrow.Author.Tests.{eq-eqb, ne-eqb}
 use Rattle.text_check.specs.Accept.{textRefusal}
-use Rattle.bracket_walks.specs.declared.Pos.{Pos}
+use Rattle.text.specs.declared.Position.{Position}
 use Rattle.bracket_walks.specs.declared.Partner.{Partner}
 use Rattle.bracket_walks.specs.declared.Partner.the-variants.{There, None, Refused as Partner·Refused}
 use Rattle.brackets.specs.Find.{keyFrom}
 use Rattle.bracket_laws.specs.Jump.{posAt, KeyGoes}
 use Rattle.bracket_laws.proofs.Jump.{key-goes}
-use Rattle.positions.specs.declared.Position.{Position}
+use Rattle.text.specs.declared.Position.{Position}
 use Rattle.positions.proofs.Lowest.{lowest-none}
 use Rattle.motions.specs.declared.Caret.{Caret}
 use Rattle.motions.specs.declared.Sought.the-variants.{Found, Missing, Refused}
@@ -45,7 +45,7 @@ goesTo t k = keyFrom t (k .row) (k .col)
 
 -- the answer by its cases
 data Answer (t : List ℕ) (k : Caret) : Type 0 where
-  there : refusalOf t k ≡ 0 → (q : Pos) → goesTo t k ≡ There q → matchBracket t k ≡ Found (placed k (q .row) (q .col)) → Answer t k
+  there : refusalOf t k ≡ 0 → (q : Position) → goesTo t k ≡ There q → matchBracket t k ≡ Found (placed k (q .row) (q .col)) → Answer t k
   none : refusalOf t k ≡ 0 → goesTo t k ≡ None → matchBracket t k ≡ Missing k → Answer t k
   number : (refusalOf t k ≡ 0 → ⊥) → matchBracket t k ≡ Refused (refusalOf t k) → Answer t k
 

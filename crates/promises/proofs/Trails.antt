@@ -4,7 +4,7 @@ use mathlib.Core.List.{List, [], _∷_}
 use mathlib.Core.Bool.{Bool, true, false, cond, _&&_}
 use Prim.Native.Nat.{ℕ, zero, suc, _-_, _<_, max}
 use native.Mathlib.Omega.{arith}
-use Rattle.word_kinds.specs.Places.{Place, Went, To, Nowhere}
+use Rattle.word_kinds.specs.Places.{Went, To, Nowhere}
 use Rattle.word_loops.proofs.Within
 use Rattle.word_edges.specs.Words
 use Rattle.word_rounds.specs.declared.Motion.{Motion}
@@ -12,7 +12,7 @@ use Rattle.word_rounds.specs.declared.Motion.the-variants.{Fwd, Back, End, EndB
 use Rattle.word_rounds.specs.Rounds.{Turn, On, Off, jumpFwd, jumpBack, turn, roundOf, after, counted, wordMotion}
 use Rattle.word_rounds.proofs.Inside.{Turns, jump-fwd-in, jump-back-in, round-in}
 use Rattle.lists.specs.Rounds.{rounds}
-use Rattle.positions.specs.declared.Position.{Position}
+use Rattle.text.specs.declared.Position.{Position}
 use Rattle.promises.specs.Positions.{In, AllIn}
 use Rattle.promises.specs.Trails.{trail, origin, atPlace, found, countedWrites, wordWrites}
 use Rattle.promises.specs.Writes.{ends, lastOf}
@@ -35,26 +35,26 @@ module _ {A : Type 0} (show : A → Position) (f : A → A) where
   trail-in t h (suc n) p i = (h p i, trail-in t h n (f p) (h p i))
 
 -- a round of a word motion, and those after it
-module _ (from : Place) (rest : Place → List Position) where
-  found-ends : (r : Turn) (f : Place → Place) → ((q : Place) → r ≡ Off q → from ≡ q) → ((q : Place) → ends (atPlace q) (rest q) ≡ atPlace (f q)) →
+module _ (from : Position) (rest : Position → List Position) where
+  found-ends : (r : Turn) (f : Position → Position) → ((q : Position) → r ≡ Off q → from ≡ q) → ((q : Position) → ends (atPlace q) (rest q) ≡ atPlace (f q)) →
       ends (atPlace from) (found r rest) ≡ atPlace (after r f)
   unfolding ends
   found-ends (On q) f off h = h q
   found-ends (Off q) f off h = ap atPlace (off q refl)
 
-  found-in : (t : List ℕ) (r : Turn) → Turns t r → ((q : Place) → Within.In t q → AllIn t (rest q)) → AllIn t (found r rest)
+  found-in : (t : List ℕ) (r : Turn) → Turns t r → ((q : Position) → Within.In t q → AllIn t (rest q)) → AllIn t (found r rest)
   found-in t (On q) i h = (record { in-row = i .in-row; in-col = i .in-col }, h q i)
   found-in t (Off q) i h = tt
 
-module _ (from : Place → Place) (round : Place → Turn) where
-  counted-ends : ((p q : Place) → round p ≡ Off q → from p ≡ q) → (n : ℕ) (p : Place) →
+module _ (from : Position → Position) (round : Position → Turn) where
+  counted-ends : ((p q : Position) → round p ≡ Off q → from p ≡ q) → (n : ℕ) (p : Position) →
       ends (atPlace p) (countedWrites from round n p) ≡ atPlace (counted round n p)
   unfolding ends countedWrites counted
   counted-ends off zero p = refl
   counted-ends off (suc n) p = found-ends (from p) (countedWrites from round n) (round p) (counted round n) (off p) (counted-ends off n)
 
-  counted-in : (t : List ℕ) → ((p : Place) → Within.In t p → Within.In t (from p)) → ((p : Place) → Within.In t p → Turns t (round p)) →
-      (n : ℕ) (p : Place) → Within.In t p → AllIn t (countedWrites from round n p)
+  counted-in : (t : List ℕ) → ((p : Position) → Within.In t p → Within.In t (from p)) → ((p : Position) → Within.In t p → Turns t (round p)) →
+      (n : ℕ) (p : Position) → Within.In t p → AllIn t (countedWrites from round n p)
   unfolding countedWrites
   counted-in t a b zero p i = tt
   counted-in t a b (suc n) p i =
@@ -64,19 +64,19 @@ module _ (from : Place → Place) (round : Place → Turn) where
       )
 
 -- a round that finds no word ends where it began, out of the fold
-turn-off : (from : Place) (w : Went) (q : Place) → turn from w ≡ Off q → from ≡ q
+turn-off : (from : Position) (w : Went) (q : Position) → turn from w ≡ Off q → from ≡ q
 turn-off from (To x) q e = let z : _≡_ {A = ℕ} 0 1 = cc in absurd (omega arith)
 turn-off from Nowhere q e = cc
 
 module _ (t folds : List ℕ) where
-  origin-in : (m : Motion) (p : Place) → Within.In t p → Within.In t (origin t folds m p)
+  origin-in : (m : Motion) (p : Position) → Within.In t p → Within.In t (origin t folds m p)
   origin-in Fwd p i = jump-fwd-in t folds p i
   origin-in Back p i = jump-back-in t folds p i
   origin-in End p i = jump-fwd-in t folds p i
   origin-in EndBack p i = i
 
   module _ (kind : ℕ → ℕ) (big : Bool) where
-    round-off : (m : Motion) (stop : Bool) (p q : Place) → roundOf t folds kind big m stop p ≡ Off q → origin t folds m p ≡ q
+    round-off : (m : Motion) (stop : Bool) (p q : Position) → roundOf t folds kind big m stop p ≡ Off q → origin t folds m p ≡ q
     unfolding roundOf
     round-off Fwd stop p q e = turn-off (jumpFwd t folds p) (Words.nextWordStart t kind big (jumpFwd t folds p)) q e
     round-off Back stop p q e = turn-off (jumpBack t folds p) (Words.prevWordStart t kind (jumpBack t folds p)) q e
@@ -88,7 +88,7 @@ module _ (t folds : List ℕ) where
         go false z = turn-off (jumpFwd t folds p) (Words.nextWordEnd t kind (jumpFwd t folds p)) q z
     round-off EndBack stop p q e = turn-off p (Words.prevWordEnd t kind p) q e
 
-    pub word-last : (m : Motion) (stop : Bool) (n : ℕ) (p : Place) →
+    pub word-last : (m : Motion) (stop : Bool) (n : ℕ) (p : Position) →
         lastOf (wordWrites t folds kind big m stop n p) ≡ atPlace (wordMotion t folds kind big m stop n p) ∷ []
     unfolding wordWrites wordMotion
     word-last m stop n p =
@@ -96,7 +96,7 @@ module _ (t folds : List ℕ) where
         (found-ends (origin t folds m p) _ (roundOf t folds kind big m stop p) _ (round-off m stop p)
         (counted-ends (origin t folds m) (roundOf t folds kind big m false) (round-off m false) (max n 1 - 1)))
 
-    pub word-in : (m : Motion) (stop : Bool) (n : ℕ) (p : Place) → Within.In t p → AllIn t (wordWrites t folds kind big m stop n p)
+    pub word-in : (m : Motion) (stop : Bool) (n : ℕ) (p : Position) → Within.In t p → AllIn t (wordWrites t folds kind big m stop n p)
     unfolding wordWrites
     word-in m stop n p i =
         let j = origin-in m p i in (

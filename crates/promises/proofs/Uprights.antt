@@ -12,10 +12,10 @@ use Rattle.visible_rows.specs.Visible.{deltaOf}
 use Rattle.vertical.specs.Moves.{moveVertical}
 use Rattle.vertical.proofs.Inside as Upright
 use Rattle.vertical.proofs.Inside.{rows-inside}
-use Rattle.screen.specs.declared.Place.{Place}
+use Rattle.text.specs.declared.Position.{Position}
 use Rattle.screen.specs.Screen.{jumped, screenTarget}
 use Rattle.screen.proofs.Inside.{round-inside, jump-inside}
-use Rattle.positions.specs.declared.Position.{Position}
+use Rattle.text.specs.declared.Position.{Position}
 use Rattle.positions.specs.Positions.{Inside}
 use Rattle.motions.specs.declared.Caret.{Caret}
 use Rattle.motions.specs.declared.Moved.{Moved}
@@ -42,10 +42,10 @@ module _ (t : List ℕ) (k : Caret) (n : ℕ) (folds : List ℕ) (tabstop : ℕ)
     lay = segmentsOf widthOf isWhite mode width
 
     -- where the walk begins
-    abbrev from : Bool → Place
+    abbrev from : Bool → Position
     from down = jumped t folds down (record { row = k .row; col = k .col })
 
-    step-in : (down : Bool) (o p : Place) → Inside t (onScreen p) → Inside t (onScreen (stepOf t folds lay down o p))
+    step-in : (down : Bool) (o p : Position) → Inside t (onScreen p) → Inside t (onScreen (stepOf t folds lay down o p))
     step-in down o p i =
         let r = round-inside t folds lay down _ p (record { in-row = i .in-row; in-col = i .in-col }) in
         record { in-row = r .in-row; in-col = r .in-col }

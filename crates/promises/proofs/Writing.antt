@@ -7,12 +7,13 @@ use native.Mathlib.Decide.{ℕ-discrete}
 use native.Mathlib.Omega.{arith}
 use lib.Dec.{eqb, leb}
 use borrow.Author.Tests.{ne-eqb}
+use Rattle.text.specs.Text.{position}
 use Rattle.lists.specs.Rounds.{rounds}
 use Rattle.list_tokens.specs.Tokens.{inList}
-use Rattle.word_kinds.specs.Places.{place, kindOf}
+use Rattle.word_kinds.specs.Places.{kindOf}
 use Rattle.word_rounds.specs.declared.Motion.{Motion}
 use Rattle.word_rounds.specs.declared.Motion.the-variants.{Fwd, Back, End, EndBack}
-use Rattle.positions.specs.declared.Position.{Position}
+use Rattle.text.specs.declared.Position.{Position}
 use Rattle.positions.specs.Positions.{Inside}
 use Rattle.positions.proofs.Checks.{inside}
 use Rattle.steps.specs.Steps.{times, spaceFwd, backspaceBack}
@@ -106,15 +107,15 @@ module _ (t : List ℕ) where
     -- word motions
     module _ (list : List ℕ) (big : Bool) where
       by-words : (folds : List ℕ) (m : Motion) (stop : Bool) →
-          Keeps t (moveWord t folds list big m stop n k) (λ c. wordWrites t folds (kindOf (inList list) big) big m stop n (place (k .row) (k .col)))
+          Keeps t (moveWord t folds list big m stop n k) (λ c. wordWrites t folds (kindOf (inList list) big) big m stop n (position (k .row) (k .col)))
       by-words folds m stop = record {
         fits =
-            moving-to (Fits t (wordWrites t folds (kindOf (inList list) big) big m stop n (place (k .row) (k .col)))) (wordRefusal t folds list k)
+            moving-to (Fits t (wordWrites t folds (kindOf (inList list) big) big m stop n (position (k .row) (k .col)))) (wordRefusal t folds list k)
             (wordCaret t folds (inList list) big m stop n k)
             (λ z.
             let i = caret-in t k _ _ z in (
-              word-in t folds (kindOf (inList list) big) big m stop n (place (k .row) (k .col)) (record { in-row = i .in-row; in-col = i .in-col }),
-              word-last t folds (kindOf (inList list) big) big m stop n (place (k .row) (k .col)),
+              word-in t folds (kindOf (inList list) big) big m stop n (position (k .row) (k .col)) (record { in-row = i .in-row; in-col = i .in-col }),
+              word-last t folds (kindOf (inList list) big) big m stop n (position (k .row) (k .col)),
             ));
       }
 
@@ -126,5 +127,5 @@ module _ (t : List ℕ) where
           (both answer (eqb op 1) (by-words folds Back false)
           (both answer (eqb op 2) (by-words folds End false)
           (both answer (eqb op 3) (by-words folds End true)
-          (either (λ (a : Asked). Keeps t (answer a) (λ c. wordWrites t [] (kindOf (inList list) big) big EndBack false n (place (k .row) (k .col)))) (eqb op 4) _ _
+          (either (λ (a : Asked). Keeps t (answer a) (λ c. wordWrites t [] (kindOf (inList list) big) big EndBack false n (position (k .row) (k .col)))) (eqb op 4) _ _
           (by-words [] EndBack false) (refused 100 _)))))

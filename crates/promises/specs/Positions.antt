@@ -3,11 +3,12 @@
 use Prim.Native.Nat.{ℕ}
 use mathlib.Core.List.{List, [], _∷_}
 use mathlib.Core.Bool.{Bool}
+use Rattle.text.specs.Text.{position}
 use Rattle.bracket_walks.specs.declared.Partner.{Partner}
 use Rattle.bracket_walks.specs.declared.Partner.the-variants.{There, None, Refused as Partner·Refused}
 use Rattle.brackets.specs.Matching.{matchingBracketPos}
-use Rattle.positions.specs.declared.Position.{Position}
-use Rattle.positions.specs.Positions.{position, Inside}
+use Rattle.text.specs.declared.Position.{Position}
+use Rattle.positions.specs.Positions.{Inside}
 use Rattle.motions.specs.declared.Caret.{Caret}
 use Rattle.motions.specs.declared.Moved.{Moved}
 use Rattle.motions.specs.declared.Moved.the-variants.{To, Refused}

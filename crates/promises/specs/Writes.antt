@@ -5,15 +5,15 @@ use mathlib.Core.Path.{_≡_}
 use mathlib.Core.List.{List, [], _∷_}
 use mathlib.Core.Bool.{Bool, true, false, cond, _||_}
 use lib.Dec.{eqb, leb}
+use Rattle.text.specs.Text.{position}
 use Rattle.chars.specs.White.{isWhite}
 use Rattle.chars.specs.Width.{widthOf}
 use Rattle.list_tokens.specs.Tokens.{inList}
 use Rattle.row_wrap.specs.declared.Wrap.{Wrap}
 use Rattle.row_wrap.specs.Modes.{isNone, segmentsOf}
-use Rattle.word_kinds.specs.Places.{place, kindOf}
+use Rattle.word_kinds.specs.Places.{kindOf}
 use Rattle.word_rounds.specs.declared.Motion.the-variants.{Fwd, Back, End, EndBack}
-use Rattle.positions.specs.declared.Position.{Position}
-use Rattle.positions.specs.Positions.{position}
+use Rattle.text.specs.declared.Position.{Position}
 use Rattle.steps.specs.Steps.{times, spaceFwd, backspaceBack}
 use Rattle.motions.specs.declared.Caret.{Caret}
 use Rattle.motions.specs.declared.Moved.{Moved}
@@ -48,11 +48,11 @@ plainWrites op n k t c =
 -- the word motions, by the numbers of `word`
 unfoldable pub termWrites : ℕ → Bool → ℕ → Caret → List ℕ → List ℕ → (ℕ → ℕ) → List Position
 termWrites op big n k t folds kind =
-    cond (eqb op 0) (wordWrites t folds kind big Fwd false n (place (k .row) (k .col)))
-    (cond (eqb op 1) (wordWrites t folds kind big Back false n (place (k .row) (k .col)))
-    (cond (eqb op 2) (wordWrites t folds kind big End false n (place (k .row) (k .col)))
-    (cond (eqb op 3) (wordWrites t folds kind big End true n (place (k .row) (k .col)))
-    (wordWrites t [] kind big EndBack false n (place (k .row) (k .col))))))
+    cond (eqb op 0) (wordWrites t folds kind big Fwd false n (position (k .row) (k .col)))
+    (cond (eqb op 1) (wordWrites t folds kind big Back false n (position (k .row) (k .col)))
+    (cond (eqb op 2) (wordWrites t folds kind big End false n (position (k .row) (k .col)))
+    (cond (eqb op 3) (wordWrites t folds kind big End true n (position (k .row) (k .col)))
+    (wordWrites t [] kind big EndBack false n (position (k .row) (k .col))))))
 
 -- `gj` and `gk`: with mode None or width 0 they write once, as `j` and `k` do
 abbrev pub screenMoves : Wrap → ℕ → Bool → ℕ → Caret → List ℕ → List ℕ → Caret → List Position

@@ -23,7 +23,7 @@ use Rattle.vertical.specs.Moves.{moveVertical}
 use Rattle.visible_rows.proofs.Visible.{toward-within}
 use Rattle.lists.proofs.Rounds.{rounds-keep}
 use Rattle.vertical.proofs.Inside.{Inside, rows-inside}
-use Rattle.screen.specs.declared.Place.{Place}
+use Rattle.text.specs.declared.Position.{Position}
 use Rattle.screen_segments.specs.Parts.{segmentCount, aheadOf}
 use Rattle.screen.specs.Screen.{seatOf, onSegment, entered, stepScreen, jumpedTo, outOf, jumped}
 use Rattle.screen.specs.Screen.{screenFrom, screenTarget, moveScreen}
@@ -34,7 +34,7 @@ module _ (t folds : List ℕ) (lay : List ℕ → List ℕ) (down : Bool) where
   segment-inside : (offset row j : ℕ) → row < rowCount t → Inside t row (onSegment t lay offset row j .col)
   segment-inside offset row j h = record { in-row = h; in-col = omega arith }
 
-  pub round-inside : (offset : ℕ) (p : Place) → Inside t (p .row) (p .col) →
+  pub round-inside : (offset : ℕ) (p : Position) → Inside t (p .row) (p .col) →
       Inside t (stepScreen t folds lay down offset p .row) (stepScreen t folds lay down offset p .col)
   unfolding stepScreen
   round-inside offset p i = go (ltb 0 (aheadOf down (segmentCount (lay (rowAt t (p .row)))) (seatOf t lay p)))
@@ -48,10 +48,10 @@ module _ (t folds : List ℕ) (lay : List ℕ → List ℕ) (down : Bool) where
       go true = segment-inside offset (p .row) (shift down (seatOf t lay p) 1) (i .in-row)
       go false = into (toward folds (rowCount t) down (p .row)) refl
 
-  pub screen-inside : (n : ℕ) (p : Place) → Inside t (p .row) (p .col) → Inside t (screenFrom t folds lay down n p .row) (screenFrom t folds lay down n p .col)
+  pub screen-inside : (n : ℕ) (p : Position) → Inside t (p .row) (p .col) → Inside t (screenFrom t folds lay down n p .row) (screenFrom t folds lay down n p .col)
   screen-inside n p i = rounds-keep (λ q. Inside t (q .row) (q .col)) _ (round-inside _) n p i
 
-pub jump-inside : (t folds : List ℕ) (down : Bool) (p : Place) → Inside t (p .row) (p .col) → Inside t (jumped t folds down p .row) (jumped t folds down p .col)
+pub jump-inside : (t folds : List ℕ) (down : Bool) (p : Position) → Inside t (p .row) (p .col) → Inside t (jumped t folds down p .row) (jumped t folds down p .col)
 jump-inside t folds down p i = go (closedFoldAt folds (rowCount t) (contentRows t) (p .row)) refl
   where
     near : (rowCount t ≤ contentRows t + 1) × (contentRows t ≤ rowCount t) × (0 < contentRows t)

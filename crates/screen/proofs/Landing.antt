@@ -14,7 +14,7 @@ use Rattle.screen_segments.specs.declared.Part.{Part}
 use Rattle.screen_segments.specs.Parts.{segmentCount, aheadOf, clampTo, modeOf, layOf, partAt, partFor}
 use Rattle.screen_segments.proofs.Seats.{Laid, laid, seat-last, seat-within, start-within}
 use Rattle.screen_segments.proofs.Finding.{few-segments}
-use Rattle.screen.specs.declared.Place.{Place}
+use Rattle.text.specs.declared.Position.{Position}
 use Rattle.screen.specs.declared.Seat.{Seat}
 use Rattle.screen.specs.Screen.{seatOf, stepScreen, screenFrom}
 use Rattle.screen.specs.Walks.{placeAt, aheadAt, seatAt}
@@ -80,7 +80,7 @@ module _ (w : ℕ → ℕ) (t : List ℕ) (word : Bool) (width : ℕ) (down : Bo
         λ i. record { ahead = x i; offset = z i }
 
 -- the rounds from a place are those from its spot, and where nothing lies ahead the place stays
-module _ (w : ℕ → ℕ) (t folds : List ℕ) (word : Bool) (width : ℕ) (down : Bool) (n : ℕ) (h : 0 < n) (p : Place) {s : Seat}
+module _ (w : ℕ → ℕ) (t folds : List ℕ) (word : Bool) (width : ℕ) (down : Bool) (n : ℕ) (h : 0 < n) (p : Position) {s : Seat}
     (e : s ≡ seatAt t (layOf w word width) down p) where
   own-ahead : s .ahead ≡ aheadAt t (layOf w word width) down p
   own-ahead = ap (λ (x : Seat). x .ahead) e
@@ -97,7 +97,7 @@ module _ (w : ℕ → ℕ) (t folds : List ℕ) (word : Bool) (width : ℕ) (dow
   kept : ℕ
   kept = p .col - getD (layOf w word width (rowAt t (p .row))) (2 * seatOf t (layOf w word width) p) 0
 
-  module _ {r : Place} (g : r ≡ rounds (stepScreen t folds (layOf w word width) down (s .offset)) n
+  module _ {r : Position} (g : r ≡ rounds (stepScreen t folds (layOf w word width) down (s .offset)) n
       (placeAt t (layOf w word width) down (s .offset) (p .row) (s .ahead))) where
     glided : r ≡ rounds (stepScreen t folds (layOf w word width) down kept) n
         (placeAt t (layOf w word width) down kept (p .row) (aheadAt t (layOf w word width) down p))

@@ -9,7 +9,7 @@ use lib.ListN.{length}
 use borrow.Author.Tests.{lt-ltb, le-ltb}
 use Rattle.text.specs.Text.{rowCount, rowAt}
 use Rattle.folds.specs.declared.Visible.the-variants.{Row, NoRow}
-use Rattle.screen.specs.declared.Place.{Place}
+use Rattle.text.specs.declared.Position.{Position}
 use Rattle.lists.specs.Rounds.{rounds}
 use Rattle.visible_rows.specs.Visible.{toward, shift}
 use Rattle.screen_segments.specs.Parts.{segmentCount, aheadOf}
@@ -35,22 +35,22 @@ abbrev pub countOf : List ℕ → (List ℕ → List ℕ) → ℕ → ℕ
 countOf t lay row = segmentCount (lay (rowAt t row))
 
 -- the place in the same segment that keeps the offset
-abbrev pub ownPlace : List ℕ → (List ℕ → List ℕ) → Bool → ℕ → Place → Place
+abbrev pub ownPlace : List ℕ → (List ℕ → List ℕ) → Bool → ℕ → Position → Position
 ownPlace t lay down offset p = placeAt t lay down offset (p .row) (aheadAt t lay down p)
 
 module _ (t folds : List ℕ) (lay : List ℕ → List ℕ) (down : Bool) (offset : ℕ) where
   -- a round, by the segments ahead
-  round-on : (p : Place) → 0 < aheadAt t lay down p → stepScreen t folds lay down offset p ≡ onSegment t lay offset (p .row) (shift down (seatOf t lay p) 1)
+  round-on : (p : Position) → 0 < aheadAt t lay down p → stepScreen t folds lay down offset p ≡ onSegment t lay offset (p .row) (shift down (seatOf t lay p) 1)
   unfolding stepScreen
   round-on p h = rw (lt-ltb 0 (aheadAt t lay down p) h)
 
-  round-off : (p : Place) → aheadAt t lay down p ≡ 0 → stepScreen t folds lay down offset p ≡
+  round-off : (p : Position) → aheadAt t lay down p ≡ 0 → stepScreen t folds lay down offset p ≡
       entered t lay down offset p (toward folds (rowCount t) down (p .row))
   unfolding stepScreen
   round-off p e = rw (le-ltb 0 (aheadAt t lay down p) (omega arith))
 
   -- no segment is ahead and no row: the place stays
-  pub stuck : (n : ℕ) (p : Place) → aheadAt t lay down p ≡ 0 → toward folds (rowCount t) down (p .row) ≡ NoRow →
+  pub stuck : (n : ℕ) (p : Position) → aheadAt t lay down p ≡ 0 → toward folds (rowCount t) down (p .row) ≡ NoRow →
       rounds (stepScreen t folds lay down offset) n p ≡ p
   stuck n p e none = rounds-still (stepScreen t folds lay down offset) n p (round-off p e ∙ ap (entered t lay down offset p) none)
 
@@ -62,10 +62,10 @@ module _ (t folds : List ℕ) (lay : List ℕ → List ℕ) (down : Bool) (offse
     ahead-at row a h = ap (aheadOf down (countOf t lay row)) (seat-at row a h) ∙ ahead-back down (countOf t lay row) a h
 
     -- a place moves as the one in its segment does that keeps the offset, unless it is stuck
-    pub ahead-in : (p : Place) → aheadAt t lay down p < countOf t lay (p .row)
+    pub ahead-in : (p : Position) → aheadAt t lay down p < countOf t lay (p .row)
     ahead-in p = ahead-within down (countOf t lay (p .row)) (seatOf t lay p) (seat-within (lays (rowAt t (p .row))) (p .col))
 
-    module _ (p : Place) where
+    module _ (p : Position) where
       own-ahead : aheadAt t lay down (ownPlace t lay down offset p) ≡ aheadAt t lay down p
       own-ahead = ahead-at (p .row) (aheadAt t lay down p) (ahead-in p)
 

@@ -15,7 +15,7 @@ use Rattle.folds.specs.declared.Visible.{Visible}
 use Rattle.folds.specs.declared.Visible.the-variants.{Row, NoRow}
 use Rattle.folds.proofs.Past.{visible-within, prev-within}
 use Rattle.text.proofs.Stands.{line-there}
-use Rattle.screen.specs.declared.Place.{Place}
+use Rattle.text.specs.declared.Position.{Position}
 use Rattle.vertical.specs.declared.Sticky.{Sticky}
 use Rattle.vertical.specs.Moves.{wantedCol}
 use Rattle.screen.specs.Screen.{jumpedTo, outOf, jumped, screenFrom, landedAt, screenTarget}
@@ -59,7 +59,7 @@ module _ (t : List ℕ) (l : Line) (col row : ℕ) where
       (rw (ne-eqb row (l .row) e) (λ i. record { row = r i; col = k i }), line-there t m row q h, omega (arith, w))
 
 -- the jump, by what the calls find
-module _ (t folds : List ℕ) (down : Bool) (p : Place) {rows content : ℕ} {s : Span} (all : rows ≡ rowCount t) (con : content ≡ contentRows t)
+module _ (t folds : List ℕ) (down : Bool) (p : Position) {rows content : ℕ} {s : Span} (all : rows ≡ rowCount t) (con : content ≡ contentRows t)
     (e : s ≡ closedFoldAt folds rows content (p .row)) where
   read : s ≡ closedFoldAt folds (rowCount t) (contentRows t) (p .row)
   read = e ∙ ap (λ (n : ℕ). closedFoldAt folds n content (p .row)) all ∙ ap (λ (n : ℕ). closedFoldAt folds (rowCount t) n (p .row)) con
@@ -72,7 +72,7 @@ module _ (t folds : List ℕ) (down : Bool) (p : Place) {rows content : ℕ} {s 
 
 -- the target, by what the calls find
 pub target-made :
-    (w : ℕ → ℕ) (t folds : List ℕ) (tabstop : ℕ) (lay : List ℕ → List ℕ) (down : Bool) (count row col : ℕ) (sticky : Sticky) {want n : ℕ} {j p : Place} →
+    (w : ℕ → ℕ) (t folds : List ℕ) (tabstop : ℕ) (lay : List ℕ → List ℕ) (down : Bool) (count row col : ℕ) (sticky : Sticky) {want n : ℕ} {j p : Position} →
     want ≡ wantedCol w t tabstop row col sticky → n ≡ max count 1 → j ≡ jumped t folds down (record { row = row; col = col }) →
     p ≡ screenFrom t folds lay down n j →
     landedAt want p ≡ screenTarget w t folds tabstop lay down count row col sticky

@@ -9,7 +9,7 @@ use Rattle.text.specs.Offsets.{Stands, lineAt}
 use Rattle.text.specs.declared.Line.{Line}
 use Rattle.folds.specs.declared.Visible.the-variants.{Row, NoRow}
 use Rattle.text.proofs.Stands.{line-there}
-use Rattle.screen.specs.declared.Place.{Place}
+use Rattle.text.specs.declared.Position.{Position}
 use Rattle.screen.specs.declared.Spot.{Spot}
 use Rattle.lists.specs.Rounds.{rounds}
 use Rattle.visible_rows.specs.Visible.{toward}
@@ -20,7 +20,7 @@ use Rattle.screen.specs.Walks.{placeAt, IsSpot, Leads}
 use Rattle.screen.proofs.ScreenRounds.{rounds-in, crosses, stops}
 
 -- the place at the spot that n rounds lead to is where the rounds lead
-pub leads-place : (t folds : List ℕ) (lay : List ℕ → List ℕ) (down : Bool) (offset n : ℕ) (s r : Spot) {p : Place} →
+pub leads-place : (t folds : List ℕ) (lay : List ℕ → List ℕ) (down : Bool) (offset n : ℕ) (s r : Spot) {p : Position} →
     p ≡ placeAt t lay down offset (r .row) (r .ahead) → Leads t folds lay down n s r →
     p ≡ rounds (stepScreen t folds lay down offset) n (placeAt t lay down offset (s .row) (s .ahead))
 leads-place t folds lay down offset n s r e to = e ∙ sym (to offset)

@@ -12,20 +12,20 @@ use Rattle.folds.specs.Folds.{foldRefusal}
 use Rattle.screen.specs.declared.Jump.{Jump}
 use Rattle.screen.specs.declared.Seat.{Seat}
 use Rattle.screen.specs.declared.Spot.{Spot}
-use Rattle.screen.specs.declared.Place.{Place}
+use Rattle.text.specs.declared.Position.{Position}
 use Rattle.lists.specs.Rounds.{rounds}
 use Rattle.screen_segments.specs.Parts.{segmentCount, aheadOf}
 use Rattle.screen.specs.Screen.{onSegment, seatOf, stepScreen}
 
 -- the place in a row with so many segments ahead, and how many a place has
-abbrev pub placeAt : List ℕ → (List ℕ → List ℕ) → Bool → ℕ → ℕ → ℕ → Place
+abbrev pub placeAt : List ℕ → (List ℕ → List ℕ) → Bool → ℕ → ℕ → ℕ → Position
 placeAt t lay down offset row a = onSegment t lay offset row (aheadOf down (segmentCount (lay (rowAt t row))) a)
 
-abbrev pub aheadAt : List ℕ → (List ℕ → List ℕ) → Bool → Place → ℕ
+abbrev pub aheadAt : List ℕ → (List ℕ → List ℕ) → Bool → Position → ℕ
 aheadAt t lay down p = aheadOf down (segmentCount (lay (rowAt t (p .row)))) (seatOf t lay p)
 
 -- that, and the character offset of a place in its segment
-abbrev pub seatAt : List ℕ → (List ℕ → List ℕ) → Bool → Place → Seat
+abbrev pub seatAt : List ℕ → (List ℕ → List ℕ) → Bool → Position → Seat
 seatAt t lay down p = record { ahead = aheadAt t lay down p; offset = p .col - getD (lay (rowAt t (p .row))) (2 * seatOf t lay p) 0 }
 
 -- what the checks have shown of all that a screen walk takes, with the tables that it is lent
@@ -47,5 +47,5 @@ Leads t folds lay down n s r =
     (offset : ℕ) → rounds (stepScreen t folds lay down offset) n (placeAt t lay down offset (s .row) (s .ahead)) ≡ placeAt t lay down offset (r .row) (r .ahead)
 
 -- a place with its row's start
-abbrev pub JumpedTo : List ℕ → Place → Jump → Type 0
+abbrev pub JumpedTo : List ℕ → Position → Jump → Type 0
 JumpedTo t p r = (record { row = r .row; col = r .col } ≡ p) × Stands t (r .row) (r .start) (r .start) × (r .col ≤ 1048576)

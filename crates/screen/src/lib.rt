@@ -5,12 +5,6 @@ mod out_of_folds;
 mod walks;
 pub mod wrapped;
 
-// A row and a column in it.
-pub struct Place {
-    pub row: usize,
-    pub col: usize,
-}
-
 // A place under wrap: its row with the row's start, and how many segments lie ahead of it in the
 // row, down or up.
 pub struct Spot {

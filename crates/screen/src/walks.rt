@@ -1,11 +1,11 @@
 // `gj` and `gk` under wrap: the rounds of `move_screen_vertical` of motions.rs. A row is walked
 // once to count its segments and once to come to the one wanted, whatever the count; no room for
 // segments is needed.
-use crate::Place;
 use crate::Seat;
 use crate::Spot;
 use folds::Visible;
 use text::Line;
+use text::Position;
 use text::minus;
 use visible_rows::rows;
 ghost use mathlib.Core.Path.{_≡_};
@@ -86,7 +86,7 @@ fn land(
     down: bool,
     s: Spot,
     offset: usize,
-) -> Place
+) -> Position
     requires { ⌜ Tables (now zeros) (now doubles) (now white) × (0 < width) ×
         (length (now t) ≤ 1048576) × (offset ≤ 1048576) ⌝ }
     requires { ⌜ IsSpot (now t) (layOf (widthBy (now zeros) (now doubles)) word width) s ⌝ }
@@ -103,7 +103,7 @@ fn land(
     let count = screen_segments::segment_count(zeros, doubles, white, row, width, word);
     let index = screen_segments::ahead_of(down, count, s.ahead);
     let part = screen_segments::find_segment(zeros, doubles, white, row, width, word, n, index);
-    Place {
+    Position {
         row: s.row,
         col: screen_segments::clamp_to_segment(part.start, part.end, offset, n),
     }
@@ -123,7 +123,7 @@ fn glide(
     from: Spot,
     offset: usize,
     n: usize,
-) -> Place
+) -> Position
     requires { ⌜ Ready (now zeros) (now doubles) (now white) (now t) (now folds) rows width ×
         (offset ≤ 1048576) ⌝ }
     requires { ⌜ IsSpot (now t) (layOf (widthBy (now zeros) (now doubles)) word width) from ⌝ }
@@ -192,7 +192,7 @@ pub fn screen_from(
     l: Line,
     col: usize,
     n: usize,
-) -> Place
+) -> Position
     requires { ⌜ Ready (now zeros) (now doubles) (now white) (now t) (now folds) rows width ×
         (0 < n) ⌝ }
     requires { ⌜ (col ≤ 1048576) × IsLine (now t) l ⌝ }
@@ -237,7 +237,7 @@ pub fn screen_from(
             s.offset,
             n,
         ),
-        Visible::NoRow => Place {
+        Visible::NoRow => Position {
             row: l.row,
             col: col,
         },

@@ -8,11 +8,11 @@ use native.Mathlib.Omega.{arith}
 use lib.Dec.{ltb}
 use lib.ListN.{length}
 use borrow.Author.Tests.{ltb-true}
-use Rattle.text.specs.Text.{rowCount, rowLen}
+use Rattle.text.specs.Text.{rowCount, rowLen, position}
 use Rattle.text.proofs.Parts.{count-le, row-fits}
-use Rattle.positions.specs.declared.Position.{Position}
+use Rattle.text.specs.declared.Position.{Position}
 use Rattle.positions.specs.declared.Entry.{Entry}
-use Rattle.positions.specs.Positions.{position, Accepted, Inside}
+use Rattle.positions.specs.Positions.{Accepted, Inside}
 use Rattle.steps.specs.Steps.{spaceFwd, backspaceBack}
 
 -- an accepted position, and the numbers of any in its text

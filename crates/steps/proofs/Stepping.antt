@@ -7,14 +7,13 @@ use native.Mathlib.Decide.{decLt}
 use native.Mathlib.Omega.{arith}
 use lib.ListN.{length, getD}
 use borrow.Author.Tests.{lt-ltb, le-ltb}
-use Rattle.text.specs.Text.{rowCount, rowLen}
+use Rattle.text.specs.Text.{rowCount, rowLen, position}
 use Rattle.text.specs.declared.Line.{Line}
 use Rattle.text.specs.Offsets.{rowStart, Stands, lineAt}
 use Rattle.text.proofs.At.{on-char, on-nl, on-end, on-last, after-nl}
 use Rattle.text.proofs.Before.{on-first, behind-char}
 use Rattle.text.proofs.Stands.{stands-at, step-char, back-nl}
-use Rattle.positions.specs.declared.Position.{Position}
-use Rattle.positions.specs.Positions.{position}
+use Rattle.text.specs.declared.Position.{Position}
 use Rattle.lists.specs.Rounds.{rounds}
 use Rattle.steps.specs.Steps.{spaceFwd, backspaceBack}
 use Rattle.lists.proofs.Rounds.{rounds-on, rounds-none, rounds-still}

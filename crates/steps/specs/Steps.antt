@@ -4,9 +4,8 @@ use Prim.Native.Nat.{ℕ, _+_, _-_, max}
 use mathlib.Core.List.{List}
 use mathlib.Core.Bool.{cond}
 use lib.Dec.{ltb}
-use Rattle.text.specs.Text.{rowCount, lastCol}
-use Rattle.positions.specs.declared.Position.{Position}
-use Rattle.positions.specs.Positions.{position}
+use Rattle.text.specs.Text.{rowCount, lastCol, position}
+use Rattle.text.specs.declared.Position.{Position}
 
 -- count 0 acts as 1
 abbrev pub times : ℕ → ℕ

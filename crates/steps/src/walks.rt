@@ -1,7 +1,7 @@
 // One character on or back, from row to row. The walks go on offsets, a step for each round, and
 // stop where the text does, whatever the count.
 use positions::Entry;
-use positions::Position;
+use text::Position;
 use text::most;
 ghost use mathlib.Core.Path.{_≡_};
 ghost use Rattle.positions.specs.Positions.{Accepted};

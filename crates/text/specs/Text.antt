@@ -7,8 +7,13 @@ use lib.ListN.{length, getD}
 use lib.Dec.{eqb, ltb}
 unfoldable pub use Rattle.lists.specs.Lists.{onFirst}
 use Rattle.text_check.specs.Accept.{textRefusal}
+use Rattle.text.specs.declared.Position.{Position}
 use Rattle.text.specs.declared.Counted.{Counted}
 use Rattle.text.specs.declared.Counted.the-variants.{Rows, Refused}
+
+-- a position by its row and column
+abbrev pub position : ℕ → ℕ → Position
+position r c = record { row = r; col = c }
 
 -- the rows of a text: the empty text has one empty row, and each U+000A ends a row and begins the next
 unfoldable pub rows : List ℕ → List (List ℕ)

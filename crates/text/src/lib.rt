@@ -13,6 +13,12 @@ pub struct Line {
     pub start: usize,
 }
 
+// A row, and a column in it, which may be the row's character count.
+pub struct Position {
+    pub row: usize,
+    pub col: usize,
+}
+
 // The rows of a text with content, or the number that the text is refused with.
 pub enum Counted {
     Rows(u32),

@@ -12,7 +12,7 @@ use Rattle.margins.specs.Margins.{indentOf, solidOf}
 use Rattle.row_walks.specs.Paragraphs.{paragraphs}
 use Rattle.margins.proofs.Edging.{solid-le}
 use Rattle.row_walks.proofs.Leading.{paragraphs-in}
-use Rattle.positions.specs.declared.Position.{Position}
+use Rattle.text.specs.declared.Position.{Position}
 use Rattle.positions.specs.Positions.{inRow, Inside}
 use Rattle.steps.specs.Steps.{spaceFwd, backspaceBack}
 use Rattle.steps.proofs.Staying.{either-in, position-in, space-in, backspace-in}

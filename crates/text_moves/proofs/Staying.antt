@@ -12,7 +12,7 @@ use Rattle.row_walks.specs.Sections.{begins, sectionUp, sectionDown}
 use Rattle.row_walks.specs.Paragraphs.{LeadsIn}
 use Rattle.row_walks.specs.declared.Paragraph.{Paragraph}
 use Rattle.row_walks.specs.declared.Paragraph.the-variants.{At, Nothing}
-use Rattle.positions.specs.declared.Position.{Position}
+use Rattle.text.specs.declared.Position.{Position}
 use Rattle.positions.specs.Positions.{Inside}
 use Rattle.steps.proofs.Staying.{position-in}
 use Rattle.text_moves.specs.Rows.{atRow}

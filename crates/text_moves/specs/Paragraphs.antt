@@ -4,12 +4,11 @@ use Prim.Native.Nat.{ℕ, _-_}
 use mathlib.Core.List.{List}
 use mathlib.Core.Bool.{true, false, cond}
 use lib.Dec.{eqb}
-use Rattle.text.specs.Text.{lastCol, lastRow}
+use Rattle.text.specs.Text.{lastCol, lastRow, position}
 use Rattle.row_walks.specs.Paragraphs.{paragraphs}
 use Rattle.row_walks.specs.declared.Paragraph.{Paragraph}
 use Rattle.row_walks.specs.declared.Paragraph.the-variants.{At, Nothing}
-use Rattle.positions.specs.declared.Position.{Position}
-use Rattle.positions.specs.Positions.{position}
+use Rattle.text.specs.declared.Position.{Position}
 use Rattle.steps.specs.Steps.{times}
 
 -- up to column 0 of the row, where the rounds lead to one

@@ -5,9 +5,8 @@ use mathlib.Core.List.{List}
 use mathlib.Core.Bool.{cond, _&&_}
 use lib.Dec.{eqb, ltb, leb}
 use Rattle.margins.specs.Margins.{firstNonBlank}
-use Rattle.text.specs.Text.{lastRow}
-use Rattle.positions.specs.declared.Position.{Position}
-use Rattle.positions.specs.Positions.{position}
+use Rattle.text.specs.Text.{lastRow, position}
+use Rattle.text.specs.declared.Position.{Position}
 use Rattle.steps.specs.Steps.{times}
 
 -- the first character of row r that is no blank

@@ -2,10 +2,9 @@
 -- Definitions only. Assumes nothing.
 use Prim.Native.Nat.{ℕ, _-_}
 use mathlib.Core.List.{List}
-use Rattle.text.specs.Text.{lastRow}
+use Rattle.text.specs.Text.{lastRow, position}
 use Rattle.row_walks.specs.Sections.{sectionUp, sectionDown}
-use Rattle.positions.specs.declared.Position.{Position}
-use Rattle.positions.specs.Positions.{position}
+use Rattle.text.specs.declared.Position.{Position}
 use Rattle.steps.specs.Steps.{times}
 
 -- both lead to column 0, and the way down stops at the last row with content

@@ -5,7 +5,7 @@ use mathlib.Core.List.{List}
 use Rattle.lists.specs.Rounds.{rounds}
 use Rattle.text.specs.Text.{rowLen, lastCol}
 use Rattle.margins.specs.Margins.{firstNonBlank, lastNonBlank}
-use Rattle.positions.specs.declared.Position.{Position}
+use Rattle.text.specs.declared.Position.{Position}
 use Rattle.positions.specs.Positions.{inRow}
 use Rattle.steps.specs.Steps.{times, spaceFwd, backspaceBack}
 use Rattle.text_moves.specs.declared.Way.{Way}

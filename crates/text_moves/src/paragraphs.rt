@@ -1,9 +1,9 @@
 // By paragraphs: the moves of `{` and `}`.
 use positions::Entry;
-use positions::Position;
 use row_walks::Paragraph;
 use row_walks::paragraphs::find_paragraph;
 use text::Line;
+use text::Position;
 use text::minus;
 use text::most;
 ghost use mathlib.Core.Path.{_≡_};

@@ -1,8 +1,8 @@
 // The first character of a row that is no blank: the moves of `+`, `-`, `_`, `gg` and `G`.
 use margins::first_non_blank;
 use positions::Entry;
-use positions::Position;
 use text::Line;
+use text::Position;
 use text::least;
 use text::minus;
 use text::most;

@@ -1,9 +1,9 @@
 // Column 0 of rows that begin with a mark: the moves of `[[`, `]]`, `[]` and `][`.
 use positions::Entry;
-use positions::Position;
 use row_walks::sections::section_down;
 use row_walks::sections::section_up;
 use text::Line;
+use text::Position;
 use text::most;
 ghost use mathlib.Core.Path.{_≡_};
 ghost use Prim.Native.Nat.{_<_};

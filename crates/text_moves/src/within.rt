@@ -1,6 +1,6 @@
 // Places in the position's own row.
-use positions::Position;
 use text::Line;
+use text::Position;
 use text::least;
 use text::minus;
 use text::offsets::row_len;

@@ -3,7 +3,8 @@ use mathlib.Core.List.{List}
 use mathlib.Core.Bool.{Bool, true, false, cond}
 use Prim.Native.Nat.{ℕ}
 use lib.Dec.{eqb}
-use Rattle.word_kinds.specs.Places.{Place, Went, To, Nowhere, space, end, kindAt, cls, onEmptyRow, stepForward, inc, dec, endOfBuffer, further}
+use Rattle.text.specs.declared.Position.{Position}
+use Rattle.word_kinds.specs.Places.{Went, To, Nowhere, space, end, kindAt, cls, onEmptyRow, stepForward, inc, dec, endOfBuffer, further}
 use Rattle.word_loops.specs.Walks.{Halt, Onto, Stuck, skip, leave, run, back}
 use Rattle.word_loops.proofs.Within.{In, WentTo, Halts, end-in, forward-in, inc-in, dec-in, further-in, skip-in, back-in, leave-in, run-in}
 use Rattle.word_edges.specs.Words
@@ -23,14 +24,14 @@ module _ (t : List ℕ) where
     space-in (Onto q) w i j = or-end-in (skip t kind space space q) (skip-in t kind space space q i)
     space-in (Stuck q) w i j = j
 
-    from-end-in : (big : Bool) (p : Place) → In t p → WentTo t (Words.fromEnd t kind big p)
+    from-end-in : (big : Bool) (p : Position) → In t p → WentTo t (Words.fromEnd t kind big p)
     from-end-in true p i = space-in (skip t kind end end p) Nowhere (skip-in t kind end end p i) tt
     from-end-in false p i = or-end-in (skip t kind space space p) (skip-in t kind space space p i)
 
-    front-in : (p : Place) → In t p → WentTo t (Words.frontHere t kind p)
+    front-in : (p : Position) → In t p → WentTo t (Words.frontHere t kind p)
     front-in p i = go (back t kind (cls t kind p) p) (back-in t kind (cls t kind p) p i)
       where
-        pick : (w : Went) (q : Place) → WentTo t w → In t q → In t (further w (λ n. n) q)
+        pick : (w : Went) (q : Position) → WentTo t w → In t q → In t (further w (λ n. n) q)
         pick (To n) q j k = j
         pick Nowhere q j k = k
 
@@ -54,7 +55,7 @@ module _ (t : List ℕ) where
     run-from-in (Onto q) i = halted-in (run t kind (kindAt t kind q) q) (run-in t kind (kindAt t kind q) q i)
     run-from-in (Stuck q) i = i
 
-    module _ (p : Place) (i : In t p) where
+    module _ (p : Position) (i : In t p) where
       pub next-start-in : (big : Bool) → WentTo t (Words.nextWordStart t kind big p)
       unfolding Words.nextWordStart
       next-start-in big = go (eqb (kindAt t kind p) end)
@@ -77,6 +78,6 @@ module _ (t : List ℕ) where
       unfolding Words.prevWordEnd
       prev-end-in = further-in t (dec t p) _ (dec-in t p i) (λ q j. go (eqb (cls t kind p) space) q j)
         where
-          go : (b : Bool) (q : Place) → In t q → WentTo t (cond b (Words.halted (back t kind space q)) (Words.endFrom t kind (back t kind (cls t kind p) q)))
+          go : (b : Bool) (q : Position) → In t q → WentTo t (cond b (Words.halted (back t kind space q)) (Words.endFrom t kind (back t kind (cls t kind p) q)))
           go true q j = halted-in (back t kind space q) (back-in t kind space q j)
           go false q j = end-from-in (back t kind (cls t kind p) q) (back-in t kind (cls t kind p) q j)

@@ -4,7 +4,9 @@ use Prim.Native.Nat.{ℕ, _+_}
 use mathlib.Core.List.{List}
 use mathlib.Core.Bool.{Bool, cond, _&&_, not}
 use lib.Dec.{eqb}
-use Rattle.word_kinds.specs.Places.{Place, place, Went, To, Nowhere, space, end, kindAt, cls, onEmptyRow, stepForward, inc, dec, endOfBuffer, further}
+use Rattle.text.specs.Text.{position}
+use Rattle.text.specs.declared.Position.{Position}
+use Rattle.word_kinds.specs.Places.{Went, To, Nowhere, space, end, kindAt, cls, onEmptyRow, stepForward, inc, dec, endOfBuffer, further}
 use Rattle.word_loops.specs.Walks.{Halt, Onto, Stuck, skip, leave, run, back}
 
 -- the place where a loop ended, the end of the buffer for one that was stuck
@@ -18,10 +20,10 @@ thenSpace t kind (Onto q) stuck = orEnd t (skip t kind space space q)
 thenSpace t kind (Stuck q) stuck = stuck
 
 -- from the first place behind a row's end: for the big words over all empty rows, then over white space
-abbrev pub fromEnd : List ℕ → (ℕ → ℕ) → Bool → Place → Went
+abbrev pub fromEnd : List ℕ → (ℕ → ℕ) → Bool → Position → Went
 fromEnd t kind big q = cond big (thenSpace t kind (skip t kind end end q) Nowhere) (orEnd t (skip t kind space space q))
 
-unfoldable pub nextWordStart : List ℕ → (ℕ → ℕ) → Bool → Place → Went
+unfoldable pub nextWordStart : List ℕ → (ℕ → ℕ) → Bool → Position → Went
 nextWordStart t kind big p =
     cond (eqb (kindAt t kind p) end) (further (stepForward t p) (fromEnd t kind big) Nowhere)
     (thenSpace t kind (leave t kind (kindAt t kind p) p) (To (endOfBuffer t)))
@@ -32,14 +34,14 @@ frontOf t (Onto q) = To (further (inc t q) (λ n. n) q)
 frontOf t (Stuck q) = To q
 
 -- the front of the word that has the place; of the word that a walk back over white space came to, where an empty row is one
-abbrev pub frontHere : List ℕ → (ℕ → ℕ) → Place → Went
+abbrev pub frontHere : List ℕ → (ℕ → ℕ) → Position → Went
 frontHere t kind q = frontOf t (back t kind (cls t kind q) q)
 
 abbrev pub frontFrom : List ℕ → (ℕ → ℕ) → Halt → Went
 frontFrom t kind (Onto q) = cond (onEmptyRow t q) (To q) (frontHere t kind q)
 frontFrom t kind (Stuck q) = To q
 
-unfoldable pub prevWordStart : List ℕ → (ℕ → ℕ) → Place → Went
+unfoldable pub prevWordStart : List ℕ → (ℕ → ℕ) → Position → Went
 prevWordStart t kind p = further (dec t p) (λ q. frontFrom t kind (back t kind space q)) Nowhere
 
 -- the place where a loop ended
@@ -52,20 +54,20 @@ abbrev pub endFrom : List ℕ → (ℕ → ℕ) → Halt → Went
 endFrom t kind (Onto q) = halted (back t kind space q)
 endFrom t kind (Stuck q) = To q
 
-unfoldable pub prevWordEnd : List ℕ → (ℕ → ℕ) → Place → Went
+unfoldable pub prevWordEnd : List ℕ → (ℕ → ℕ) → Position → Went
 prevWordEnd t kind p =
     further (dec t p) (λ q. cond (eqb (cls t kind p) space) (halted (back t kind space q)) (endFrom t kind (back t kind (cls t kind p) q))) Nowhere
 
 -- the end of the word that has the place, and of the one that a walk over white space came to
-abbrev pub runHere : List ℕ → (ℕ → ℕ) → Place → Went
+abbrev pub runHere : List ℕ → (ℕ → ℕ) → Position → Went
 runHere t kind q = halted (run t kind (kindAt t kind q) q)
 
 abbrev pub runFrom : List ℕ → (ℕ → ℕ) → Halt → Went
 runFrom t kind (Onto q) = runHere t kind q
 runFrom t kind (Stuck q) = To q
 
-unfoldable pub nextWordEnd : List ℕ → (ℕ → ℕ) → Place → Went
+unfoldable pub nextWordEnd : List ℕ → (ℕ → ℕ) → Position → Went
 nextWordEnd t kind p = further (stepForward t p) (λ q. runFrom t kind (skip t kind space end q)) Nowhere
 
-unfoldable pub atWordEnd : List ℕ → (ℕ → ℕ) → Place → Bool
-atWordEnd t kind p = not (eqb (cls t kind p) space) && not (eqb (cls t kind (place (p .row) (p .col + 1))) (cls t kind p))
+unfoldable pub atWordEnd : List ℕ → (ℕ → ℕ) → Position → Bool
+atWordEnd t kind p = not (eqb (cls t kind p) space) && not (eqb (cls t kind (position (p .row) (p .col + 1))) (cls t kind p))

@@ -9,12 +9,12 @@ use native.Mathlib.Omega.{arith}
 use lib.Dec.{eqb}
 use lib.ListN.{length, getD}
 use borrow.Author.Tests.{eq-eqb, ne-eqb, eqb-true, eqb-false, lt-ltb, le-ltb}
-use Rattle.text.specs.Text.{rowLen}
+use Rattle.text.specs.Text.{rowLen, position}
 use Rattle.text.specs.Offsets.{rowStart, At}
 use Rattle.text.proofs.At.{on-char, after-char, on-nl, on-end, on-last, point-at}
 use Rattle.text.proofs.Stands.{stands-at}
 use Rattle.word_kinds.specs.declared.Spot.{Spot}
-use Rattle.word_kinds.specs.Places.{place, To, Nowhere, kindAt, cls, onEmptyRow, nextRow, stepForward, inc}
+use Rattle.word_kinds.specs.Places.{To, Nowhere, kindAt, cls, onEmptyRow, nextRow, stepForward, inc}
 use Rattle.word_kinds.specs.Spots.{placeOf, IsSpot}
 use Rattle.word_kinds.proofs.Onto.{spot-at, col-at, next-none}
 
@@ -73,7 +73,7 @@ module _ (t : List ℕ) (p : Spot) (w : IsSpot t p) where
     pub char-spot : IsSpot t (record { row = p .row; at = p .at + 1 })
     char-spot = spot-at next
 
-    pub char-col : placeOf t (record { row = p .row; at = p .at + 1 }) ≡ place (p .row) (col + 1)
+    pub char-col : placeOf t (record { row = p .row; at = p .at + 1 }) ≡ position (p .row) (col + 1)
     char-col = col-at next
 
     pub char-kind : (kind : ℕ → ℕ) → kind (getD t (p .at) 0) ≡ kindAt t kind (placeOf t p)

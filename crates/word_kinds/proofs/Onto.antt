@@ -6,21 +6,22 @@ use Prim.Native.Nat.{ℕ, _+_, _-_, _≤_, _<_}
 use native.Mathlib.Omega.{arith}
 use lib.ListN.{length}
 use borrow.Author.Tests.{lt-ltb, le-ltb}
-use Rattle.text.specs.Text.{rowCount, contentRows}
+use Rattle.text.specs.Text.{rowCount, contentRows, position}
 use Rattle.text.specs.Offsets.{rowStart, At}
+use Rattle.text.specs.declared.Position.{Position}
 use Rattle.text.proofs.At.{after-nl}
 use Rattle.text.proofs.Content.{content-near, content-yes, content-no}
 use Rattle.text.proofs.Stands.{stands-at, at-stands}
 use Rattle.word_kinds.specs.declared.Spot.{Spot}
-use Rattle.word_kinds.specs.Places.{Place, place, To, Nowhere, nextRow}
+use Rattle.word_kinds.specs.Places.{To, Nowhere, nextRow}
 use Rattle.word_kinds.specs.Spots.{placeOf, IsSpot, Ends}
 
 -- a place of the text is a spot of it
 pub spot-at : {t : List ℕ} {r c at : ℕ} → At t r c at → IsSpot t (record { row = r; at = at })
 spot-at a = at-stands a _ refl
 
-pub col-at : {t : List ℕ} {r c at : ℕ} → At t r c at → placeOf t (record { row = r; at = at }) ≡ place r c
-col-at {r = r} a = ap (place r) (omega (arith, a .offset))
+pub col-at : {t : List ℕ} {r c at : ℕ} → At t r c at → placeOf t (record { row = r; at = at }) ≡ position r c
+col-at {r = r} a = ap (position r) (omega (arith, a .offset))
 
 -- where there is no next row with content
 pub next-none : (t : List ℕ) (r : ℕ) → r + 1 ≡ rowCount t → Nowhere ≡ nextRow t r
@@ -46,7 +47,7 @@ module _ (t : List ℕ) (r end : ℕ) (w : Ends t r end) where
 -- a place has one spot, so that what is said of the place of a spot of the text says which spot it is
 pub one-spot : (t : List ℕ) (p q : Spot) → IsSpot t p → IsSpot t q → placeOf t p ≡ placeOf t q → p ≡ q
 one-spot t p q i j e =
-    let r : p .row ≡ q .row = ap (λ (x : Place). x .row) e in
-    let c : p .at - rowStart t (p .row) ≡ q .at - rowStart t (q .row) = ap (λ (x : Place). x .col) e in
+    let r : p .row ≡ q .row = ap (λ (x : Position). x .row) e in
+    let c : p .at - rowStart t (p .row) ≡ q .at - rowStart t (q .row) = ap (λ (x : Position). x .col) e in
     let a : p .at ≡ q .at = omega (arith, c, ap (rowStart t) r, i .from, j .from) in
     λ k. record { row = r k; at = a k }

@@ -7,18 +7,12 @@ use mathlib.Core.Bool.{Bool, cond, _&&_, _||_}
 use lib.ListN.{getD}
 use lib.Dec.{eqb, ltb}
 use Rattle.chars.specs.White.{isWhite}
-use Rattle.text.specs.Text.{rowAt, rowLen, contentRows}
-
-pub record Place : Type 0 where
-  pub row : ℕ
-  pub col : ℕ
-
-abbrev pub place : ℕ → ℕ → Place
-place r c = record { row = r; col = c }
+use Rattle.text.specs.Text.{rowAt, rowLen, contentRows, position}
+use Rattle.text.specs.declared.Position.{Position}
 
 -- the Rust's `Option<Position>`
 pub data Went : Type 0 where
-  To : Place → Went
+  To : Position → Went
   Nowhere : Went
 
 -- the kinds: white space 0, word 1, punctuation 2 (`CharKind`), and 3 the row's end, where the Rust's `char_at` has no character
@@ -33,41 +27,41 @@ unfoldable pub kindOf : (ℕ → Bool) → Bool → ℕ → ℕ
 kindOf word big x = cond (isWhite x) space (cond (big || word x) 1 2)
 
 -- the kind of the character at a place
-unfoldable pub kindAt : List ℕ → (ℕ → ℕ) → Place → ℕ
+unfoldable pub kindAt : List ℕ → (ℕ → ℕ) → Position → ℕ
 kindAt t kind p = cond (ltb (p .col) (rowLen t (p .row))) (kind (getD (rowAt t (p .row)) (p .col) 0)) end
 
 -- `cls`: the row's end counts as white space
 abbrev pub soft : ℕ → ℕ
 soft k = cond (eqb k end) space k
 
-abbrev pub cls : List ℕ → (ℕ → ℕ) → Place → ℕ
+abbrev pub cls : List ℕ → (ℕ → ℕ) → Position → ℕ
 cls t kind p = soft (kindAt t kind p)
 
 -- `col == 0 && line_empty(row)`
-unfoldable pub onEmptyRow : List ℕ → Place → Bool
+unfoldable pub onEmptyRow : List ℕ → Position → Bool
 onEmptyRow t p = eqb (p .col) 0 && eqb (rowLen t (p .row)) 0
 
 -- the first place of the next row with content
 unfoldable pub nextRow : List ℕ → ℕ → Went
-nextRow t r = cond (ltb (r + 1) (contentRows t)) (To (place (r + 1) 0)) Nowhere
+nextRow t r = cond (ltb (r + 1) (contentRows t)) (To (position (r + 1) 0)) Nowhere
 
 -- `step_forward`, over the row's end; `inc` and `dec`, onto it
-unfoldable pub stepForward : List ℕ → Place → Went
-stepForward t p = cond (ltb (p .col + 1) (rowLen t (p .row))) (To (place (p .row) (p .col + 1))) (nextRow t (p .row))
+unfoldable pub stepForward : List ℕ → Position → Went
+stepForward t p = cond (ltb (p .col + 1) (rowLen t (p .row))) (To (position (p .row) (p .col + 1))) (nextRow t (p .row))
 
-unfoldable pub inc : List ℕ → Place → Went
-inc t p = cond (ltb (p .col) (rowLen t (p .row))) (To (place (p .row) (p .col + 1))) (nextRow t (p .row))
+unfoldable pub inc : List ℕ → Position → Went
+inc t p = cond (ltb (p .col) (rowLen t (p .row))) (To (position (p .row) (p .col + 1))) (nextRow t (p .row))
 
-unfoldable pub dec : List ℕ → Place → Went
+unfoldable pub dec : List ℕ → Position → Went
 dec t p =
-    cond (ltb 0 (p .col)) (To (place (p .row) (p .col - 1)))
-    (cond (ltb 0 (p .row)) (To (place (p .row - 1) (rowLen t (p .row - 1)))) Nowhere)
+    cond (ltb 0 (p .col)) (To (position (p .row) (p .col - 1)))
+    (cond (ltb 0 (p .row)) (To (position (p .row - 1) (rowLen t (p .row - 1)))) Nowhere)
 
 -- `end_of_buffer`: the end of the last row with content
-unfoldable pub endOfBuffer : List ℕ → Place
-endOfBuffer t = place (contentRows t - 1) (rowLen t (contentRows t - 1))
+unfoldable pub endOfBuffer : List ℕ → Position
+endOfBuffer t = position (contentRows t - 1) (rowLen t (contentRows t - 1))
 
 -- on from a step, or else
-abbrev pub further : {A : Type 0} → Went → (Place → A) → A → A
+abbrev pub further : {A : Type 0} → Went → (Position → A) → A → A
 further (To q) f z = f q
 further Nowhere f z = z

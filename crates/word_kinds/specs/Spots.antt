@@ -5,13 +5,14 @@ use mathlib.Core.Path.{_≡_}
 use mathlib.Core.List.{List}
 use lib.ListN.{length, getD}
 use Rattle.text.specs.Offsets.{rowStart, Stands}
-use Rattle.word_kinds.specs.Places.{Place, Went, To, Nowhere}
+use Rattle.text.specs.declared.Position.{Position}
+use Rattle.word_kinds.specs.Places.{Went, To, Nowhere}
 use Rattle.word_kinds.specs.declared.Spot.{Spot}
 use Rattle.word_kinds.specs.declared.Step.{Step}
 use Rattle.word_kinds.specs.declared.Step.the-variants.{At, NoStep}
 
 -- the place of a spot
-abbrev pub placeOf : List ℕ → Spot → Place
+abbrev pub placeOf : List ℕ → Spot → Position
 placeOf t p = record { row = p .row; col = p .at - rowStart t (p .row) }
 
 abbrev pub IsSpot : List ℕ → Spot → Type 0

@@ -8,6 +8,7 @@ use native.Mathlib.Numerals.{add-one}
 use native.Mathlib.Nat.{add-zero}
 use native.Mathlib.Decide.{ℕ-discrete}
 use Rattle.text.specs.Text.{rowCount, contentRows}
+use Rattle.text.specs.declared.Position.{Position}
 use Rattle.folds.specs.Folds.{anyFold, badFold, foldRefusal, hidden, visibleFrom, prevVisible, nextVisible, lastBefore, closedFrom, closedFoldAt}
 use Rattle.folds.specs.Cover.{coverOf}
 use Rattle.folds.specs.declared.Span.{Span}
@@ -17,7 +18,6 @@ use Rattle.folds.specs.declared.Visible.the-variants.{Row, NoRow}
 use Rattle.text.proofs.Content.{content-near}
 use Rattle.folds.proofs.Hiding.{Covers, cover-covers}
 use Rattle.folds.proofs.Past.{folds-good, visible-within}
-use Rattle.word_kinds.specs.Places.{Place}
 use Rattle.word_rounds.specs.Rounds.{toLast, toFirst, foldAt, jumpFwd, jumpBack}
 
 -- a hidden row is a row of the text
@@ -130,7 +130,7 @@ module _ (folds : List ℕ) (rows content : ℕ) (good : anyFold (badFold rows) 
       go false d e = from (Row row) (λ x v. let z : row ≡ x = cc in rw z at d) e
 
 -- a jump from where a jump led to leads nowhere else
-module _ (t folds : List ℕ) (good : foldRefusal folds (rowCount t) ≡ 0) (p : Place) where
+module _ (t folds : List ℕ) (good : foldRefusal folds (rowCount t) ≡ 0) (p : Position) where
   own : (a b : ℕ) → foldAt t folds p ≡ Of a b →
       (closedFoldAt folds (rowCount t) (contentRows t) a ≡ Of a b) × (closedFoldAt folds (rowCount t) (contentRows t) b ≡ Of a b)
   own a b =

@@ -6,51 +6,51 @@ use mathlib.Core.Bool.{Bool, false}
 use Prim.Native.Nat.{ℕ, zero, suc, _+_, _-_, _<_, max}
 use native.Mathlib.Nat.{zero-add, suc-add}
 use native.Mathlib.Omega.{arith}
-use Rattle.word_kinds.specs.Places.{Place}
+use Rattle.text.specs.declared.Position.{Position}
 use Rattle.word_rounds.specs.Rounds.{Turn, On, Off, roundOf, after, counted, wordMotion}
 use Rattle.word_rounds.specs.declared.Motion.{Motion}
 
-module _ (round : Place → Turn) where
-  pub counted-none : (n : ℕ) (p : Place) → n ≡ 0 → counted round n p ≡ p
+module _ (round : Position → Turn) where
+  pub counted-none : (n : ℕ) (p : Position) → n ≡ 0 → counted round n p ≡ p
   unfolding counted
   counted-none n p e = rw e
 
   -- one round of several
-  pub counted-on : (n : ℕ) (p q : Place) → 0 < n → round p ≡ On q → counted round n p ≡ counted round (n - 1) q
+  pub counted-on : (n : ℕ) (p q : Position) → 0 < n → round p ≡ On q → counted round n p ≡ counted round (n - 1) q
   unfolding counted
   counted-on zero p q h e = absurd (omega arith)
   counted-on (suc n) p q h e =
       let one : suc n - 1 ≡ n = omega arith in
       rw (e, one)
 
-  pub counted-off : (n : ℕ) (p q : Place) → 0 < n → round p ≡ Off q → counted round n p ≡ q
+  pub counted-off : (n : ℕ) (p q : Position) → 0 < n → round p ≡ Off q → counted round n p ≡ q
   unfolding counted
   counted-off zero p q h e = absurd (omega arith)
   counted-off (suc n) p q h e = rw e
 
   -- a round that changes nothing ends them, whatever the count
-  pub counted-still : (n : ℕ) (p : Place) → round p ≡ On p → counted round n p ≡ p
+  pub counted-still : (n : ℕ) (p : Position) → round p ≡ On p → counted round n p ≡ p
   unfolding counted
   counted-still zero p e = refl
   counted-still (suc n) p e = rw e (counted-still n p e)
 
   -- m rounds and then n are m + n rounds, where the round after the last is the last again
-  pub counted-add : ((p q : Place) → round p ≡ Off q → round q ≡ Off q) → (m n : ℕ) (p : Place) → counted round (m + n) p ≡ counted round n (counted round m p)
+  pub counted-add : ((p q : Position) → round p ≡ Off q → round q ≡ Off q) → (m n : ℕ) (p : Position) → counted round (m + n) p ≡ counted round n (counted round m p)
   unfolding counted
   counted-add again zero n p = rw (zero-add n)
   counted-add again (suc m) n p = rw (suc-add m n) (go (round p) refl (λ q. counted-add again m n q))
     where
-      stays : (k : ℕ) (q : Place) → round q ≡ Off q → q ≡ counted round k q
+      stays : (k : ℕ) (q : Position) → round q ≡ Off q → q ≡ counted round k q
       stays zero q e = refl
       stays (suc k) q e = rw e
 
-      go : (r : Turn) → round p ≡ r → ((q : Place) → counted round (m + n) q ≡ counted round n (counted round m q)) → after r (counted round (m + n))
+      go : (r : Turn) → round p ≡ r → ((q : Position) → counted round (m + n) q ≡ counted round n (counted round m q)) → after r (counted round (m + n))
           ≡ counted round n (after r (counted round m))
       go (On q) e ih = ih q
       go (Off q) e ih = stays n q (again p q e)
 
 -- the first round, and the rest
-module _ (t folds : List ℕ) (kind : ℕ → ℕ) (big : Bool) (m : Motion) (stop : Bool) (count : ℕ) (p : Place) {q : Place} where
+module _ (t folds : List ℕ) (kind : ℕ → ℕ) (big : Bool) (m : Motion) (stop : Bool) (count : ℕ) (p : Position) {q : Position} where
   pub motion-on : (k : ℕ) → roundOf t folds kind big m stop p ≡ On q → k ≡ max count 1 - 1 → counted (roundOf t folds kind big m false) k q ≡
       wordMotion t folds kind big m stop count p
   unfolding wordMotion

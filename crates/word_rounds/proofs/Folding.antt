@@ -6,10 +6,11 @@ use mathlib.Core.Bool.{Bool, true, false, cond}
 use Prim.Native.Nat.{ℕ, _+_, _-_, _≤_, _<_}
 use native.Mathlib.Omega.{arith}
 use lib.ListN.{length}
-use Rattle.text.specs.Text.{rowCount, rowLen}
+use Rattle.text.specs.Text.{rowCount, rowLen, position}
 use Rattle.text.specs.Offsets.{rowStart, lineAt}
 use Rattle.folds.specs.Folds.{hidden, prevVisible, nextVisible, lastBefore, closedFrom, closedFoldAt}
 use Rattle.text.specs.declared.Line.{Line}
+use Rattle.text.specs.declared.Position.{Position}
 use Rattle.folds.specs.declared.Span.{Span}
 use Rattle.folds.specs.declared.Span.the-variants.{Of, NoSpan}
 use Rattle.folds.specs.declared.Visible.{Visible}
@@ -19,7 +20,6 @@ use Rattle.text.proofs.At.{at-start, at-col}
 use Rattle.text.proofs.Parts.{row-fits}
 use Rattle.folds.proofs.Past.{visible-within, prev-within}
 use Rattle.word_kinds.specs.declared.Spot.{Spot}
-use Rattle.word_kinds.specs.Places.{Place, place}
 use Rattle.word_rounds.specs.Rounds.{toLast, toFirst, foldAt, jumpFwd, jumpBack}
 use Rattle.word_kinds.specs.Spots.{placeOf, IsSpot}
 use Rattle.word_rounds.specs.Turns.{Folded}
@@ -59,7 +59,7 @@ module _ (t : List ℕ) (row : ℕ) (h : row < rowCount t) (l : Line) (e : l ≡
   begins : l .start ≡ rowStart t row
   begins = ap (λ (x : Line). x .start) e
 
-  pub row-place : (c at : ℕ) → c ≤ rowLen t row → at ≡ l .start + c → (placeOf t (record { row = row; at = at }) ≡ place row c) × IsSpot t
+  pub row-place : (c at : ℕ) → c ≤ rowLen t row → at ≡ l .start + c → (placeOf t (record { row = row; at = at }) ≡ position row c) × IsSpot t
       (record { row = row; at = at })
   row-place c at k w =
       let a = at-col (at-start t row h) c at k (omega (arith, begins)) in
@@ -86,8 +86,8 @@ module _ (t folds : List ℕ) (rows content : ℕ) (p : Spot) (w : Folded t fold
       s ∙ ap (λ (x : ℕ). closedFoldAt folds x content (p .row)) (w .all-rows) ∙
       ap (λ (x : ℕ). closedFoldAt folds (rowCount t) x (p .row)) (w .content-rows)
 
-  pub jump-fwd : {q : Place} → toLast t (placeOf t p) r ≡ q → q ≡ jumpFwd t folds (placeOf t p)
+  pub jump-fwd : {q : Position} → toLast t (placeOf t p) r ≡ q → q ≡ jumpFwd t folds (placeOf t p)
   jump-fwd e = sym e ∙ ap (toLast t (placeOf t p)) fold-there
 
-  pub jump-back : {q : Place} → toFirst (placeOf t p) r ≡ q → q ≡ jumpBack t folds (placeOf t p)
+  pub jump-back : {q : Position} → toFirst (placeOf t p) r ≡ q → q ≡ jumpBack t folds (placeOf t p)
   jump-back e = sym e ∙ ap (toFirst (placeOf t p)) fold-there

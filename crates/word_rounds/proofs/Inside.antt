@@ -6,10 +6,11 @@ use mathlib.Core.Bool.{Bool, true, false, cond, _&&_}
 use Prim.Native.Nat.{ℕ, zero, suc, _-_, _<_, max}
 use native.Mathlib.Omega.{arith}
 use Rattle.text.specs.Text.{rowCount, contentRows}
+use Rattle.text.specs.declared.Position.{Position}
 use Rattle.folds.specs.declared.Span.{Span}
 use Rattle.folds.specs.declared.Span.the-variants.{Of, NoSpan}
 use Rattle.text.proofs.Content.{content-near}
-use Rattle.word_kinds.specs.Places.{Place, Went, To, Nowhere}
+use Rattle.word_kinds.specs.Places.{Went, To, Nowhere}
 use Rattle.word_loops.proofs.Within.{In, WentTo}
 use Rattle.word_rounds.specs.declared.Motion.{Motion}
 use Rattle.word_rounds.specs.declared.Motion.the-variants.{Fwd, Back, End, EndBack}
@@ -24,13 +25,13 @@ Turns t (On q) = In t q
 Turns t (Off q) = In t q
 
 module _ (t : List ℕ) where
-  turn-in : (p : Place) (w : Went) → In t p → WentTo t w → Turns t (turn p w)
+  turn-in : (p : Position) (w : Went) → In t p → WentTo t w → Turns t (turn p w)
   turn-in p (To q) i j = j
   turn-in p Nowhere i j = i
 
   -- rounds
   module _ (folds : List ℕ) where
-    module _ (p : Place) (i : In t p) where
+    module _ (p : Position) (i : In t p) where
       span : (a b : ℕ) → foldAt t folds p ≡ Of a b → (a < rowCount t) × (b < rowCount t)
       span a b e =
           let k = content-near t in
@@ -51,7 +52,7 @@ module _ (t : List ℕ) where
           go NoSpan e = i
 
     module _ (kind : ℕ → ℕ) (big : Bool) where
-      pub round-in : (m : Motion) (stop : Bool) (p : Place) → In t p → Turns t (roundOf t folds kind big m stop p)
+      pub round-in : (m : Motion) (stop : Bool) (p : Position) → In t p → Turns t (roundOf t folds kind big m stop p)
       unfolding roundOf
       round-in Fwd stop p i =
           let j = jump-fwd-in p i in
@@ -68,15 +69,15 @@ module _ (t : List ℕ) where
               turn-in (jumpFwd t folds p) (Words.nextWordEnd t kind (jumpFwd t folds p)) j (next-end-in t kind (jumpFwd t folds p) j)
       round-in EndBack stop p i = turn-in p (Words.prevWordEnd t kind p) i (prev-end-in t kind p i)
 
-      after-in : (r : Turn) (f : Place → Place) → Turns t r → ((q : Place) → In t q → In t (f q)) → In t (after r f)
+      after-in : (r : Turn) (f : Position → Position) → Turns t r → ((q : Position) → In t q → In t (f q)) → In t (after r f)
       after-in (On q) f i h = h q i
       after-in (Off q) f i h = i
 
-      counted-in : (m : Motion) (n : ℕ) (p : Place) → In t p → In t (counted (roundOf t folds kind big m false) n p)
+      counted-in : (m : Motion) (n : ℕ) (p : Position) → In t p → In t (counted (roundOf t folds kind big m false) n p)
       unfolding counted
       counted-in m zero p i = i
       counted-in m (suc n) p i = after-in (roundOf t folds kind big m false p) _ (round-in m false p i) (λ q j. counted-in m n q j)
 
-      pub word-motion-in : (m : Motion) (stop : Bool) (count : ℕ) (p : Place) → In t p → In t (wordMotion t folds kind big m stop count p)
+      pub word-motion-in : (m : Motion) (stop : Bool) (count : ℕ) (p : Position) → In t p → In t (wordMotion t folds kind big m stop count p)
       unfolding wordMotion
       word-motion-in m stop count p i = after-in (roundOf t folds kind big m stop p) _ (round-in m stop p i) (counted-in m (max count 1 - 1))

@@ -3,6 +3,7 @@ use mathlib.Core.Path.{_≡_, ap, sym, _∙_}
 use mathlib.Core.List.{List}
 use mathlib.Core.Bool.{Bool, true, false, _&&_}
 use Prim.Native.Nat.{ℕ}
+use Rattle.text.specs.declared.Position.{Position}
 use Rattle.text.proofs.Before.{same-row, same-col}
 use Rattle.text.proofs.Stands.{stands-at}
 use Rattle.word_kinds.specs.declared.Spot.{Spot}
@@ -10,7 +11,7 @@ use Rattle.word_kinds.specs.declared.Step.{Step}
 use Rattle.word_kinds.specs.declared.Step.the-variants.{At, NoStep}
 use Rattle.word_rounds.specs.declared.Round.{Round}
 use Rattle.word_rounds.specs.declared.Round.the-variants.{Next, Last}
-use Rattle.word_kinds.specs.Places.{Place, Went}
+use Rattle.word_kinds.specs.Places.{Went}
 use Rattle.word_rounds.specs.Rounds.{Turn, On, Off, turn, endTurn}
 use Rattle.word_edges.specs.Words.{nextWordEnd, atWordEnd}
 use Rattle.word_kinds.specs.declared.Setting.{Setting}
@@ -42,11 +43,11 @@ module _ (t : List ℕ) (q : Spot) {r : Round} where
   last-in e i = rw e at i
 
 -- a round from the place that the jump reached
-pub round-from : (word : Place → Went) {f j : Place} {n : Went} → f ≡ j → n ≡ word f → turn f n ≡ turn j (word j)
-round-from word {f} a b = ap (turn f) b ∙ ap (λ (x : Place). turn x (word x)) a
+pub round-from : (word : Position → Went) {f j : Position} {n : Went} → f ≡ j → n ≡ word f → turn f n ≡ turn j (word j)
+round-from word {f} a b = ap (turn f) b ∙ ap (λ (x : Position). turn x (word x)) a
 
 -- a round of `move_word_end`, held or not
-module _ (t : List ℕ) (kind : ℕ → ℕ) (stop : Bool) {f j : Place} (a : f ≡ j) where
+module _ (t : List ℕ) (kind : ℕ → ℕ) (stop : Bool) {f j : Position} (a : f ≡ j) where
   pub end-held : stop ≡ true → atWordEnd t kind f ≡ true → On f ≡ endTurn t kind stop j
   end-held s e =
       let h : On f ≡ endTurn t kind stop f = rw (s, e) in

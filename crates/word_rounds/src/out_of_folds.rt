@@ -4,8 +4,7 @@ use text::offsets;
 use word_kinds::Spot;
 ghost use mathlib.Core.Path.{_≡_};
 ghost use Prim.Native.Nat.{_-_, _<_};
-ghost use Rattle.text.specs.Text.{rowCount, rowLen};
-ghost use Rattle.word_kinds.specs.Places.{place};
+ghost use Rattle.text.specs.Text.{rowCount, rowLen, position};
 ghost use Rattle.word_rounds.specs.Rounds.{jumpFwd, jumpBack};
 ghost use Rattle.word_kinds.specs.Spots.{placeOf, IsSpot};
 ghost use Rattle.word_rounds.specs.Turns.{Folded};
@@ -15,7 +14,7 @@ fn row_last(t: &[u32], p: Spot, row: usize) -> Spot
     requires { ⌜ IsSpot (now t) p × (row < rowCount (now t)) ⌝ }
     ensures { λ r.
         ⌜ (placeOf (now (t .entry)) r ≡
-        place row (rowLen (now (t .entry)) row - 1)) ×
+        position row (rowLen (now (t .entry)) row - 1)) ×
         IsSpot (now (t .entry)) r ⌝ }
 {
     let l = offsets::line_to(t, p.row, p.at, row);
@@ -35,7 +34,7 @@ fn row_last(t: &[u32], p: Spot, row: usize) -> Spot
 // The first place of a row.
 fn row_first(t: &[u32], p: Spot, row: usize) -> Spot
     requires { ⌜ IsSpot (now t) p × (row < rowCount (now t)) ⌝ }
-    ensures { λ r. ⌜ (placeOf (now (t .entry)) r ≡ place row 0) × IsSpot (now (t .entry)) r ⌝ }
+    ensures { λ r. ⌜ (placeOf (now (t .entry)) r ≡ position row 0) × IsSpot (now (t .entry)) r ⌝ }
 {
     let l = offsets::line_to(t, p.row, p.at, row);
     Spot {

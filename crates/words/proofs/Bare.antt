@@ -6,9 +6,9 @@ use Prim.Native.Nat.{ℕ, _+_}
 use native.Mathlib.Omega.{arith}
 use lib.Dec.{ltb, leb}
 use borrow.Author.Tests.{ltb-true, leb-true}
+use Rattle.text.specs.declared.Position.{Position}
 use Rattle.folds.specs.Folds.{anyFold, foldRefusal}
 use Rattle.folds.specs.declared.Span.the-variants.{NoSpan}
-use Rattle.word_kinds.specs.Places.{Place}
 use Rattle.word_kinds.specs.declared.Spot.{Spot}
 use Rattle.word_kinds.specs.declared.Setting.{Setting}
 use Rattle.fold_stretches.specs.declared.Stretch.{Stretch}
@@ -23,7 +23,7 @@ both true b e = (refl, e)
 both false b e = (e, cc)
 
 -- at a row of the stretch there is no closed fold, so a round from it is one without folds
-module _ (t folds : List ℕ) {w : Stretch} (b : NoFold folds w) (p : Place) (h : (leb (w .lo) (p .row) && ltb (p .row) (w .hi)) ≡ true) where
+module _ (t folds : List ℕ) {w : Stretch} (b : NoFold folds w) (p : Position) (h : (leb (w .lo) (p .row) && ltb (p .row) (w .hi)) ≡ true) where
   no-span : foldAt t folds p ≡ NoSpan
   no-span =
       let k = both (leb (w .lo) (p .row)) (ltb (p .row) (w .hi)) h in

@@ -3,10 +3,11 @@ use mathlib.Core.Path.{_≡_, ap, _∙_}
 use mathlib.Core.List.{List}
 use mathlib.Core.Bool.{Bool}
 use Prim.Native.Nat.{ℕ}
+use Rattle.text.specs.declared.Position.{Position}
 use Rattle.list_tokens.specs.Tokens.{anyToken}
 use Rattle.keywords.specs.declared.KeywordSpec.{KeywordSpec}
 use Rattle.keywords.specs.Table.{kept}
-use Rattle.word_kinds.specs.Places.{Place, kindOf}
+use Rattle.word_kinds.specs.Places.{kindOf}
 use Rattle.word_kinds.specs.Lent.{kindBy}
 use Rattle.word_kinds.specs.declared.Spot.{Spot}
 use Rattle.word_rounds.specs.declared.Motion.{Motion}
@@ -25,7 +26,7 @@ module _ {t : List ℕ} {spec : KeywordSpec} {big : Bool} {rows content : ℕ} {
         spot = f .spot;
       }
 
-  pub made-motion : (folds : List ℕ) (m : Motion) (stop : Bool) (count : ℕ) (p : Place) →
+  pub made-motion : (folds : List ℕ) (m : Motion) (stop : Bool) (count : ℕ) (p : Position) →
       wordMotion t folds (kindBy (r .bounds) (r .setting)) (r .setting .big) m stop count p ≡
       wordMotion t folds (kindOf (anyToken (kept spec)) big) big m stop count p
   made-motion folds m stop count p =

@@ -9,7 +9,7 @@ use Rattle.text.specs.Text.{rowCount, rowLen, contentRows}
 use Rattle.text.specs.Offsets.{lineAt}
 use Rattle.text.specs.declared.Line.{Line}
 use Rattle.text.proofs.Stands.{line-there}
-use Rattle.positions.specs.declared.Position.{Position}
+use Rattle.text.specs.declared.Position.{Position}
 use Rattle.positions.specs.Positions.{refusalAt, foundAt}
 use Rattle.positions.proofs.Checks.{refusal-text, refusal-row, refusal-col, refusal-none, by-refused, by-none}
 use Rattle.positions.proofs.enter.Statement.{statement}

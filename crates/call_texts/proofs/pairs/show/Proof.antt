@@ -1,12 +1,25 @@
 -- `pairs::show` meets its contract, by the cases of the answer. Assumes nothing.
+use native.Mathlib.Omega.{arith}
 use borrow.Author.Needs.{needs}
 use Rattle.call_texts.specs.Partners.{partnered}
 use Rattle.call_texts.proofs.pairs.show.Statement.{statement}
 use Rattle.call_texts.proofs.pairs.show.Tie as tie
 
+row-fits : tie.Need-cast-t6
+row-fits c =
+    let at-partner = c .before .before in
+    let fits = rw (at-partner .m .given .1) at (at-partner .before .before .pre) in
+    omega (arith, fits .0)
+
+col-fits : tie.Need-cast-t7
+col-fits c =
+    let at-partner = c .before .before .before in
+    let fits = rw (at-partner .m .given .1) at (at-partner .before .before .pre) in
+    omega (arith, fits .1)
+
 returns : tie.Need-returns
 unfolding partnered
-returns c = let e = c .before .before .m .given .1 in record { numbered = rw e; out-left = rw e }
+returns c = let e = c .before .before .before .before .m .given .1 in record { numbered = rw e; out-left = rw e }
 
 returns-2 : tie.Need-returns-2
 unfolding partnered
@@ -19,4 +32,4 @@ returns-3 c = let e = c .before .m2 .given .1 in record { numbered = rw e; out-l
 pub show-spec : {M : Type 1} → statement M
 show-spec =
     tie.close
-    (tie.spec (λ c. search needs) (λ c. search needs) (λ c. search needs) returns returns-2 returns-3)
+    (tie.spec (λ c. search needs) row-fits col-fits (λ c. search needs) (λ c. search needs) returns returns-2 returns-3)

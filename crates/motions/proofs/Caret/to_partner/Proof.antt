@@ -4,13 +4,24 @@ use mathlib.Core.Path.{sym, ap, _∙_}
 use borrow.Author.Needs.{needs}
 use Rattle.motions.specs.declared.Sought.the-variants.{Found}
 use Rattle.motions.specs.Finds.{partnerTo}
+use Rattle.motions.proofs.Fitting.{key-fits}
 use Rattle.motions.proofs.Caret.to_partner.Statement.{statement}
 use Rattle.motions.proofs.Caret.to_partner.Tie as tie
+
+-- where the key goes is in the text
+placed-requires : tie.Need-placed-requires
+placed-requires c κs =
+    let at-partner = c .before in
+    let at-walk = at-partner .before .before in
+    let start = at-walk .before .before .before .before in
+    let self = start .args .self in
+    key-fits (start .args .t .now) (self .row) (self .col) _ (start .pre .0) (start .pre .1 .brief)
+    (sym (at-walk .match-bracket-from .ensures) ∙ at-partner .q .given .1)
 
 returns : tie.Need-returns
 unfolding partnerTo
 returns c =
-    let at-partner = c .before .before .before .before in
+    let at-partner = c .before .before in
     let at-walk = at-partner .before .before in
     let self = at-walk .before .before .before .before .args .self in
     ap Found (c .placed .ensures) ∙ ap (partnerTo self) (sym (at-partner .q .given .1) ∙ at-walk .match-bracket-from .ensures)
@@ -37,9 +48,7 @@ to-partner-spec =
     (λ c. search needs)
     (λ c κs. search needs)
     (λ c. search needs)
-    (λ c. search needs)
-    (λ c. search needs)
-    (λ c κs. search needs)
+    placed-requires
     (λ c. search needs)
     (λ c. search needs)
     returns

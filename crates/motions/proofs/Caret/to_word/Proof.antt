@@ -6,9 +6,10 @@ use Prim.Native.Nat.{ℕ, _-_}
 use native.Mathlib.Omega.{arith}
 use lib.ListN.{take}
 use borrow.Author.Needs.{needs}
+use Rattle.text.specs.declared.Position.{Position}
 use Rattle.list_tokens.specs.Tokens.{anyToken}
 use Rattle.keywords.specs.Table.{kept}
-use Rattle.word_kinds.specs.Places.{Place, kindOf}
+use Rattle.word_kinds.specs.Places.{kindOf}
 use Rattle.word_rounds.specs.Rounds.{wordMotion}
 use Rattle.steps.proofs.Stepping.{up-start}
 use Rattle.motions.specs.WordMoves.{wordCaret}
@@ -48,7 +49,7 @@ returns c =
     (ap (λ (x : ℕ). walked .result .at - x) (up-start _ _ (walked .result .row) (at-start .up .ensures)))
     (walked .ensures .0
     ∙ ap
-    (λ (from : Place). wordMotion (given .t .now) (take (at-folds .taken .result) (given .folds .now)) (kindOf (anyToken (kept (given .spec))) (given .big)) (given .big) (given .m) (given .stop)
+    (λ (from : Position). wordMotion (given .t .now) (take (at-folds .taken .result) (given .folds .now)) (kindOf (anyToken (kept (given .spec))) (given .big)) (given .big) (given .m) (given .stop)
     (given .count) from) (place-of (given .t .now) (given .self) (given .e) (start .pre .0)))
     ∙ ap (λ (own : List ℕ). wordCaret (given .t .now) own (anyToken (kept (given .spec))) (given .big) (given .m) (given .stop) (given .count) (given .self))
     (at-folds .taken .ensures .1)

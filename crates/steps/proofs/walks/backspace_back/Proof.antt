@@ -5,9 +5,9 @@ use mathlib.Core.Path.{_≡_, ap, sym, _∙_}
 use native.Mathlib.Omega.{arith}
 use lib.ListN.{length}
 use borrow.Author.Needs.{needs}
+use Rattle.text.specs.Text.{position}
 use Rattle.text.specs.Offsets.{rowStart}
 use Rattle.text.proofs.Stands.{stands-own, back-char, back-nl}
-use Rattle.positions.specs.Positions.{position}
 use Rattle.steps.specs.Steps.{backspaceBack}
 use Rattle.steps.proofs.Stepping.{Going, going-start, going-on, going-done, going-stop, going-from}
 use Rattle.steps.proofs.Stepping.{back-first, back-on, back-end, back-void, back-wrap, up-start}

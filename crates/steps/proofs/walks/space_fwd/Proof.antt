@@ -5,8 +5,8 @@ use mathlib.Core.Path.{refl, _∙_}
 use native.Mathlib.Omega.{arith}
 use lib.ListN.{length}
 use borrow.Author.Needs.{needs}
+use Rattle.text.specs.Text.{position}
 use Rattle.text.proofs.Stands.{step-char, step-nl}
-use Rattle.positions.specs.Positions.{position}
 use Rattle.steps.specs.Steps.{spaceFwd}
 use Rattle.steps.proofs.Stepping.{Going, going-start, going-on, going-done, going-stop, going-from}
 use Rattle.steps.proofs.Stepping.{space-end, space-nl, space-last, space-wrap, space-on}

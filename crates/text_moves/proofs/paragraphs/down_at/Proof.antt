@@ -4,8 +4,7 @@ use Prim.Native.Nat.{ℕ, _-_}
 use mathlib.Core.Path.{ap, sym, _∙_}
 use borrow.Author.Needs.{needs}
 use borrow.Author.Tests.{eq-eqb, ne-eqb}
-use Rattle.text.specs.Text.{contentRows}
-use Rattle.positions.specs.Positions.{position}
+use Rattle.text.specs.Text.{contentRows, position}
 use Rattle.text_moves.proofs.paragraphs.down_at.Statement.{statement}
 use Rattle.text_moves.proofs.paragraphs.down_at.Tie as tie
 

@@ -2,7 +2,7 @@
 -- Assumes nothing.
 use mathlib.Core.Path.{ap}
 use borrow.Author.Needs.{needs}
-use Rattle.positions.specs.Positions.{position}
+use Rattle.text.specs.Text.{position}
 use Rattle.text_moves.proofs.rows.at_line.Statement.{statement}
 use Rattle.text_moves.proofs.rows.at_line.Tie as tie
 

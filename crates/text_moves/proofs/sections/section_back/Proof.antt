@@ -4,7 +4,7 @@ use Prim.Native.Nat.{ℕ}
 use mathlib.Core.Path.{ap, _∙_}
 use native.Mathlib.Omega.{arith}
 use borrow.Author.Needs.{needs}
-use Rattle.positions.specs.Positions.{position}
+use Rattle.text.specs.Text.{position}
 use Rattle.row_walks.specs.Sections.{sectionUp}
 use Rattle.text_moves.proofs.sections.section_back.Statement.{statement}
 use Rattle.text_moves.proofs.sections.section_back.Tie as tie

@@ -1,11 +1,10 @@
 -- `sections::section_on` meets its contract: column 0 of the row that the walk leads to.
 -- Assumes nothing.
 use Prim.Native.Nat.{ℕ, _-_}
-use Rattle.text.specs.Text.{contentRows}
+use Rattle.text.specs.Text.{contentRows, position}
 use mathlib.Core.Path.{ap, _∙_}
 use native.Mathlib.Omega.{arith}
 use borrow.Author.Needs.{needs}
-use Rattle.positions.specs.Positions.{position}
 use Rattle.positions.proofs.Entered.{accepted-rows}
 use Rattle.row_walks.specs.Sections.{sectionDown}
 use Rattle.text_moves.proofs.sections.section_on.Statement.{statement}
