@@ -26,14 +26,14 @@ static void expect(const char *what, uint32_t number, uint32_t wanted, const uin
 /* A refusal leaves `out` as it was. */
 #define REFUSES(what, call, wanted)                                                                 \
     do {                                                                                            \
-        uint32_t before[5];                                                                         \
-        for (int i = 0; i < 5; i++) before[i] = out[i];                                             \
+        uint32_t before[9];                                                                         \
+        for (int i = 0; i < 9; i++) before[i] = out[i];                                             \
         uint32_t number = (call);                                                                   \
-        expect(what, number, wanted, out, before, 5);                                               \
+        expect(what, number, wanted, out, before, 9);                                               \
     } while (0)
 
 int main(void) {
-    uint32_t out[5] = {7, 7, 7, 7, 7}, room[16], segments[4];
+    uint32_t out[9] = {7, 7, 7, 7, 7, 7, 7, 7, 7}, room[16], segments[4];
     static const uint32_t branch[] = {'i', 'f', ' ', '(', 'n', ')', ' ', '{', 10, '}'};
     static const uint32_t none[] = {0}, list[] = {'@', ',', '_'}, tab[] = {9, 'x'}, words[] = {'a', 'b', ' ', 'c', 'd'};
     static const uint8_t bytes[] = {'(', 0, 0, 0, '[', 0, 0, 0, ')', 0, 0, 0, ']', 0, 0, 0};
@@ -48,6 +48,9 @@ int main(void) {
     SAYS("content_row_count", tsivareza_content_row_count_u32(branch, 10, out), 2);
     SAYS("matching_bracket_pos", tsivareza_matching_bracket_pos_u32(branch, 10, 0, 7, out), 1, 1, 0);
     SAYS("matching_bracket_pos on bytes", tsivareza_matching_bracket_pos(bytes, 16, room, 4, 0, 0, out), 1, 0, 2);
+    SAYS("inner_pair", tsivareza_inner_pair_u32(TSIVAREZA_CURLY, branch, 10, 0, 8, out), 1, 0, 8, 1, 0, 0, 7, 1, 1);
+    SAYS("inner_pair on bytes", tsivareza_inner_pair(TSIVAREZA_SQUARE, bytes, 16, room, 4, 0, 2, out), 1, 0, 2, 0, 3, 0, 1, 0, 4);
+    SAYS("no inner_pair", tsivareza_inner_pair_u32(TSIVAREZA_ANGLE, branch, 10, 0, 8, out), 0, 0, 0, 0, 0, 0, 0, 0, 0);
     SAYS("move_line_end", tsivareza_motion_u32(TSIVAREZA_MOVE_LINE_END, branch, 10, 0, 0, 1, 5, 0, out), 0, 7, 1, 5);
     SAYS("move_word_fwd", tsivareza_word_u32(TSIVAREZA_MOVE_WORD_FWD, branch, 10, none, 0, list, 3, 0, 0, 0, 0, 0, 1, out), 0, 3, 0, 0);
     SAYS("move_word_end on bytes",
@@ -66,6 +69,8 @@ int main(void) {
     REFUSES("no such fact", tsivareza_character(4, 0xD800, out), 100);
     SAYS("is_scalar of a surrogate", tsivareza_character(TSIVAREZA_IS_SCALAR, 0xD800, out), 0);
     REFUSES("a caret outside", tsivareza_motion_u32(TSIVAREZA_MOVE_TOP, branch, 10, 2, 0, 0, 0, 0, out), 4);
+    REFUSES("inner_pair past the row's end", tsivareza_inner_pair_u32(TSIVAREZA_CURLY, branch, 10, 0, 9, out), 4);
+    REFUSES("no such kind", tsivareza_inner_pair_u32(4, branch, 10, 9, 9, out), 100);
     REFUSES("no such motion", tsivareza_motion_u32(99, branch, 10, 0, 0, 0, 0, 0, out), 100);
     REFUSES("no such mode of down", tsivareza_vertical_u32(TSIVAREZA_MOVE_DOWN, branch, 10, none, 0, 9, 0, 0, 0, 3, 0, 1, 8, out), 100);
 

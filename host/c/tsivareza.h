@@ -5,9 +5,9 @@
  *     1  over 1,048,576 code points          6  a tabstop above 1,000
  *     2  a value that is no scalar value     7  a keyword list over 1,024 code points, or with such a value
  *     3  U+000B, C, D, U+0085, U+2028, 9     8  over 128 tokens kept of a keyword list
- *     4  a caret outside the text            9  too little room for the segments
+ *     4  a position outside the text         9  too little room for the segments
  *     5  wrong folds                        10  segments of odd length
- *   100  no such operation or mode         102  too little room for the code points
+ *   100  no such operation, mode or kind   102  too little room for the code points
  *   101  bytes that make no whole points   103  an answer that no uint32_t holds
  * 101 comes first, then 102, then 100, for with one of these there is no call to be made; then the
  * lowest of 1 to 10 that applies. 103 stands in an answer's place, in tsivareza_segment_for_col alone.
@@ -95,6 +95,17 @@ uint32_t tsivareza_matching_bracket_pos_u32(const uint32_t *text, size_t text_le
                                             uint32_t col, uint32_t out[3]);
 uint32_t tsivareza_matching_bracket_pos(const uint8_t *text, size_t text_len, uint32_t *room,
                                         size_t room_len, uint32_t row, uint32_t col, uint32_t out[3]);
+
+/* The innermost pair of a kind around a position, which may stand on a bracket or at its row's end: 1,
+ * then row and column of four positions, start and end of what stands between the brackets, start and
+ * end of that with them; or nine times 0 where no pair of the kind encloses the position. A position
+ * outside the text is refused with 4, as a caret is. */
+enum { TSIVAREZA_ROUND, TSIVAREZA_SQUARE, TSIVAREZA_CURLY, TSIVAREZA_ANGLE };
+
+uint32_t tsivareza_inner_pair_u32(uint32_t kind, const uint32_t *text, size_t text_len, uint32_t row,
+                                  uint32_t col, uint32_t out[9]);
+uint32_t tsivareza_inner_pair(uint32_t kind, const uint8_t *text, size_t text_len, uint32_t *room,
+                              size_t room_len, uint32_t row, uint32_t col, uint32_t out[9]);
 
 /* Motions of a text and a caret; a count of 0 acts as the Rust has it. */
 enum {

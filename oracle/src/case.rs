@@ -1,4 +1,5 @@
-//! A call with its inputs, as a value and as one line of text, and what the given Rust answers.
+//! A call with its inputs, as a value and as one line of text, and what the given Rust answers, or `pairs` for a call that
+//! it does not have.
 //!
 //! A line is the call's name and its inputs, each `name=value` and each once:
 //! `move_word_fwd text=61,20,62 row=0 col=0 sticky=none folds= list=40,2c,5f big=0 count=1`.
@@ -6,7 +7,7 @@
 //! numbers are decimal, and a list of them has commas.
 
 use crate::calls::{self, Words};
-use crate::Outcome;
+use crate::{Outcome, pairs};
 use std::fmt;
 
 /// An input that a call takes.
@@ -18,6 +19,8 @@ pub enum Input {
     Caret,
     /// A row and a column, anywhere.
     Place,
+    /// A kind of bracket.
+    Kind,
     Folds,
     Tabstop,
     List,
@@ -47,6 +50,8 @@ pub struct Case {
     pub text: Vec<u32>,
     pub line: Vec<u32>,
     pub caret: crate::Caret,
+    /// Its place in `KINDS`.
+    pub kind: usize,
     pub folds: Vec<u32>,
     pub tabstop: u32,
     pub list: Vec<u32>,
@@ -133,7 +138,7 @@ macro_rules! columns {
 }
 
 /// Every public call.
-pub static CALLS: [Call; 51] = [
+pub static CALLS: [Call; 52] = [
     call!(content_row_count [Text] |k| outcome(calls::content_row_count(&k.text), |n| Outcome::Number(n.into()))),
     counted!(move_left),
     counted!(move_right_in_line),
@@ -202,6 +207,8 @@ pub static CALLS: [Call; 51] = [
     call!(is_letter [Character] |k| outcome(calls::is_letter(k.character), Outcome::Truth)),
     call!(is_white [Character] |k| outcome(calls::is_white(k.character), Outcome::Truth)),
     call!(width [Character] |k| outcome(calls::width(k.character), |n| Outcome::Number(n.into()))),
+    call!(inner_pair [Text, Kind, Place]
+        |k| outcome(pairs::inner_pair(&k.text, k.kind, k.caret.row, k.caret.col), Outcome::Ranges)),
 ];
 
 pub fn call(name: &str) -> Result<&'static Call, String> {
@@ -215,6 +222,7 @@ impl Case {
             text: Vec::new(),
             line: Vec::new(),
             caret: crate::Caret::at(0, 0),
+            kind: 0,
             folds: Vec::new(),
             tabstop: 8,
             list: crate::points("@,48-57,_"),
@@ -259,6 +267,10 @@ impl Case {
             "line" => self.line = hexes(value)?,
             "row" => self.caret.row = number(value)?,
             "col" => self.caret.col = number(value)?,
+            "kind" => {
+                let at = KIND_NAMES.iter().position(|name| *name == value);
+                self.kind = at.ok_or_else(|| format!("`{value}` is no kind: {}", KIND_NAMES.join(", ")))?;
+            }
             "sticky" => self.caret.sticky = if value == "none" { None } else { Some(number(value)?) },
             "folds" => self.folds = numbers(value)?,
             "tabstop" => self.tabstop = number(value)?,
@@ -298,6 +310,7 @@ impl Case {
             "line" => write_hexes(&self.line),
             "row" => self.caret.row.to_string(),
             "col" => self.caret.col.to_string(),
+            "kind" => KIND_NAMES[self.kind].into(),
             "sticky" => self.caret.sticky.map_or("none".into(), |s| s.to_string()),
             "folds" => write_numbers(&self.folds),
             "tabstop" => self.tabstop.to_string(),
@@ -323,6 +336,9 @@ impl Case {
     }
 }
 
+/// The kinds of bracket, as a line has them.
+const KIND_NAMES: [&str; 4] = ["round", "square", "curly", "angle"];
+
 /// The names under which a line has an input.
 fn names(input: Input) -> &'static [&'static str] {
     match input {
@@ -330,6 +346,7 @@ fn names(input: Input) -> &'static [&'static str] {
         Line => &["line"],
         Caret => &["row", "col", "sticky"],
         Place => &["row", "col"],
+        Kind => &["kind"],
         Folds => &["folds"],
         Tabstop => &["tabstop"],
         List => &["list"],
@@ -439,6 +456,8 @@ impl fmt::Display for Outcome {
             Outcome::Told(truth, k) => write!(f, "told {} {}", u8::from(*truth), caret(k)),
             Outcome::Place(None) => f.write_str("none"),
             Outcome::Place(Some((row, col))) => write!(f, "place {row} {col}"),
+            Outcome::Ranges(None) => f.write_str("none"),
+            Outcome::Ranges(Some([a, b, c, d, e, g, h, i])) => write!(f, "between {a} {b} to {c} {d}, with them {e} {g} to {h} {i}"),
             Outcome::Number(n) => write!(f, "number {n}"),
             Outcome::Truth(truth) => write!(f, "truth {}", u8::from(*truth)),
             Outcome::Segments(count, room) => write!(f, "segments {count} {}", write_hexes(room)),

@@ -1,6 +1,7 @@
 //! Cases from a seed, small families in full, and the limits of document 01.
 
 use crate::case::{CALLS, Call, Case, Input};
+use crate::pairs::KINDS;
 use crate::{Caret, Viewport, Wrap, points};
 
 /// SplitMix64: one stream per seed and index.
@@ -240,6 +241,16 @@ pub fn random(call: &'static Call, dice: &mut Dice) -> Case {
     if case.takes(Input::Room) && dice.coin() {
         case.room = 2 * size as u32 + 2;
     }
+    if case.takes(Input::Kind) {
+        case.kind = dice.below(KINDS.len());
+        // mostly nests of the kind, others among them
+        if !case.text.is_empty() && !dice.once_in(3) {
+            let (open, close) = KINDS[case.kind];
+            for x in &mut case.text {
+                *x = if *x == 10 || dice.coin() { *x } else { dice.pick(&[open, close]) };
+            }
+        }
+    }
     case
 }
 
@@ -295,6 +306,7 @@ fn families(call: &Call) -> Vec<Family> {
     let takes = |input| call.takes.contains(&input);
     match call.name {
         "matching_bracket_pos" | "match_bracket" => vec![("()<>\n", 6, false), ("()[]a", 6, false)],
+        "inner_pair" => ["()[]a\n", "[]{}a\n", "{}<>a\n", "<>()a\n"].map(|alphabet| (alphabet, 6, false)).to_vec(),
         "find_char_on_line" => vec![("axb\n", 5, false)],
         _ if takes(Input::End) => vec![(ROW, 4, false)],
         _ if takes(Input::Line) => vec![(ROW, 5, false)],
@@ -349,6 +361,9 @@ fn small_on(call: &'static Call, text: &[u32], folds: &[u32]) -> Vec<Case> {
         let outside = [Caret::at(0, size + 1), Caret::at(rows - 1, size + 1), Caret::at(rows, 0), Caret::at(MOST, MOST)];
         let at: Vec<Caret> = inside.chain(outside).collect();
         cases = each(cases, &at, |k, at| k.caret = at);
+    }
+    if takes(Input::Kind) {
+        cases = each(cases, &[0, 1, 2, 3], |k, kind| k.kind = kind);
     }
     if takes(Input::Tabstop) && takes(Input::Caret) {
         cases = each(cases, &[None, Some(0), Some(3), Some(MOST)], |k, s| k.caret.sticky = s);
@@ -467,15 +482,21 @@ pub fn limits(call: &'static Call) -> Vec<Case> {
         add(&|k| (k.folds, k.tabstop, k.list) = (vec![1], 1_001, vec![0xD800]));
         add(&|k| (k.folds, k.list) = (vec![1], points(&"a,".repeat(129))));
     }
+    if takes(Input::Kind) {
+        for text in [vec![0xD800, 0x0D], vec![0x0D, 0x61], vec![0x61; 1_048_577]] {
+            add(&|k| (k.text, k.caret.row) = (text.clone(), 7));
+        }
+    }
     // deep nests, in one row and over many
-    if matches!(call.name, "matching_bracket_pos" | "match_bracket") {
+    if matches!(call.name, "matching_bracket_pos" | "match_bracket" | "inner_pair") {
         for (pair, n) in [("()", 524_288), ("<>", 524_288), ("(\n)\n", 262_144)] {
+            let kind = KINDS.iter().position(|(open, _)| pair.starts_with(char::from_u32(*open).expect("a bracket"))).unwrap_or(0);
             let half = |s: &str| points(&s.repeat(n));
             let (open, close) = pair.split_at(pair.len() / 2);
             let nest = [half(open), half(close)].concat();
             for row in [0, 1, (n - 1) as u32, n as u32, (2 * n - 1) as u32] {
                 for col in [0, 1, (n - 1) as u32, (2 * n - 1) as u32] {
-                    add(&|k| (k.text, k.caret.row, k.caret.col) = (nest.clone(), row, col));
+                    add(&|k| (k.text, k.kind, k.caret.row, k.caret.col) = (nest.clone(), kind, row, col));
                 }
             }
         }

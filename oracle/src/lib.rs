@@ -1,13 +1,15 @@
 //! What the given Rust answers, on plain values: the judge of the port's answers.
 //!
 //! `calls` has one function per public call, `refusals` the refusal table of document 01, written
-//! apart from it, `case` a call with its inputs as one line of text, `generate` cases from a seed
+//! apart from it, `pairs` document 02's `inner_pair` from its words, `case` a call with its inputs as
+//! one line of text, `generate` cases from a seed
 //! and small families, `replay` the list that the program `replay` runs, `session` document 01's
 //! session over the given motions.
 
 pub mod calls;
 pub mod case;
 pub mod generate;
+pub mod pairs;
 pub mod refusals;
 pub mod replay;
 pub mod session;
@@ -45,6 +47,8 @@ pub enum Outcome {
     /// The truth that the call tells, and the caret.
     Told(bool, Caret),
     Place(Option<(u32, u32)>),
+    /// Rows and columns of four positions.
+    Ranges(Option<[u32; 8]>),
     Number(u64),
     Truth(bool),
     /// The number of segments written, and the lent slice afterwards.

@@ -58,6 +58,7 @@ fn asked(k: &Case) -> Asked<'_> {
         7 => 3,
         8 | 10..=12 => 4,
         9 => 5,
+        13 => 9,
         _ => 1,
     };
     let mut head = vec![group, op];
@@ -107,6 +108,7 @@ fn numbers(k: &Case) -> (u32, u32, Vec<u32>) {
         "wrap_segments" => (5, wrap, vec![width, k.room]),
         "content_row_count" => (6, 0, vec![]),
         "matching_bracket_pos" => (7, 0, vec![row, col]),
+        "inner_pair" => (13, k.kind as u32, vec![row, col]),
         "match_bracket" => (9, 0, caret(&[0])),
         "find_char_on_line" => {
             (9, 1 + u32::from(k.forward) + 2 * u32::from(k.till) + 4 * u32::from(k.skip), caret(&[x]))
@@ -146,6 +148,8 @@ fn answer(k: &Case, places: usize, outcome: &Outcome) -> Option<Vec<u32>> {
         Outcome::Told(truth, caret) => [&[0, u32::from(*truth)][..], &held(caret)].concat(),
         Outcome::Place(None) => vec![0, 0, 0, 0],
         Outcome::Place(Some((row, col))) => vec![0, 1, *row, *col],
+        Outcome::Ranges(None) => vec![0; 10],
+        Outcome::Ranges(Some(places)) => [&[0, 1], &places[..]].concat(),
         Outcome::Number(n) => vec![0, u32::try_from(*n).expect("an answer that a u32 holds")],
         Outcome::Truth(truth) => vec![0, u32::from(*truth)],
         Outcome::Segments(count, room) => [&[0, *count], &room[..]].concat(),

@@ -31,7 +31,7 @@ fn limits_answer() {
 
 #[test]
 fn small_rows_answer() {
-    for name in ["content_row_count", "move_space_fwd", "matching_bracket_pos", "segment_for_col", "cursor_visual_col"] {
+    for name in ["content_row_count", "move_space_fwd", "matching_bracket_pos", "inner_pair", "segment_for_col", "cursor_visual_col"] {
         let mut cases = 0;
         small(oracle::case::call(name).unwrap(), 3, |case| {
             case.answer();
@@ -67,6 +67,7 @@ fn malformed_lines_are_told() {
         ("segment_for_col segments=1,-1 column=0", "`-1` is no number"),
         ("wrap_segments line=61 width=65536 wrap=char room=2", "`65536` is no number that fits"),
         ("wrap_segments line=61 width=1 wrap=soft room=2", "no wrap mode"),
+        ("inner_pair text= kind=ronud row=0 col=0", "no kind"),
     ] {
         let told = line.parse::<Case>().unwrap_err();
         assert!(told.contains(why), "{line}: {told}");
@@ -125,6 +126,17 @@ fn corners() {
         ("move_right_in_line text=61,62 row=0 col=2 sticky=none count=1", "moved 0 1 none"),
         ("move_first_non_blank_next_line text=20,61 row=0 col=0 sticky=none count=1", "moved 0 0 none"),
         ("match_bracket text=29,28,29 row=0 col=0 sticky=none", "told 0 0 0 none"),
+        // the innermost pair: on its brackets, on a separator in it and behind it, alone, among other kinds
+        ("inner_pair text=28,28,61,29,29 kind=round row=0 col=0", "between 0 1 to 0 4, with them 0 0 to 0 5"),
+        ("inner_pair text=28,28,61,29,29 kind=round row=0 col=3", "between 0 2 to 0 3, with them 0 1 to 0 4"),
+        ("inner_pair text=28,a,29 kind=round row=0 col=1", "between 0 1 to 1 0, with them 0 0 to 1 1"),
+        ("inner_pair text=28,61,29,a,62 kind=round row=0 col=3", "none"),
+        ("inner_pair text=28,28,61,29 kind=round row=0 col=0", "none"),
+        ("inner_pair text=28,5b,29,5d kind=round row=0 col=1", "between 0 1 to 0 2, with them 0 0 to 0 3"),
+        ("inner_pair text=28,5b,29,5d kind=square row=0 col=2", "between 0 2 to 0 3, with them 0 1 to 0 4"),
+        ("inner_pair text=28,29 kind=round row=0 col=2", "none"),
+        ("inner_pair text=28,29 kind=round row=0 col=3", "refused 4"),
+        ("inner_pair text= kind=angle row=0 col=1", "refused 4"),
         // keyword lists
         ("matches list=2d char=2d", "truth 1"),
         ("matches list=2b char=2b", "truth 1"),
@@ -133,5 +145,18 @@ fn corners() {
     ] {
         let case: Case = line.parse().unwrap();
         assert_eq!(case.answer().to_string(), answer, "{line}");
+    }
+}
+
+/// The pairs of a long text are found in one pass: they are those by demand 3's words.
+#[test]
+fn pairs_in_one_pass() {
+    use oracle::pairs::{KINDS, pairs, pairs_by_stack};
+    for text in oracle::generate::texts(&oracle::points("()[a"), 7) {
+        for kind in KINDS {
+            let mut by_stack = pairs_by_stack(&text, kind);
+            by_stack.sort_unstable();
+            assert_eq!(by_stack, pairs(&text, kind), "{text:x?}");
+        }
     }
 }

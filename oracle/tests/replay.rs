@@ -12,7 +12,7 @@ fn refusals(case: &Case) -> BTreeSet<u32> {
         (case.takes(Input::Text), &[1, 2, 3]),
         (case.takes(Input::Line), &[1, 2]),
         (tested, &[2]),
-        (case.takes(Input::Caret), &[4]),
+        (case.takes(Input::Caret) || case.takes(Input::Kind), &[4]),
         (case.takes(Input::Folds), &[5]),
         (case.takes(Input::Tabstop), &[6]),
         (case.takes(Input::List), &[7]),

@@ -76,7 +76,7 @@ module _ (t : List ℕ) (ok : textRefusal t ≡ 0) where
       let a = told p q e in
       found q p (record { from = a .to; to = a .from; partner = partner-back (a .partner) })
 
-  pair-forward : {k : Kind} {p q : Position} → PairAt k t p q → Forward k t (offsetOf t p) (offsetOf t q)
+  pub pair-forward : {k : Kind} {p q : Position} → PairAt k t p q → Forward k t (offsetOf t p) (offsetOf t q)
   pair-forward {k} {p} {q} a =
       let m = told p q (a .answer) in
       of-kind k (sym (point-pos (m .from)) ∙ a .opens) (m .partner)

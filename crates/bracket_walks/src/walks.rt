@@ -12,7 +12,14 @@ ghost use Rattle.bracket_walks.specs.Walk.{Starts, Goes, Hands};
 
 // The Rust's walk forward, from an offset `at` of the row `l`: where the first of the `deep`
 // brackets that are open there is closed.
-fn match_forward(t: &[u32], l: Line, at: usize, deep: usize, opening: u32, closing: u32) -> Partner
+pub fn match_forward(
+    t: &[u32],
+    l: Line,
+    at: usize,
+    deep: usize,
+    opening: u32,
+    closing: u32,
+) -> Partner
     requires { ⌜ Goes (now t) (l .row) (l .start) at deep × Hands opening closing ⌝ }
     ensures { λ r. ⌜ r ≡ placed (now (t .entry))
         (closeFrom opening closing (now (t .entry)) at deep) ⌝ }
@@ -45,7 +52,14 @@ fn match_forward(t: &[u32], l: Line, at: usize, deep: usize, opening: u32, closi
 
 // The Rust's walk back, from an offset `at` of the row `l`: where the last of the `deep` brackets
 // that are closed from there on is opened.
-fn match_backward(t: &[u32], l: Line, at: usize, deep: usize, opening: u32, closing: u32) -> Partner
+pub fn match_backward(
+    t: &[u32],
+    l: Line,
+    at: usize,
+    deep: usize,
+    opening: u32,
+    closing: u32,
+) -> Partner
     requires { ⌜ Goes (now t) (l .row) (l .start) at deep × Hands opening closing ⌝ }
     ensures { λ r. ⌜ r ≡ placed (now (t .entry))
         (openBelow opening closing (now (t .entry)) at deep) ⌝ }

@@ -3,6 +3,7 @@
 use motions::Move;
 
 mod asks;
+mod inners;
 mod moves;
 mod pairs;
 mod rows;
@@ -10,6 +11,7 @@ mod seeks;
 mod viewports;
 
 pub use asks::move_as;
+pub use inners::inner_pair;
 pub use moves::caret_of;
 pub use moves::motion;
 pub use moves::place;

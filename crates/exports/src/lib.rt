@@ -2,7 +2,7 @@
 // first (document 01, "What form to use where"). Every call answers 0 and puts its answer into
 // `out`, or answers a number and leaves `out` as it was: the refusal numbers of document 01, and
 // from 100 on those of the boundary.
-//   100  no such operation or mode
+//   100  no such operation, mode or kind of bracket
 //   101  bytes that make no whole code points
 //   102  too little room for the code points
 //   103  an answer that no u32 holds
@@ -10,6 +10,7 @@
 // A call on bytes decodes into the lent room; its `_u32` form takes code points as they are. The
 // code points stay at the start of the room, also where the call is refused, but for 101 and 102.
 mod characters;
+mod inners;
 mod lists;
 mod moves;
 mod pairs;

@@ -33,6 +33,7 @@ use Rattle.bracket_walks.specs.Matching.{nearestOf, placed}
 use Rattle.brackets.specs.Matching.{matchingBracketPos}
 use Rattle.row_search.specs.Find.{landing, findAhead}
 use Rattle.brackets.specs.Find.{keyTo}
+use Rattle.bracket_inner.specs.Inner.{reaches, paired, pairFrom, answered}
 use Rattle.row_walks.specs.Paragraphs.{roundFrom, paragraphs}
 use Rattle.row_walks.specs.Sections.{sectionUp, sectionDown}
 use Rattle.word_kinds.specs.Places.{kindOf, kindAt, onEmptyRow, nextRow, stepForward, inc, dec, endOfBuffer}
@@ -53,6 +54,7 @@ use Rattle.call_rows.specs.Lists.{tokenCount, byTable, inTable, keyword}
 use Rattle.call_texts.specs.Asks.{moveAs, seekAs}
 use Rattle.call_texts.specs.Moves.{wayOf, motion}
 use Rattle.call_texts.specs.Partners.{partnered}
+use Rattle.call_texts.specs.Inners.{surrounded, innerBy}
 use Rattle.call_texts.specs.Seeks.{sought, seekOf, seek}
 use Rattle.call_rows.specs.Tabs.{toldColumn, tabColumn}
 use Rattle.call_folds.specs.Terms.{wordOf, word}
@@ -67,7 +69,7 @@ unfolding table
     letters isLetter whites isWhite zeroWidths doubleWidths widthBy widthOf rowRefusal columnAt columnRefusal stopOf visualFrom charFrom
     fits afterWhite firstSegment segmentsFrom segmentsOf wrapRefusal countOf roomRefusal any textRefusal onFirst rows startIn rowOf
     anyFold foldRefusal visibleFrom allDigits value split trimStart trimEnd upTo tokensIn codes
-    sideOf keyBracket firstFrom lastBelow count stretch nearestOf placed matchingBracketPos keyTo landing findAhead
+    sideOf keyBracket firstFrom lastBelow count stretch nearestOf placed matchingBracketPos reaches paired pairFrom answered surrounded innerBy keyTo landing findAhead
     roundFrom paragraphs kindOf kindAt onEmptyRow nextRow stepForward endOfBuffer walk goesOn nextWordStart roundOf counted wordMotion
     positionRefusal lowest moving partnerTo seeking landsOn orSought
     moved keyword moveAs seekAs wayOf motion partnered sought seekOf seek toldColumn tabColumn wordOf word toldSegments modeOf segmented segmentsLeft
@@ -83,7 +85,7 @@ unfolding calls
     letters isLetter whites isWhite zeroWidths doubleWidths widthBy widthOf rowRefusal columnAt columnRefusal stopOf visualFrom charFrom leadingFrom
     fits afterWhite firstSegment segmentsFrom segmentsOf wrapRefusal cellsIn pairsBefore countOf roomRefusal any textRefusal onFirst rows startIn rowOf
     anyFold foldRefusal visibleFrom prevVisible rounds verticalRow landed stepScreen allDigits value split trimStart trimEnd upTo tokensIn codes isSame
-    sideOf keyBracket firstFrom lastBelow count stretch nearestOf placed matchingBracketPos keyTo landing findAhead
+    sideOf keyBracket firstFrom lastBelow count stretch nearestOf placed matchingBracketPos reaches paired pairFrom answered surrounded innerBy keyTo landing findAhead
     roundFrom paragraphs sectionUp sectionDown kindOf kindAt onEmptyRow nextRow stepForward inc dec endOfBuffer walk goesOn
     nextWordStart prevWordStart nextWordEnd prevWordEnd atWordEnd roundOf counted wordMotion
     positionRefusal lowest moving indentOf solidOf spaceFwd backspaceBack partnerTo seeking landsOn orSought

@@ -1,4 +1,4 @@
--- Where a search by number leads to is in the text, and so is a partner. Assumes nothing.
+-- Where a search by number leads to is in the text, and so are a partner and the ranges of the innermost pair. Assumes nothing.
 use mathlib.Core.Path.{_≡_, refl, sym, subst}
 use mathlib.Core.List.{List}
 use mathlib.Core.Bool.{Bool, true, false, cond}
@@ -13,6 +13,12 @@ use Rattle.row_search.specs.declared.Found.the-variants.{At, Nothing}
 use Rattle.bracket_walks.specs.declared.Partner.{Partner}
 use Rattle.bracket_walks.specs.declared.Partner.the-variants.{There, None, Refused as Partner·Refused}
 use Rattle.brackets.specs.Matching.{matchingBracketPos}
+use Rattle.bracket_kinds.specs.declared.Kind.{Kind}
+use Rattle.bracket_kinds.specs.declared.Kind.the-variants.{Round, Square, Curly, Angle}
+use Rattle.bracket_inner.specs.declared.Inner.{Inner}
+use Rattle.bracket_inner.specs.declared.Inner.the-variants.{Pair, None as Inner·None, Refused as Inner·Refused}
+use Rattle.bracket_inner.specs.Inner.{innerPair}
+use Rattle.bracket_inner.proofs.Innermost.{inner-pairs}
 use Rattle.row_search.specs.Find.{findOnRow}
 use Rattle.bracket_laws.proofs.Call.{call-accepted}
 use Rattle.bracket_laws.proofs.Demand.{unique}
@@ -29,7 +35,9 @@ use Rattle.motions.specs.Finds.{matchBracket, findCharOnLine, seeking, landsOn}
 use Rattle.call_texts.specs.declared.Asked.{Asked}
 use Rattle.call_texts.specs.Asks.{seekAs}
 use Rattle.call_texts.specs.Seeks.{seekOf, seek}
-use Rattle.promises.specs.Positions.{inMoved, inSought, inPartner, AllIn}
+use Rattle.call_texts.specs.Inners.{innerBy}
+use Rattle.promises.specs.Positions.{inMoved, inSought, inPartner, inInner, AllIn}
+use Rattle.promises.specs.Writes.{EveryRangeInside}
 use Rattle.promises.proofs.Landings.{either}
 use Rattle.promises.proofs.KeyMoves.{key}
 
@@ -99,3 +107,25 @@ module _ (t : List ℕ) where
           (record { in-row = w .in-row; in-col = omega (arith, w .in-col) }, tt)
       go None e = tt
       go (Partner·Refused f) e = tt
+
+-- the ranges of a pair
+pub every-range-inside : EveryRangeInside
+unfolding innerBy
+every-range-inside kind row col t =
+    either Sit (eqb kind 0) _ _ (sits Round)
+    (either Sit (eqb kind 1) _ _ (sits Square)
+    (either Sit (eqb kind 2) _ _ (sits Curly)
+    (either Sit (eqb kind 3) _ _ (sits Angle) tt)))
+  where
+    Sit : Inner → Type 0
+    Sit m = AllIn t (inInner m)
+
+    sits : (k : Kind) → Sit (innerPair t k row col)
+    sits k = go (innerPair t k row col) refl
+      where
+        go : (m : Inner) → innerPair t k row col ≡ m → Sit m
+        go (Pair r) e =
+            let both = inner-pairs t k (record { row = row; col = col }) .pair r e .standing in
+            (both .from-in, (both .to-in, (both .opening-in, (both .past-in, tt))))
+        go Inner·None e = tt
+        go (Inner·Refused f) e = tt

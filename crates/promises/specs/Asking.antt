@@ -1,8 +1,9 @@
 -- The calls of the tables by what they ask, and their replies in short. Definitions only. Assumes nothing.
-use Prim.Native.Nat.{ℕ}
+use Prim.Native.Nat.{ℕ, _+_, _-_}
 use Prim.Native.String.{String}
 use mathlib.Core.List.{List, [], _∷_}
 use mathlib.Core.Bool.{Bool, true, false}
+use lib.ListN.{replicate}
 use Rattle.lists.specs.Codes.{codes}
 use Rattle.call_bytes.specs.declared.Told.{Told}
 use Rattle.call_bytes.specs.declared.Told.the-variants.{Value, Refused}
@@ -11,14 +12,18 @@ use Rattle.call_texts.specs.Carets.{caretOf}
 use Rattle.call_rows.specs.Lists.{keywords}
 use Rattle.call_texts.specs.Moves.{motions}
 use Rattle.call_texts.specs.Partners.{partner}
+use Rattle.call_texts.specs.Inners.{inner}
 use Rattle.call_texts.specs.Seeks.{seeks}
 use Rattle.call_rows.specs.Tabs.{tabColumns}
 use Rattle.call_rows.specs.Wraps.{segmented, segmentsLeft}
 use Rattle.call_folds.specs.Terms.{words}
 
--- brackets: a partner, and the % key
+-- brackets: a partner, the innermost pair of a kind, and the % key
 abbrev pub pair : String → ℕ → ℕ → Reply
 pair t r c = partner r c (codes t)
+
+abbrev pub inside : ℕ → String → ℕ → ℕ → Reply
+inside kind t r c = inner kind r c (codes t)
 
 abbrev pub key : String → ℕ → ℕ → Reply
 key t r c = seeks 0 0 (caretOf r c 0 0) (codes t)
@@ -64,6 +69,13 @@ with r c = 1 ∷ r ∷ c ∷ []
 
 abbrev pub none : List ℕ
 none = 0 ∷ 0 ∷ 0 ∷ []
+
+-- the innermost pair: between its brackets from one position to another, and with them; no pair
+abbrev pub spans : ℕ → ℕ → ℕ → ℕ → List ℕ
+spans r c r′ c′ = 1 ∷ r ∷ c ∷ r′ ∷ c′ ∷ r ∷ (c - 1) ∷ r′ ∷ (c′ + 1) ∷ []
+
+abbrev pub alone : List ℕ
+alone = replicate 9 0
 
 abbrev pub at : ℕ → ℕ → List ℕ
 at r c = r ∷ c ∷ 0 ∷ 0 ∷ []

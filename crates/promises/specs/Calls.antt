@@ -19,7 +19,7 @@ use Rattle.call_rows.specs.Wraps.{offsets, segmentOf}
 use Rattle.session.specs.Session.{sessionOf}
 use Rattle.lists.specs.Lists.{isSame}
 use Rattle.lists.specs.Codes.{codes}
-use Rattle.promises.specs.Asking.{pair, key, till, byWord, with, none, at, found, yes, no}
+use Rattle.promises.specs.Asking.{pair, inside, key, till, byWord, with, none, spans, alone, at, found, yes, no}
 
 pub record Case : Type 0 where
   pub call : String
@@ -135,6 +135,10 @@ calls =
     case "move_viewport_middle" (viewport 1 0 3) (caret 1 0) (caret 0 0) (caret 2 0) ∷
     case "move_viewport_bottom" (viewport 2 0 2) (caret 1 0) (caret 0 0) (caret 2 0) ∷
     case "matching_bracket_pos" (pair "([)]" 0 0) (answer (with 0 2)) (answer none) (answer (with 0 3)) ∷
+    case "inner_pair" (inside 0 "((a))" 0 3) (answer (spans 0 2 0 3)) (answer (spans 0 1 0 4)) (answer alone) ∷
+    case "inner_pair" (inside 0 "(a" 0 1) (answer alone) (answer (spans 0 1 0 2)) (refused 4) ∷
+    case "inner_pair" (inside 0 "()" 0 3) (refused 4) (answer alone) (answer (spans 0 1 0 1)) ∷
+    case "inner_pair" (inside 4 "()" 0 3) (refused 100) (refused 4) (answer alone) ∷
     case "match_bracket" (key "<(>)" 0 0) (answer (found 0 3)) (missing 0 0) (answer (found 0 2)) ∷
     case "find_char_on_line" (till false "axx") (answer (found 0 0)) (missing 0 0) (answer (found 0 1)) ∷
     []

@@ -1,4 +1,4 @@
--- The calls that answer with positions, the positions that they answer with, and when a position stands in the text.
+-- The calls that answer with positions, the positions that they answer with, and when a position stands in the text. `inner_pair` answers with four.
 -- Definitions only; what a call writes on the way is in `specs/Writes.antt`. Assumes nothing.
 use Prim.Native.Nat.{ℕ}
 use mathlib.Core.List.{List, [], _∷_}
@@ -7,6 +7,8 @@ use Rattle.text.specs.Text.{position}
 use Rattle.bracket_walks.specs.declared.Partner.{Partner}
 use Rattle.bracket_walks.specs.declared.Partner.the-variants.{There, None, Refused as Partner·Refused}
 use Rattle.brackets.specs.Matching.{matchingBracketPos}
+use Rattle.bracket_inner.specs.declared.Inner.{Inner}
+use Rattle.bracket_inner.specs.declared.Inner.the-variants.{Pair, None as Inner·None, Refused as Inner·Refused}
 use Rattle.text.specs.declared.Position.{Position}
 use Rattle.positions.specs.Positions.{Inside}
 use Rattle.motions.specs.declared.Caret.{Caret}
@@ -47,6 +49,11 @@ abbrev pub inPartner : Partner → List Position
 inPartner (There p) = position (p .row) (p .col) ∷ []
 inPartner None = []
 inPartner (Partner·Refused f) = []
+
+abbrev pub inInner : Inner → List Position
+inInner (Pair r) = r .from ∷ r .to ∷ r .opening ∷ r .past ∷ []
+inInner Inner·None = []
+inInner (Inner·Refused f) = []
 
 unfoldable pub positions : Call → Caret → List ℕ → List Position
 positions (plain op count) k t = inMoved (motion op count k t)

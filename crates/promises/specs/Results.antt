@@ -15,7 +15,7 @@ abbrev pub One : {A : Type 0} → (A → Type 0) → Type 0
 One {A = A} allows = (x y : A) → allows x → allows y → x ≡ y
 
 pub record OneResult : Type 1 where
-  -- `r ≡ definition`: every method of `Caret`; the calls of `chars`, `letters`, `keywords`, `row_tabs`, `row_columns`, `row_offsets`, `text` and `brackets`
+  -- `r ≡ definition`: every method of `Caret`; the calls of `chars`, `letters`, `keywords`, `row_tabs`, `row_columns`, `row_offsets`, `text`, `brackets` and `bracket_inner`
   pub equal : {A : Type 0} (v : A) → One (λ (r : A). r ≡ v)
   -- `wrap_segments`: the answer, and the slice lent for segments
   pub wraps : (mode : Wrap) (width : ℕ) (row out : List ℕ) → One (λ (x : Segments × List ℕ). Wraps mode width row out (x .0) (x .1))

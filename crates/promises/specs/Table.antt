@@ -9,7 +9,7 @@ use Rattle.keywords.specs.Worked.{P11}
 use Rattle.call_bytes.specs.Reply.{Reply, answer}
 use Rattle.call_texts.specs.Rows.{rowCount}
 use Rattle.lists.specs.Codes.{codes}
-use Rattle.promises.specs.Asking.{pair, key, till, byChar, byWord, cursor, cell, paragraph, word, holds, with, none, at, found, yes, no, branch}
+use Rattle.promises.specs.Asking.{pair, inside, key, till, byChar, byWord, cursor, cell, paragraph, word, holds, with, none, spans, at, found, yes, no, branch}
 
 -- a call's reply, and what it is to be
 pub record Row : Type 0 where
@@ -26,11 +26,14 @@ table =
     row "P1" (pair branch 0 7) (with 2 0) ∷
     row "P1" (pair branch 2 0) (with 0 7) ∷
     row "P1" (pair branch 0 2) none ∷
+    row "P1" (inside 2 branch 1 2) (spans 0 8 2 0) ∷
     row "P2" (pair "<<>" 0 0) none ∷
     row "P2" (pair "<<>" 0 1) (with 0 2) ∷
     row "P2" (pair "<<>" 0 2) (with 0 1) ∷
     row "P3" (pair "([)]" 0 0) (with 0 2) ∷
     row "P3" (pair "([)]" 0 1) (with 0 3) ∷
+    row "P3" (inside 0 "([)]" 0 1) (spans 0 1 0 2) ∷
+    row "P3" (inside 1 "([)]" 0 2) (spans 0 2 0 3) ∷
     row "P4" (key "<(>)" 0 0) (found 0 3) ∷
     row "P4" (pair "<(>)" 0 0) (with 0 2) ∷
     row "P5" (byWord 4 (codes "ab cd")) (2 ∷ 0 ∷ 3 ∷ 3 ∷ 5 ∷ []) ∷

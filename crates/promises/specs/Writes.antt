@@ -22,11 +22,12 @@ use Rattle.motions.specs.Carets.{here}
 use Rattle.call_rows.specs.Wraps.{modeOf}
 use Rattle.brackets.specs.Matching.{matchingBracketPos}
 use Rattle.call_texts.specs.Moves.{motion}
+use Rattle.call_texts.specs.Inners.{innerBy}
 use Rattle.call_texts.specs.Seeks.{seek}
 use Rattle.call_texts.specs.Viewports.{viewport}
 use Rattle.call_folds.specs.Terms.{word}
 use Rattle.call_folds.specs.Upright.{vertical}
-use Rattle.promises.specs.Positions.{Call, plain, by-word, upright, edge, search, partner, standing, inSought, inPartner, positions, AllIn}
+use Rattle.promises.specs.Positions.{Call, plain, by-word, upright, edge, search, partner, standing, inSought, inPartner, inInner, positions, AllIn}
 use Rattle.promises.specs.Trails.{trail, wordWrites, screenWrites}
 
 -- of a call that is not refused, by the caret that it answers with
@@ -93,3 +94,7 @@ pub record Written (c : Call) (k : Caret) (t : List ℕ) : Type 0 where
 
 abbrev pub EveryPositionInside : Type 0
 EveryPositionInside = (c : Call) (k : Caret) (t : List ℕ) → Written c k t
+
+-- `inner_pair` writes nothing: the four positions that it answers with stand in the text
+abbrev pub EveryRangeInside : Type 0
+EveryRangeInside = (kind row col : ℕ) (t : List ℕ) → AllIn t (inInner (innerBy kind row col t))

@@ -11,6 +11,7 @@ use Rattle.call_rows.specs.Tabs.{tabColumns}
 use Rattle.call_rows.specs.Wraps.{offsets, segmentOf, segmented, segmentsLeft}
 use Rattle.call_texts.specs.Rows.{rowCount}
 use Rattle.call_texts.specs.Partners.{partner}
+use Rattle.call_texts.specs.Inners.{inner}
 use Rattle.call_texts.specs.Carets.{caretOf}
 use Rattle.call_texts.specs.Moves.{motions}
 use Rattle.call_texts.specs.Seeks.{seeks}
@@ -61,6 +62,10 @@ contentRowCountOf text = shown 1 (rowCount text)
 -- the partner of the bracket at row a and column b
 unfoldable pub matchingBracketPosOf : Head → List ℕ → List ℕ
 matchingBracketPosOf k text = shown 3 (partner (k .a) (k .b) text)
+
+-- the innermost pair around row a and column b
+unfoldable pub innerPairOf : Head → List ℕ → List ℕ
+innerPairOf k text = shown 9 (inner (k .op) (k .a) (k .b) text)
 
 -- row, column, whether there is a sticky column, and that
 abbrev pub caret : Head → Caret

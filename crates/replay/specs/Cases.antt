@@ -10,7 +10,7 @@ use Rattle.replay_verdicts.specs.declared.Verdict.the-variants.{Malformed}
 use Rattle.replay_verdicts.specs.Answers.{compared}
 use Rattle.replay_rows.specs.Cases.{headOf, foldsAt, listAt, storedAt, part}
 use Rattle.replay.specs.Calls.{characterOf, keywordsOf, columnsOf, offsetsOf, segmentForColOf, wrapVerdict}
-use Rattle.replay.specs.Calls.{contentRowCountOf, matchingBracketPosOf, motionOf, seekOf, wordOf, verticalVerdict, viewportVerdict}
+use Rattle.replay.specs.Calls.{contentRowCountOf, matchingBracketPosOf, innerPairOf, motionOf, seekOf, wordOf, verticalVerdict, viewportVerdict}
 
 -- the verdict by the group of calls
 unfoldable pub byGroup : ℕ → Head → List ℕ → List ℕ → List ℕ → List ℕ → Verdict
@@ -28,7 +28,8 @@ byGroup group k text folds list stored =
     (cond (eqb group 10) (compared (wordOf k text folds list) stored)
     (cond (eqb group 11) (verticalVerdict k text folds stored)
     (cond (eqb group 12) (viewportVerdict k text stored)
-    Malformed))))))))))))
+    (cond (eqb group 13) (compared (innerPairOf k text) stored)
+    Malformed)))))))))))))
 
 -- the verdict of a case
 unfoldable pub verdictOf : List ℕ → Verdict

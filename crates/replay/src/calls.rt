@@ -9,7 +9,7 @@ ghost use mathlib.Core.Path.{_≡_};
 ghost use Rattle.replay_verdicts.specs.Answers.{compared as Answers·compared};
 ghost use Rattle.replay.specs.Calls.{characterOf, keywordsOf, columnsOf, offsetsOf};
 ghost use Rattle.replay.specs.Calls.{segmentForColOf, wrappedIn, wrapVerdict};
-ghost use Rattle.replay.specs.Calls.{contentRowCountOf, matchingBracketPosOf};
+ghost use Rattle.replay.specs.Calls.{contentRowCountOf, matchingBracketPosOf, innerPairOf};
 ghost use Rattle.replay.specs.Calls.{motionOf, seekOf, wordOf};
 ghost use Rattle.replay.specs.Calls.{verticalVerdict, viewportVerdict};
 
@@ -95,6 +95,15 @@ pub fn matching_bracket_pos(k: Head, text: &[u32], stored: &[u32]) -> Verdict
 {
     let mut out = [FILLER; 3];
     let n = call_texts::matching_bracket_pos(text, k.a, k.b, &mut out);
+    compared(n, &out, stored)
+}
+
+pub fn inner_pair(k: Head, text: &[u32], stored: &[u32]) -> Verdict
+    ensures { λ r. ⌜ r ≡ Answers·compared (innerPairOf k (now (text .entry)))
+        (now (stored .entry)) ⌝ }
+{
+    let mut out = [FILLER; 9];
+    let n = call_texts::inner_pair(k.op, text, k.a, k.b, &mut out);
     compared(n, &out, stored)
 }
 

@@ -32,6 +32,7 @@ fn by_group(
         10 => calls::word(k, text, folds, list, stored),
         11 => calls::vertical(k, text, folds, stored),
         12 => calls::viewport(k, text, stored),
+        13 => calls::inner_pair(k, text, stored),
         _ => Verdict::Malformed,
     }
 }

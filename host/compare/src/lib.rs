@@ -108,6 +108,13 @@ pub fn port(case: &Case, mut room: Option<&mut Room>) -> Outcome {
             let place = both(case, lib::matching_bracket_pos(text, k.row, k.col), on_bytes);
             place.map_or_else(Outcome::Refused, Outcome::Place)
         }
+        "inner_pair" => {
+            let kind = [lib::Kind::Round, lib::Kind::Square, lib::Kind::Curly, lib::Kind::Angle][case.kind];
+            let on_bytes = room.map(|room| room.inner_pair(kind, &bytes(text), k.row, k.col));
+            let pair = both(case, lib::inner_pair(kind, text, k.row, k.col), on_bytes);
+            let places = |r: lib::Ranges| [r.between, r.whole].map(|r| [r.start.0, r.start.1, r.end.0, r.end.1]).concat();
+            pair.map_or_else(Outcome::Refused, |r| Outcome::Ranges(r.map(|r| places(r).try_into().expect("four positions"))))
+        }
         "segment_for_col" => {
             let on_bytes = room.map(|room| room.segment_for_col(&bytes(&case.segments), col));
             number(both(case, lib::segment_for_col(&case.segments, col), on_bytes))

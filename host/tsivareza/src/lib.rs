@@ -2,7 +2,7 @@
 //!
 //! A text, row or list goes as code points, or through a [`Room`] as bytes, four to a code point, the
 //! lowest first. A call that is refused gives document 01's number as `Err`, or from 100 on the
-//! boundary's: 100 no such operation or mode, 101 bytes that make no whole code points, 102 too
+//! boundary's: 100 no such operation, mode or kind of bracket, 101 bytes that make no whole code points, 102 too
 //! little room, 103 an answer that no u32 holds. 101 comes first, then 102, then 100, for with one of
 //! these there is no call to be made; then the lowest of document 01's that applies. 103 stands in an
 //! answer's place, in [`segment_for_col`] alone. Of what is lent, a refusal changes a [`Room`] alone.
@@ -14,6 +14,7 @@
 //! assert_eq!(room.content_row_count(&tsivareza::bytes(&[0x61, 0x0A])), Ok(1));
 //! ```
 
+mod inner;
 mod raw;
 mod upright;
 
@@ -23,6 +24,7 @@ mod upright;
 #[doc = include_str!("../../../docs/TUTORIAL.md")]
 struct Papers;
 
+pub use inner::{Kind, Range, Ranges, inner_pair};
 pub use upright::{Steps, Vertical, Viewport, vertical, viewport};
 
 /// What the places for an answer hold before a call; a refusal leaves them so.

@@ -167,6 +167,25 @@ unsafe extern "C" {
         out: *mut [u32; 3],
     ) -> u32;
 
+    pub fn tsivareza_inner_pair(
+        kind: u32,
+        text: *const u8,
+        text_len: usize,
+        room: *mut u32,
+        room_len: usize,
+        row: u32,
+        col: u32,
+        out: *mut [u32; 9],
+    ) -> u32;
+    pub fn tsivareza_inner_pair_u32(
+        kind: u32,
+        text: *const u32,
+        text_len: usize,
+        row: u32,
+        col: u32,
+        out: *mut [u32; 9],
+    ) -> u32;
+
     pub fn tsivareza_word(
         op: u32,
         text: *const u8,

@@ -1,7 +1,7 @@
 //! What the boundary itself refuses, and what it leaves in the lent room.
 
 use tsivareza::{
-    Caret, Columns, Keywords, Motion, Offsets, Room, Seek, Steps, Vertical, Viewport, Word, Words, Wrap, bytes, content_row_count,
+    Caret, Columns, Keywords, Kind, Motion, Offsets, Room, Seek, Steps, Vertical, Viewport, Word, Words, Wrap, bytes, content_row_count,
 };
 
 /// What a room holds that no text of these tests has.
@@ -86,6 +86,7 @@ fn a_refused_call_leaves_the_code_points_in_the_room() {
     let outside = Caret { row: 0, col: 2, sticky: Some(5) };
     refused(4, &[&[0x61]], |room| room.motion(Motion::move_top, &bytes(&[0x61]), outside, 1));
     refused(4, &[&[0x61]], |room| room.viewport(Viewport::Top { top: 0, offset: 0 }, &bytes(&[0x61]), outside));
+    refused(4, &[&[0x28, 0x29]], |room| room.inner_pair(Kind::Round, &bytes(&[0x28, 0x29]), 0, 3));
     let down = |folds: &[u32], tabstop| {
         let folds = bytes(folds);
         move |room: &mut Room| room.vertical(Vertical::Down, &bytes(&[0x61]), START, Steps { folds: &folds, count: 1, tabstop })

@@ -153,6 +153,33 @@ fn growth() -> Result<(), String> {
     Ok(())
 }
 
+/// `inner_pair` beside `matching_bracket_pos` at the same place, on a bracket: one pair around the text, and a nest of pairs.
+fn pairs() -> Result<(), String> {
+    let time = |name: &str, text: &[u32], at: Caret| -> Result<f64, String> {
+        let case = Case { text: text.to_vec(), caret: at, ..Case::new(oracle::case::call(name)?) };
+        Ok(best(|| drop(black_box(port(black_box(&case), None)))))
+    };
+    println!("\n## `inner_pair` and `matching_bracket_pos` at the same place\n");
+    println!("| Text | Place | `inner_pair` | `matching_bracket_pos` | Ratio |\n|---|---|---|---|---|");
+    for (_, n) in SIZES {
+        let mut one = prose(n, false);
+        (one[0], one[n - 1]) = (0x28, 0x29);
+        let last = Caret::at((n / 60) as u32, (n % 60 - 1) as u32);
+        let nest: Vec<u32> = (0..n).map(|i| 0x28 + u32::from(i >= n / 2)).collect();
+        let rows: [(String, &[u32], &str, Caret); 4] = [
+            (format!("a pair around {n} code points"), &one, "its open", Caret::at(0, 0)),
+            (format!("a pair around {n} code points"), &one, "its close", last),
+            (format!("a nest of {n}"), &nest, "the outermost open", Caret::at(0, 0)),
+            (format!("a nest of {n}"), &nest, "the innermost close", Caret::at(0, (n / 2) as u32)),
+        ];
+        for (what, text, place, at) in rows {
+            let (inner, partner) = (time("inner_pair", text, at)?, time("matching_bracket_pos", text, at)?);
+            println!("| {what} | {place} | {} | {} | {:.2} |", shown(inner), shown(partner), inner / partner);
+        }
+    }
+    Ok(())
+}
+
 /// What a process of this program prints, or nothing where it takes too long.
 fn ask(words: &[&str]) -> Option<Vec<f64>> {
     let this = std::env::current_exe().expect("this program");
@@ -183,7 +210,8 @@ fn table() -> Result<(), String> {
         let size = n.to_string();
         for call in generate::calls(&[])? {
             let sized = [Input::Text, Input::Line, Input::Segments].iter().any(|x| call.takes.contains(x));
-            if !sized && n != SIZES[0].1 {
+            // the given Rust has no `inner_pair`: `pairs` times it
+            if (!sized && n != SIZES[0].1) || call.takes.contains(&Input::Kind) {
                 continue;
             }
             let counts: &[u32] = if call.takes.contains(&Input::Count) { &[1, u32::MAX] } else { &[0] };
@@ -219,7 +247,8 @@ fn main() {
     let done = match words.first().map(String::as_str) {
         Some("measure") => measure(&words[1], number(2) as usize, number(3) as u32),
         Some("alone") => alone(&words[1], number(2) as usize, number(3) as u32),
-        _ => table().map(|()| check()).and_then(|()| growth()),
+        Some("pairs") => pairs(),
+        _ => table().map(|()| check()).and_then(|()| growth()).and_then(|()| pairs()),
     };
     if let Err(why) = done {
         eprintln!("speed: {why}");

@@ -9,13 +9,13 @@ row-fits : tie.Need-cast-t6
 row-fits c =
     let at-partner = c .before .before in
     let fits = rw (at-partner .m .given .1) at (at-partner .before .before .pre) in
-    omega (arith, fits .0)
+    omega (arith, fits .row-small)
 
 col-fits : tie.Need-cast-t7
 col-fits c =
     let at-partner = c .before .before .before in
     let fits = rw (at-partner .m .given .1) at (at-partner .before .before .pre) in
-    omega (arith, fits .1)
+    omega (arith, fits .col-small)
 
 returns : tie.Need-returns
 unfolding partnered

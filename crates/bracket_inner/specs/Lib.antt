@@ -1,0 +1,4 @@
+pub mod Inner
+pub mod Walk
+pub mod Encloses
+pub mod Innermost
