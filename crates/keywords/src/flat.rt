@@ -1,10 +1,10 @@
 // The keyword test for a loop over characters: the table flattened once into bounds that are lent,
-// and the letters table lent.
+// and the ranges of the letters lent.
 use crate::KeywordSpec;
 ghost use mathlib.Core.Path.{_≡_};
 ghost use Prim.Native.Nat.{_+_, _≤_};
 ghost use lib.ListN.{length, take};
-ghost use Rattle.letters.specs.Letters.{letters};
+ghost use Rattle.letters.specs.Letters.{LetterRanges};
 ghost use Rattle.keywords.specs.Table.{kept};
 ghost use Rattle.keywords.specs.Flat.{flat, padded, anyAlpha, within, flatHolds};
 
@@ -61,14 +61,21 @@ pub fn in_bounds(bounds: &[u32], n: usize, c: u32) -> bool
 }
 
 // Whether c is in one of the first n pairs of bounds or, where `alphabetic`, a letter.
-pub fn holds(bounds: &[u32], n: usize, alphabetic: bool, table: &[u32], c: u32) -> bool
-    requires { ⌜ (n + n ≤ length (now bounds)) × (now table ≡ letters) ⌝ }
+pub fn holds(
+    bounds: &[u32],
+    n: usize,
+    alphabetic: bool,
+    starts: &[u32],
+    lengths: &[u16],
+    c: u32,
+) -> bool
+    requires { ⌜ (n + n ≤ length (now bounds)) × LetterRanges (now starts) (now lengths) ⌝ }
     ensures { λ r. ⌜ r ≡ flatHolds (take (n + n) (now (bounds .entry))) alphabetic c ⌝ }
 {
     if !alphabetic {
         return in_bounds(bounds, n, c);
     }
-    if letters::letter_in(table, c) {
+    if letters::letter_in(starts, lengths, c) {
         return true;
     }
     in_bounds(bounds, n, c)

@@ -1,9 +1,17 @@
--- What the contracts of `src/lib.rt` cite: the property Alphabetic, by the generated table of its bounds.
+-- What the contracts of `src/lib.rt` cite: the property Alphabetic, by the generated table of its bounds, and its ranges as they are lent.
 -- Document 01, "Character facts". Definitions only. Assumes nothing.
 use Prim.Native.Nat.{ℕ}
+use mathlib.Core.Path.{_≡_}
 use mathlib.Core.Bool.{Bool}
+use mathlib.Core.List.{List}
 use Rattle.ranges.specs.Ranges.{inTable}
+use Rattle.ranges.specs.Lengths.{startsOf, lengthsOf}
 unfoldable pub use Rattle.letters.specs.LetterTable.{letters}
 
 unfoldable pub isLetter : ℕ → Bool
 isLetter x = inTable x letters
+
+-- what is lent is where the ranges start, and how many code points each has
+pub record LetterRanges (starts lengths : List ℕ) : Type 0 where
+  pub starts-are : starts ≡ startsOf letters
+  pub lengths-are : lengths ≡ lengthsOf letters

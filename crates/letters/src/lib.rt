@@ -1,13 +1,14 @@
 // Letters: the property Alphabetic, as `char::is_alphabetic`. Document 01, "Character facts". A
-// table that a function names is built anew at each call of it, so a loop takes `letter_in` and
-// lends the table.
+// const that a function names is built anew at each call of it, so a loop takes `letter_in` and
+// lends both, the starts of the ranges and their lengths.
 ghost use mathlib.Core.Path.{_≡_};
 ghost use Prim.Native.Nat.{_≤_, _<_};
-ghost use Rattle.letters.specs.Letters.{letters, isLetter};
+ghost use Rattle.letters.specs.Letters.{isLetter, LetterRanges};
 
 mod letter_table;
 
-pub use letter_table::LETTERS;
+pub use letter_table::LETTER_LENGTHS;
+pub use letter_table::LETTER_STARTS;
 
 // Whether x, below U+00AA, is a letter: A to Z or a to z.
 fn low_letter(x: u32) -> bool
@@ -37,9 +38,9 @@ fn latin_letter(x: u32) -> bool
                 | (((0xc0 <= x) & (x < 0xd7)) | (((0xd8 <= x) & (x < 0xf7)) | (0xf8 <= x)))))
 }
 
-// Whether x is a letter, by the table LETTERS that is lent.
-pub fn letter_in(table: &[u32], x: u32) -> bool
-    requires { ⌜ now table ≡ letters ⌝ }
+// Whether x is a letter, by LETTER_STARTS and LETTER_LENGTHS that are lent.
+pub fn letter_in(starts: &[u32], lengths: &[u16], x: u32) -> bool
+    requires { ⌜ LetterRanges (now starts) (now lengths) ⌝ }
     ensures { λ r. ⌜ r ≡ isLetter x ⌝ }
 {
     if x < 0xaa {
@@ -48,14 +49,14 @@ pub fn letter_in(table: &[u32], x: u32) -> bool
     if x < 0x2c2 {
         return latin_letter(x);
     }
-    ranges::in_table(table, x)
+    ranges::in_ranges(starts, lengths, x)
 }
 
-// The same for one that is not low: names the table.
+// The same for one that is not low: names the two consts.
 fn high_letter(x: u32) -> bool
     ensures { λ r. ⌜ r ≡ isLetter x ⌝ }
 {
-    letter_in(&LETTERS, x)
+    letter_in(&LETTER_STARTS, &LETTER_LENGTHS, x)
 }
 
 // Whether x is a letter.

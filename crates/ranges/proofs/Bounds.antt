@@ -3,35 +3,14 @@
 use mathlib.Core.Path.{_≡_, refl, _∙_, sym, ap}
 use mathlib.Core.Bool.{Bool, true, false, _&&_, _||_}
 use mathlib.Core.List.{List, [], _∷_, _++_}
-use Prim.Native.Nat.{ℕ, zero, suc, _+_, _%_, _≤_, _<_}
+use Prim.Native.Nat.{ℕ, zero, suc, _%_, _≤_, _<_}
 use native.Mathlib.Nat.{le-of-suc-le-suc, not-suc-le-zero}
 use native.Mathlib.Omega.{arith}
 use lib.Dec.{T, leb, ltb, eqb}
 use lib.ListN.{length, getD}
 use borrow.Author.Tests.{le-ltb, lt-ltb, le-leb, lt-leb}
-use Rattle.ranges.specs.Ranges.{inTable, climbs, ascending}
-use Rattle.ranges.proofs.Ascending.{and-right, climbs-all, ascending-tail, ascending-le}
-
--- the bounds before low are at most x, and those from high on are above it
-pub record Search (bs : List ℕ) (x low high : ℕ) : Type 0 where
-  pub order : low ≤ high
-  pub inside : high ≤ length bs
-  pub below : (k : ℕ) → k < low → getD bs k 0 ≤ x
-  pub above : (k : ℕ) → high ≤ k → k < length bs → x < getD bs k 0
-
-module _ {bs : List ℕ} {x low high : ℕ} (t : T (ascending bs)) (s : Search bs x low high) (mid : ℕ) where
-  pub search-up : low ≤ mid → mid < high → getD bs mid 0 ≤ x → Search bs x (mid + 1) high
-  search-up l h e =
-      record {
-        order = omega arith;
-        inside = s .inside;
-        below = λ k m. omega (arith, s .inside, ascending-le bs t k mid (omega arith) (omega arith));
-        above = s .above;
-      }
-
-  pub search-down : low ≤ mid → mid < high → x < getD bs mid 0 → Search bs x low mid
-  search-down l h e =
-      record { order = l; inside = omega arith; below = s .below; above = λ k m n. omega (arith, ascending-le bs t mid k m n) }
+use Rattle.ranges.specs.Ranges.{inTable, climbs, ascending, UpTo}
+use Rattle.ranges.proofs.Ascending.{and-right, climbs-all, ascending-tail}
 
 odd : ℕ → Bool
 odd zero = false
@@ -45,20 +24,19 @@ odd-mod (suc zero) = refl
 odd-mod (suc (suc n)) = let e : suc (suc n) % 2 ≡ n % 2 = omega arith in ap (λ (m : ℕ). eqb m 1) e ∙ odd-mod n
 
 -- two bounds fewer
-rest : {s e x : ℕ} {bs : List ℕ} {r : ℕ} → Search (s ∷ e ∷ bs) x (suc (suc r)) (suc (suc r)) → Search bs x r r
+rest : {s e x : ℕ} {bs : List ℕ} {r : ℕ} → UpTo (s ∷ e ∷ bs) x (suc (suc r)) → UpTo bs x r
 rest h =
     record {
-      order = omega arith;
       inside = omega (arith, h .inside);
       below = λ k l. h .below (suc (suc k)) (omega arith);
       above = λ k l m. h .above (suc (suc k)) (omega arith) (omega arith);
     }
 
 -- x is below every bound
-none : {x : ℕ} {bs : List ℕ} → ((k : ℕ) → k < length bs → x < getD bs k 0) → Search bs x 0 0
-none h = record { order = omega arith; inside = omega arith; below = λ k l. absurd (not-suc-le-zero l); above = λ k l. h k }
+pub none : {x : ℕ} {bs : List ℕ} → ((k : ℕ) → k < length bs → x < getD bs k 0) → UpTo bs x 0
+none h = record { inside = omega arith; below = λ k l. absurd (not-suc-le-zero l); above = λ k l. h k }
 
-odd-in : (x : ℕ) (bs : List ℕ) (r : ℕ) → Search bs x r r → odd r ≡ inTable x bs
+odd-in : (x : ℕ) (bs : List ℕ) (r : ℕ) → UpTo bs x r → odd r ≡ inTable x bs
 unfolding odd
 odd-in x [] zero h = refl
 odd-in x [] (suc r) h = absurd (not-suc-le-zero (h .inside))
@@ -72,8 +50,8 @@ odd-in x (s ∷ e ∷ bs) (suc zero) h =
 odd-in x (s ∷ e ∷ bs) (suc (suc r)) h =
     simp (le-leb _ _ (h .below 0 (omega arith)), le-ltb _ _ (h .below 1 (omega arith))) (odd-in x bs r (rest h))
 
-pub search-found : {bs : List ℕ} {x : ℕ} (r : ℕ) → Search bs x r r → eqb (r % 2) 1 ≡ inTable x bs
-search-found {bs} {x} r h = odd-mod r ∙ odd-in x bs r h
+pub up-to-odd : {bs : List ℕ} {x : ℕ} (r : ℕ) → UpTo bs x r → eqb (r % 2) 1 ≡ inTable x bs
+up-to-odd {bs} {x} r h = odd-mod r ∙ odd-in x bs r h
 
 none-in : (x b : ℕ) (bs : List ℕ) → T (climbs b bs) → x ≤ b → inTable x bs ≡ false
 unfolding odd

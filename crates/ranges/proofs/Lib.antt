@@ -1,2 +1,5 @@
 pub mod Ascending
 pub mod Bounds
+pub mod Lengths
+pub mod Search
+pub mod Worked

@@ -1,9 +1,10 @@
--- What the contract of `in_table` cites: a table of bounds, and the numbers that it holds.
+-- What the contracts of `up_to` and `in_table` cite: a table of bounds, and the numbers that it holds.
 -- Definitions only; the laws are in `proofs/Ascending.antt` and `proofs/Bounds.antt`. Assumes nothing.
 use mathlib.Core.Bool.{Bool, true, false, _&&_, _||_}
 use mathlib.Core.List.{List, [], _∷_}
-use Prim.Native.Nat.{ℕ}
+use Prim.Native.Nat.{ℕ, _≤_, _<_}
 use lib.Dec.{leb, ltb}
+use lib.ListN.{length, getD}
 
 -- x lies in a range of the table, s ≤ x < e; a last bound that stands alone begins a range without end
 abbrev pub inTable : ℕ → List ℕ → Bool
@@ -20,3 +21,9 @@ climbs b (a ∷ rest) = ltb b a && climbs a rest
 abbrev pub ascending : List ℕ → Bool
 ascending [] = true
 ascending (b ∷ rest) = climbs b rest
+
+-- the first r numbers of the table are at most x, and those after them are above it
+pub record UpTo (table : List ℕ) (x r : ℕ) : Type 0 where
+  pub inside : r ≤ length table
+  pub below : (k : ℕ) → k < r → getD table k 0 ≤ x
+  pub above : (k : ℕ) → r ≤ k → k < length table → x < getD table k 0

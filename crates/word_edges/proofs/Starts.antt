@@ -13,7 +13,7 @@ use Rattle.word_edges.specs.Words.{orEnd, fromEnd}
 use Rattle.word_edges.specs.Ready.{Ready}
 
 -- the same, on to another spot
-pub ready-at : {t bounds table : List ℕ} {s : Setting} {p : Spot} → Ready t bounds table s p → (q : Spot) → IsSpot t q → Ready t bounds table s q
+pub ready-at : {t bounds starts lengths : List ℕ} {s : Setting} {p : Spot} → Ready t bounds starts lengths s p → (q : Spot) → IsSpot t q → Ready t bounds starts lengths s q
 ready-at w q i = record { lent = w .lent; rows = w .rows; content = w .content; spot = i }
 
 -- from the row's end, with small words and big ones

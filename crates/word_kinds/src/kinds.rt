@@ -1,16 +1,16 @@
-// The kind of a character, by the bounds of a keyword list and a table of letters that are lent:
+// The kind of a character, by the bounds of a keyword list and the letters' ranges, all lent:
 // `is_word` and `char_kind` of motions.rs.
 use crate::Setting;
 ghost use mathlib.Core.Path.{_≡_};
 ghost use Rattle.word_kinds.specs.Lent.{wordBy, kindBy, Lends};
 
-// Whether x is a keyword character. Below U+02C2 the table of letters is not read.
-fn is_word(bounds: &[u32], table: &[u32], s: Setting, x: u32) -> bool
-    requires { ⌜ Lends (now bounds) (now table) s x ⌝ }
+// Whether x is a keyword character. Below U+02C2 the ranges of the letters are not read.
+fn is_word(bounds: &[u32; 256], starts: &[u32], lengths: &[u16], s: Setting, x: u32) -> bool
+    requires { ⌜ Lends (now bounds) (now starts) (now lengths) s x ⌝ }
     ensures { λ r. ⌜ r ≡ wordBy (now (bounds .entry)) s x ⌝ }
 {
     if x >= 0x2c2 {
-        return keywords::holds(bounds, s.pairs, s.letters, table, x);
+        return keywords::holds(bounds, s.pairs, s.letters, starts, lengths, x);
     }
     if !s.letters {
         return keywords::in_bounds(bounds, s.pairs, x);
@@ -22,8 +22,8 @@ fn is_word(bounds: &[u32], table: &[u32], s: Setting, x: u32) -> bool
 }
 
 // The kind of a character: 0 white space, 1 word, 2 punctuation.
-pub fn char_kind(bounds: &[u32], table: &[u32], s: Setting, x: u32) -> u32
-    requires { ⌜ Lends (now bounds) (now table) s x ⌝ }
+pub fn char_kind(bounds: &[u32; 256], starts: &[u32], lengths: &[u16], s: Setting, x: u32) -> u32
+    requires { ⌜ Lends (now bounds) (now starts) (now lengths) s x ⌝ }
     ensures { λ r. ⌜ r ≡ kindBy (now (bounds .entry)) s x ⌝ }
 {
     if chars::is_white(x) {
@@ -32,7 +32,7 @@ pub fn char_kind(bounds: &[u32], table: &[u32], s: Setting, x: u32) -> u32
     if s.big {
         return 1;
     }
-    if is_word(bounds, table, s, x) {
+    if is_word(bounds, starts, lengths, s, x) {
         return 1;
     }
     2

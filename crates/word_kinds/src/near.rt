@@ -15,8 +15,15 @@ ghost use Rattle.word_kinds.specs.Spots.{placeOf, IsSpot, wentOf, StepIn
 ghost use Rattle.word_kinds.specs.Lent.{kindBy, Bounds};
 
 // The kind of the character at a place, 3 at the row's end.
-pub fn kind_at(t: &[u32], bounds: &[u32], table: &[u32], s: Setting, p: Spot) -> u32
-    requires { ⌜ Bounds (now t) (now bounds) (now table) s × IsSpot (now t) p ⌝ }
+pub fn kind_at(
+    t: &[u32],
+    bounds: &[u32; 256],
+    starts: &[u32],
+    lengths: &[u16],
+    s: Setting,
+    p: Spot,
+) -> u32
+    requires { ⌜ Bounds (now t) (now bounds) (now starts) (now lengths) s × IsSpot (now t) p ⌝ }
     ensures { λ r.
         ⌜ r ≡ kindAt (now (t .entry)) (kindBy (now (bounds .entry)) s)
         (placeOf (now (t .entry)) p) ⌝ }
@@ -29,17 +36,24 @@ pub fn kind_at(t: &[u32], bounds: &[u32], table: &[u32], s: Setting, p: Spot) ->
     if x == 10 {
         return 3;
     }
-    kinds::char_kind(bounds, table, s, x)
+    kinds::char_kind(bounds, starts, lengths, s, x)
 }
 
 // The kind at a place, with the row's end as white space.
-pub fn cls(t: &[u32], bounds: &[u32], table: &[u32], s: Setting, p: Spot) -> u32
-    requires { ⌜ Bounds (now t) (now bounds) (now table) s × IsSpot (now t) p ⌝ }
+pub fn cls(
+    t: &[u32],
+    bounds: &[u32; 256],
+    starts: &[u32],
+    lengths: &[u16],
+    s: Setting,
+    p: Spot,
+) -> u32
+    requires { ⌜ Bounds (now t) (now bounds) (now starts) (now lengths) s × IsSpot (now t) p ⌝ }
     ensures { λ r.
         ⌜ r ≡ cls (now (t .entry)) (kindBy (now (bounds .entry)) s)
         (placeOf (now (t .entry)) p) ⌝ }
 {
-    let k = kind_at(t, bounds, table, s, p);
+    let k = kind_at(t, bounds, starts, lengths, s, p);
     if k == 3 { 0 } else { k }
 }
 

@@ -12,8 +12,17 @@ ghost use Rattle.word_kinds.specs.Spots.{placeOf, IsSpot};
 ghost use Rattle.word_kinds.specs.Lent.{kindBy, Bounds};
 
 // On over the places of the kinds a and b, in this row and the next ones.
-pub fn skip(t: &[u32], bounds: &[u32], table: &[u32], s: Setting, a: u32, b: u32, p: Spot) -> Halted
-    requires { ⌜ Bounds (now t) (now bounds) (now table) s × IsSpot (now t) p ⌝ }
+pub fn skip(
+    t: &[u32],
+    bounds: &[u32; 256],
+    starts: &[u32],
+    lengths: &[u16],
+    s: Setting,
+    a: u32,
+    b: u32,
+    p: Spot,
+) -> Halted
+    requires { ⌜ Bounds (now t) (now bounds) (now starts) (now lengths) s × IsSpot (now t) p ⌝ }
     ensures { λ r.
         ⌜ (haltOf (now (t .entry)) r ≡
         skip (now (t .entry)) (kindBy (now (bounds .entry)) s) a b (placeOf (now (t .entry)) p)) ×
@@ -21,7 +30,7 @@ pub fn skip(t: &[u32], bounds: &[u32], table: &[u32], s: Setting, a: u32, b: u32
 {
     let mut cur = p;
     loop {
-        let k = near::kind_at(t, bounds, table, s, cur);
+        let k = near::kind_at(t, bounds, starts, lengths, s, cur);
         if !((k == a) | (k == b)) {
             return Halted::Done(cur);
         }
@@ -37,8 +46,16 @@ pub fn skip(t: &[u32], bounds: &[u32], table: &[u32], s: Setting, a: u32, b: u32
 }
 
 // On over the places of a kind in the place's row; the next row's first place ends it.
-pub fn leave(t: &[u32], bounds: &[u32], table: &[u32], s: Setting, kind: u32, p: Spot) -> Halted
-    requires { ⌜ Bounds (now t) (now bounds) (now table) s × IsSpot (now t) p ⌝ }
+pub fn leave(
+    t: &[u32],
+    bounds: &[u32; 256],
+    starts: &[u32],
+    lengths: &[u16],
+    s: Setting,
+    kind: u32,
+    p: Spot,
+) -> Halted
+    requires { ⌜ Bounds (now t) (now bounds) (now starts) (now lengths) s × IsSpot (now t) p ⌝ }
     ensures { λ r.
         ⌜ (haltOf (now (t .entry)) r ≡
         leave (now (t .entry)) (kindBy (now (bounds .entry)) s) kind (placeOf (now (t .entry)) p)) ×
@@ -47,7 +64,7 @@ pub fn leave(t: &[u32], bounds: &[u32], table: &[u32], s: Setting, kind: u32, p:
     let row = p.row;
     let mut cur = p;
     loop {
-        let k = near::kind_at(t, bounds, table, s, cur);
+        let k = near::kind_at(t, bounds, starts, lengths, s, cur);
         if !((k == kind) & (cur.row == row)) {
             return Halted::Done(cur);
         }
@@ -63,8 +80,16 @@ pub fn leave(t: &[u32], bounds: &[u32], table: &[u32], s: Setting, kind: u32, p:
 }
 
 // On to the last place of a kind in the place's row.
-pub fn run(t: &[u32], bounds: &[u32], table: &[u32], s: Setting, kind: u32, p: Spot) -> Halted
-    requires { ⌜ Bounds (now t) (now bounds) (now table) s × IsSpot (now t) p ⌝ }
+pub fn run(
+    t: &[u32],
+    bounds: &[u32; 256],
+    starts: &[u32],
+    lengths: &[u16],
+    s: Setting,
+    kind: u32,
+    p: Spot,
+) -> Halted
+    requires { ⌜ Bounds (now t) (now bounds) (now starts) (now lengths) s × IsSpot (now t) p ⌝ }
     ensures { λ r.
         ⌜ (haltOf (now (t .entry)) r ≡
         run (now (t .entry)) (kindBy (now (bounds .entry)) s) kind (placeOf (now (t .entry)) p)) ×
@@ -74,7 +99,7 @@ pub fn run(t: &[u32], bounds: &[u32], table: &[u32], s: Setting, kind: u32, p: S
     loop {
         match near::step_forward(t, cur) {
             Step::At(q) => {
-                let k = near::kind_at(t, bounds, table, s, q);
+                let k = near::kind_at(t, bounds, starts, lengths, s, q);
                 if !((q.row == cur.row) & (k == kind)) {
                     return Halted::Done(cur);
                 }
@@ -88,8 +113,16 @@ pub fn run(t: &[u32], bounds: &[u32], table: &[u32], s: Setting, kind: u32, p: S
 }
 
 // Back over the places of a class; an empty row ends it.
-pub fn back(t: &[u32], bounds: &[u32], table: &[u32], s: Setting, class: u32, p: Spot) -> Halted
-    requires { ⌜ Bounds (now t) (now bounds) (now table) s × IsSpot (now t) p ⌝ }
+pub fn back(
+    t: &[u32],
+    bounds: &[u32; 256],
+    starts: &[u32],
+    lengths: &[u16],
+    s: Setting,
+    class: u32,
+    p: Spot,
+) -> Halted
+    requires { ⌜ Bounds (now t) (now bounds) (now starts) (now lengths) s × IsSpot (now t) p ⌝ }
     ensures { λ r.
         ⌜ (haltOf (now (t .entry)) r ≡
         back (now (t .entry)) (kindBy (now (bounds .entry)) s) class (placeOf (now (t .entry)) p)) ×
@@ -97,7 +130,7 @@ pub fn back(t: &[u32], bounds: &[u32], table: &[u32], s: Setting, class: u32, p:
 {
     let mut cur = p;
     loop {
-        let k = near::cls(t, bounds, table, s, cur);
+        let k = near::cls(t, bounds, starts, lengths, s, cur);
         if !((k == class) & !near::on_empty_row(t, cur)) {
             return Halted::Done(cur);
         }

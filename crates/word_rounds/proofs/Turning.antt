@@ -59,13 +59,13 @@ module _ (t : List ℕ) (kind : ℕ → ℕ) (stop : Bool) {f j : Position} (a :
       ap (turn f) b ∙ (h ∙ ap (endTurn t kind stop) a)
 
 -- what a round requires, for its parts
-module _ {t folds bounds table : List ℕ} {s : Setting} {p : Spot} (w : Set t folds bounds table s p) where
-  pub set-at : (q : Spot) → IsSpot t q → Set t folds bounds table s q
+module _ {t folds bounds starts lengths : List ℕ} {s : Setting} {p : Spot} (w : Set t folds bounds starts lengths s p) where
+  pub set-at : (q : Spot) → IsSpot t q → Set t folds bounds starts lengths s q
   set-at q i =
       let f = w .folded in
       record { lent = w .lent; folded = record { good = f .good; all-rows = f .all-rows; content-rows = f .content-rows; spot = i } }
 
-  pub set-ready : (q : Spot) → IsSpot t q → Ready t bounds table s q
+  pub set-ready : (q : Spot) → IsSpot t q → Ready t bounds starts lengths s q
   set-ready q i = record { lent = w .lent; rows = w .folded .all-rows; content = w .folded .content-rows; spot = i }
 
 -- one offset is one place

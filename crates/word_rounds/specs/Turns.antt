@@ -37,6 +37,6 @@ pub record Folded (t folds : List ℕ) (rows content : ℕ) (p : Spot) : Type 0 
   pub content-rows : content ≡ contentRows t
   pub spot : IsSpot t p
 
-pub record Set (t folds bounds table : List ℕ) (s : Setting) (p : Spot) : Type 0 where
-  pub lent : Bounds t bounds table s
+pub record Set (t folds bounds starts lengths : List ℕ) (s : Setting) (p : Spot) : Type 0 where
+  pub lent : Bounds t bounds starts lengths s
   pub folded : Folded t folds (s .rows) (s .content) p

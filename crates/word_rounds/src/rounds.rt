@@ -25,8 +25,16 @@ fn turned(from: Spot, found: Step) -> Round
 }
 
 // A round of `move_word_fwd`.
-fn fwd_round(t: &[u32], folds: &[u32], bounds: &[u32], table: &[u32], s: Setting, p: Spot) -> Round
-    requires { ⌜ Set (now t) (now folds) (now bounds) (now table) s p ⌝ }
+fn fwd_round(
+    t: &[u32],
+    folds: &[u32],
+    bounds: &[u32; 256],
+    starts: &[u32],
+    lengths: &[u16],
+    s: Setting,
+    p: Spot,
+) -> Round
+    requires { ⌜ Set (now t) (now folds) (now bounds) (now starts) (now lengths) s p ⌝ }
     ensures { λ r.
         ⌜ (turnOf (now (t .entry)) r ≡
         roundOf (now (t .entry)) (now (folds .entry)) (kindBy (now (bounds .entry)) s) (s .big)
@@ -34,12 +42,21 @@ fn fwd_round(t: &[u32], folds: &[u32], bounds: &[u32], table: &[u32], s: Setting
         RoundIn (now (t .entry)) r ⌝ }
 {
     let from = out_of_folds::fold_jump_fwd(t, folds, s.rows, s.content, p);
-    turned(from, word_edges::next_word_start(t, bounds, table, s, from))
+    let next = word_edges::next_word_start(t, bounds, starts, lengths, s, from);
+    turned(from, next)
 }
 
 // A round of `move_word_back`.
-fn back_round(t: &[u32], folds: &[u32], bounds: &[u32], table: &[u32], s: Setting, p: Spot) -> Round
-    requires { ⌜ Set (now t) (now folds) (now bounds) (now table) s p ⌝ }
+fn back_round(
+    t: &[u32],
+    folds: &[u32],
+    bounds: &[u32; 256],
+    starts: &[u32],
+    lengths: &[u16],
+    s: Setting,
+    p: Spot,
+) -> Round
+    requires { ⌜ Set (now t) (now folds) (now bounds) (now starts) (now lengths) s p ⌝ }
     ensures { λ r.
         ⌜ (turnOf (now (t .entry)) r ≡
         roundOf (now (t .entry)) (now (folds .entry)) (kindBy (now (bounds .entry)) s) (s .big)
@@ -47,20 +64,22 @@ fn back_round(t: &[u32], folds: &[u32], bounds: &[u32], table: &[u32], s: Settin
         RoundIn (now (t .entry)) r ⌝ }
 {
     let from = out_of_folds::fold_jump_back(t, folds, s.rows, s.content, p);
-    turned(from, word_edges::prev_word_start(t, bounds, table, s, from))
+    let prev = word_edges::prev_word_start(t, bounds, starts, lengths, s, from);
+    turned(from, prev)
 }
 
 // A round of `move_word_end`; `stop` holds it at the end of a word.
 fn end_round(
     t: &[u32],
     folds: &[u32],
-    bounds: &[u32],
-    table: &[u32],
+    bounds: &[u32; 256],
+    starts: &[u32],
+    lengths: &[u16],
     s: Setting,
     stop: bool,
     p: Spot,
 ) -> Round
-    requires { ⌜ Set (now t) (now folds) (now bounds) (now table) s p ⌝ }
+    requires { ⌜ Set (now t) (now folds) (now bounds) (now starts) (now lengths) s p ⌝ }
     ensures { λ r.
         ⌜ (turnOf (now (t .entry)) r ≡
         roundOf (now (t .entry)) (now (folds .entry)) (kindBy (now (bounds .entry)) s) (s .big)
@@ -69,45 +88,50 @@ fn end_round(
 {
     let from = out_of_folds::fold_jump_fwd(t, folds, s.rows, s.content, p);
     if stop {
-        if word_edges::at_word_end(t, bounds, table, s, from) {
+        if word_edges::at_word_end(t, bounds, starts, lengths, s, from) {
             return Round::Next(from);
         }
-        return turned(from, word_edges::next_word_end(t, bounds, table, s, from));
+        let other = word_edges::next_word_end(t, bounds, starts, lengths, s, from);
+        return turned(from, other);
     }
-    turned(from, word_edges::next_word_end(t, bounds, table, s, from))
+    let end = word_edges::next_word_end(t, bounds, starts, lengths, s, from);
+    turned(from, end)
 }
 
 // A round of `move_word_end_back`, which takes no folds.
 fn end_back_round(
     t: &[u32],
     folds: &[u32],
-    bounds: &[u32],
-    table: &[u32],
+    bounds: &[u32; 256],
+    starts: &[u32],
+    lengths: &[u16],
     s: Setting,
     p: Spot,
 ) -> Round
-    requires { ⌜ Set (now t) (now folds) (now bounds) (now table) s p ⌝ }
+    requires { ⌜ Set (now t) (now folds) (now bounds) (now starts) (now lengths) s p ⌝ }
     ensures { λ r.
         ⌜ (turnOf (now (t .entry)) r ≡
         roundOf (now (t .entry)) (now (folds .entry)) (kindBy (now (bounds .entry)) s) (s .big)
         variant.EndBack false (placeOf (now (t .entry)) p)) ×
         RoundIn (now (t .entry)) r ⌝ }
 {
-    turned(p, word_edges::prev_word_end(t, bounds, table, s, p))
+    let end = word_edges::prev_word_end(t, bounds, starts, lengths, s, p);
+    turned(p, end)
 }
 
 // A round of a motion.
 pub fn round(
     t: &[u32],
     folds: &[u32],
-    bounds: &[u32],
-    table: &[u32],
+    bounds: &[u32; 256],
+    starts: &[u32],
+    lengths: &[u16],
     s: Setting,
     m: Motion,
     stop: bool,
     p: Spot,
 ) -> Round
-    requires { ⌜ Set (now t) (now folds) (now bounds) (now table) s p ⌝ }
+    requires { ⌜ Set (now t) (now folds) (now bounds) (now starts) (now lengths) s p ⌝ }
     ensures { λ r.
         ⌜ (turnOf (now (t .entry)) r ≡
         roundOf (now (t .entry)) (now (folds .entry)) (kindBy (now (bounds .entry)) s) (s .big) m
@@ -115,9 +139,9 @@ pub fn round(
         RoundIn (now (t .entry)) r ⌝ }
 {
     match m {
-        Motion::Fwd => fwd_round(t, folds, bounds, table, s, p),
-        Motion::Back => back_round(t, folds, bounds, table, s, p),
-        Motion::End => end_round(t, folds, bounds, table, s, stop, p),
-        Motion::EndBack => end_back_round(t, folds, bounds, table, s, p),
+        Motion::Fwd => fwd_round(t, folds, bounds, starts, lengths, s, p),
+        Motion::Back => back_round(t, folds, bounds, starts, lengths, s, p),
+        Motion::End => end_round(t, folds, bounds, starts, lengths, s, stop, p),
+        Motion::EndBack => end_back_round(t, folds, bounds, starts, lengths, s, p),
     }
 }

@@ -43,7 +43,7 @@ module _ (t folds : List ℕ) {w : Stretch} (b : NoFold folds w) (p : Position) 
   round-bare kind big EndBack stop = refl
 
 -- what a round without folds requires
-pub set-bare : {t folds bounds table : List ℕ} {s : Setting} {p : Spot} → Set t folds bounds table s p → Set t [] bounds table s p
+pub set-bare : {t folds bounds starts lengths : List ℕ} {s : Setting} {p : Spot} → Set t folds bounds starts lengths s p → Set t [] bounds starts lengths s p
 unfolding foldRefusal anyFold
 set-bare z =
     let f = z .folded in

@@ -12,7 +12,7 @@ use Rattle.word_kinds.specs.Places.{kindOf}
 use Rattle.word_kinds.specs.Lent.{kindBy, isHigh}
 use Rattle.words.specs.declared.Prepared.{Prepared}
 
--- the kinds by the bounds are those by the list's tokens, the numbers those handed in, and `high` tells whether the text needs the table of letters
+-- the kinds by the bounds are those by the list's tokens, the numbers those handed in, and `high` tells whether the text needs the ranges of the letters
 pub record Prepares (t : List ℕ) (spec : KeywordSpec) (big : Bool) (rows content : ℕ) (r : Prepared) : Type 0 where
   pub kinds : kindBy (r .bounds) (r .setting) ≡ kindOf (anyToken (kept spec)) big
   pub room : r .setting .pairs + r .setting .pairs ≤ length (r .bounds)

@@ -29,37 +29,38 @@ fn rest(count: u32) -> u32
     count - 1
 }
 
-// A motion, by bounds, a table of letters and a setting that were made before. `stop` holds in the
+// A motion, by bounds, ranges of letters and a setting that were made before. `stop` holds in the
 // first round alone.
 pub fn walk(
     t: &[u32],
     folds: &[u32],
-    bounds: &[u32],
-    table: &[u32],
+    bounds: &[u32; 256],
+    starts: &[u32],
+    lengths: &[u16],
     s: Setting,
     m: Motion,
     stop: bool,
     count: u32,
     p: Spot,
 ) -> Spot
-    requires { ⌜ Set (now t) (now folds) (now bounds) (now table) s p ⌝ }
+    requires { ⌜ Set (now t) (now folds) (now bounds) (now starts) (now lengths) s p ⌝ }
     ensures { λ r.
         ⌜ (placeOf (now (t .entry)) r ≡
         wordMotion (now (t .entry)) (now (folds .entry)) (kindBy (now (bounds .entry)) s)
         (s .big) m stop count (placeOf (now (t .entry)) p)) ×
         IsSpot (now (t .entry)) r ⌝ }
 {
-    match word_rounds::rounds::round(t, folds, bounds, table, s, m, stop, p) {
-        Round::Next(q) => rounds::rounds(t, folds, bounds, table, s, m, rest(count), q),
+    match word_rounds::rounds::round(t, folds, bounds, starts, lengths, s, m, stop, p) {
+        Round::Next(q) => rounds::rounds(t, folds, bounds, starts, lengths, s, m, rest(count), q),
         Round::Last(q) => q,
     }
 }
 
-// The same with the table of letters, which is named here, where there is no loop.
+// The same with the ranges of the letters, which are named here, where there is no loop.
 fn walk_with_letters(
     t: &[u32],
     folds: &[u32],
-    bounds: &[u32],
+    bounds: &[u32; 256],
     s: Setting,
     m: Motion,
     stop: bool,
@@ -74,12 +75,23 @@ fn walk_with_letters(
         (s .big) m stop count (placeOf (now (t .entry)) p)) ×
         IsSpot (now (t .entry)) r ⌝ }
 {
-    walk(t, folds, bounds, &letters::LETTERS, s, m, stop, count, p)
+    walk(
+        t,
+        folds,
+        bounds,
+        &letters::LETTER_STARTS,
+        &letters::LETTER_LENGTHS,
+        s,
+        m,
+        stop,
+        count,
+        p,
+    )
 }
 
-// A word motion from a place of a text with so many rows, and rows with content. The table of
-// letters is lent where the text may need it, and else the bounds in its place, which are then not
-// read as letters.
+// A word motion from a place of a text with so many rows, and rows with content. The ranges of the
+// letters are lent where the text may need them, and else other numbers, which are then not read as
+// letters.
 pub fn word_motion(
     t: &[u32],
     folds: &[u32],
@@ -105,5 +117,7 @@ pub fn word_motion(
     if made.high {
         return walk_with_letters(t, folds, &bounds, s, m, stop, count, p);
     }
-    walk(t, folds, &bounds, &bounds, s, m, stop, count, p)
+    let starts = [0u32; 1];
+    let lengths = [0u16; 1];
+    walk(t, folds, &bounds, &starts, &lengths, s, m, stop, count, p)
 }

@@ -12,7 +12,7 @@ pub use entry::word_motion;
 pub use once::prepare;
 
 // What the walks of a text and a keyword list go by: the bounds of the list's table, the setting,
-// and whether the text has a code point for which the table of letters is read.
+// and whether the text has a code point for which the ranges of the letters are read.
 pub struct Prepared {
     pub bounds: [u32; 256],
     pub setting: Setting,

@@ -8,7 +8,7 @@ ghost use Rattle.lists.specs.Lists.{any};
 ghost use Rattle.word_kinds.specs.Lent.{isHigh};
 ghost use Rattle.words.specs.Prepared.{Prepares};
 
-// Whether the text has a code point for which the table of letters is read.
+// Whether the text has a code point for which the ranges of the letters are read.
 fn has_high(t: &[u32]) -> bool
     ensures { λ r. ⌜ r ≡ any isHigh (now (t .entry)) ⌝ }
 {
@@ -21,8 +21,8 @@ fn has_high(t: &[u32]) -> bool
     high
 }
 
-// The bounds of the list's table, the setting, and whether the text needs the table of letters. The
-// rows of the text, and those with content, are handed in.
+// The bounds of the list's table, the setting, and whether the text needs the ranges of the letters.
+// The rows of the text, and those with content, are handed in.
 pub fn prepare(t: &[u32], spec: KeywordSpec, big: bool, rows: usize, content: usize) -> Prepared
     requires { ⌜ spec .len ≤ 128 ⌝ }
     ensures { λ r. ⌜ Prepares (now (t .entry)) spec big rows content r ⌝ }

@@ -18,14 +18,15 @@ ghost use Rattle.word_rounds.specs.Turns.{turnOf, RoundIn, Set};
 fn round_near(
     t: &[u32],
     folds: &[u32],
-    bounds: &[u32],
-    table: &[u32],
+    bounds: &[u32; 256],
+    starts: &[u32],
+    lengths: &[u16],
     s: Setting,
     m: Motion,
     w: Stretch,
     p: Spot,
 ) -> Round
-    requires { ⌜ Set (now t) (now folds) (now bounds) (now table) s p × NoFold (now folds) w ⌝ }
+    requires { ⌜ Set (now t) (now folds) (now bounds) (now starts) (now lengths) s p × NoFold (now folds) w ⌝ }
     ensures { λ r.
         ⌜ (turnOf (now (t .entry)) r ≡
         roundOf (now (t .entry)) (now (folds .entry)) (kindBy (now (bounds .entry)) s) (s .big) m
@@ -34,9 +35,9 @@ fn round_near(
 {
     if (w.lo <= p.row) & (p.row < w.hi) {
         let none = &folds[..0];
-        return word_rounds::rounds::round(t, none, bounds, table, s, m, false, p);
+        return word_rounds::rounds::round(t, none, bounds, starts, lengths, s, m, false, p);
     }
-    word_rounds::rounds::round(t, folds, bounds, table, s, m, false, p)
+    word_rounds::rounds::round(t, folds, bounds, starts, lengths, s, m, false, p)
 }
 
 // Rounds up to a count. One that changes nothing ends them: where a closed fold covers the end of
@@ -48,14 +49,15 @@ fn round_near(
 pub fn rounds(
     t: &[u32],
     folds: &[u32],
-    bounds: &[u32],
-    table: &[u32],
+    bounds: &[u32; 256],
+    starts: &[u32],
+    lengths: &[u16],
     s: Setting,
     m: Motion,
     count: u32,
     p: Spot,
 ) -> Spot
-    requires { ⌜ Set (now t) (now folds) (now bounds) (now table) s p ⌝ }
+    requires { ⌜ Set (now t) (now folds) (now bounds) (now starts) (now lengths) s p ⌝ }
     ensures { λ r.
         ⌜ (placeOf (now (t .entry)) r ≡
         counted
@@ -69,7 +71,7 @@ pub fn rounds(
     let mut w = fold_stretches::around(folds, s.rows, p.row);
     while left > 0 {
         w = fold_stretches::near(folds, s.rows, w, cur.row);
-        match round_near(t, folds, bounds, table, s, m, w, cur) {
+        match round_near(t, folds, bounds, starts, lengths, s, m, w, cur) {
             Round::Next(q) => {
                 if q.at == cur.at {
                     return cur;

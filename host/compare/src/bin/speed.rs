@@ -81,22 +81,19 @@ fn facts(name: &str) -> Option<(Fact, Fact)> {
 }
 
 /// Such a call is too short to be timed alone: both go through the text, a call for each code point.
-fn measure_facts((library, rust): (Fact, Fact), text: &[u32]) {
-    for fact in [library, rust] {
-        let through = || {
-            for &x in text {
-                black_box(black_box(fact)(x));
-            }
-        };
-        println!("{}", best(through));
-    }
+fn through(text: &[u32], fact: Fact) -> f64 {
+    best(|| {
+        for &x in text {
+            black_box(black_box(fact)(x));
+        }
+    })
 }
 
 /// One case, in this process: the library's time, then the Rust's.
 fn measure(name: &str, n: usize, count: u32) -> Result<(), String> {
     let case = case(oracle::case::call(name)?, n, count);
     if let Some(both) = facts(name) {
-        measure_facts(both, &case.text);
+        println!("{}\n{}", through(&case.text, both.0), through(&case.text, both.1));
         return Ok(());
     }
     if port(&case, None) != case.answer() {
@@ -180,6 +177,30 @@ fn pairs() -> Result<(), String> {
     Ok(())
 }
 
+/// What the search of the letters costs: a text of Cyrillic letters, for each of which their ranges are searched.
+fn letters() -> Result<(), String> {
+    let n = SIZES[1].1;
+    println!("\n## Cyrillic letters, 100,000 code points\n\n| Call | Library | Given Rust | Ratio |\n|---|---|---|---|");
+    let row = |what: &str, library: f64, rust: f64| {
+        println!("| {what} | {} | {} | {:.2} |", shown(library), shown(rust), library / rust);
+    };
+    let text: Vec<u32> = prose(n, false).into_iter().map(|x| if x > 0x20 { 0x400 + x % 0x50 } else { x }).collect();
+    let (library, rust) = facts("is_letter").expect("a fact");
+    row("`is_letter`, each of them", through(&text, library), through(&text, rust));
+    for name in ["move_word_fwd", "move_word_back", "move_word_end", "move_word_end_back"] {
+        for (with, count) in [("count 1", 1), ("largest count", u32::MAX)] {
+            let mut case = case(oracle::case::call(name)?, n, count);
+            case.text = text.clone();
+            if port(&case, None) != case.answer() {
+                return Err(format!("the answers differ on {name}"));
+            }
+            let library = best(|| drop(black_box(port(black_box(&case), None))));
+            row(&format!("`{name}`, {with}"), library, best(|| drop(black_box(black_box(&case).answer()))));
+        }
+    }
+    Ok(())
+}
+
 /// What a process of this program prints, or nothing where it takes too long.
 fn ask(words: &[&str]) -> Option<Vec<f64>> {
     let this = std::env::current_exe().expect("this program");
@@ -248,7 +269,8 @@ fn main() {
         Some("measure") => measure(&words[1], number(2) as usize, number(3) as u32),
         Some("alone") => alone(&words[1], number(2) as usize, number(3) as u32),
         Some("pairs") => pairs(),
-        _ => table().map(|()| check()).and_then(|()| growth()).and_then(|()| pairs()),
+        Some("letters") => letters(),
+        _ => table().and_then(|()| letters()).map(|()| check()).and_then(|()| growth()).and_then(|()| pairs()),
     };
     if let Err(why) = done {
         eprintln!("speed: {why}");

@@ -6,19 +6,19 @@ use Rattle.keywords.proofs.flat.holds.Statement.{statement}
 use Rattle.keywords.proofs.flat.holds.Tie as tie
 
 returns : tie.Need-returns
-returns c = rw (not-true (c .before .before .before .before .args .alphabetic) (c .before .if1 .taken)) (c .in-bounds .ensures)
+returns c = rw (not-true (c .before .before .before .before .before .args .alphabetic) (c .before .if1 .taken)) (c .in-bounds .ensures)
 
 returns-2 : tie.Need-returns-2
 returns-2 c =
     rw (
-      not-false (c .before .before .before .before .before .args .alphabetic) (c .before .before .if1 .left),
+      not-false (c .before .before .before .before .before .before .args .alphabetic) (c .before .before .if1 .left),
       sym (c .before .letter-in .ensures) ∙ c .if2 .taken,
     )
 
 returns-3 : tie.Need-returns-3
 returns-3 c =
     rw (
-      not-false (c .before .before .before .before .before .before .args .alphabetic) (c .before .before .before .if1 .left),
+      not-false (c .before .before .before .before .before .before .before .args .alphabetic) (c .before .before .before .if1 .left),
       sym (c .before .before .letter-in .ensures) ∙ c .before .if2 .left,
     )
     (c .in-bounds2 .ensures)

@@ -5,16 +5,16 @@ use borrow.Author.Needs.{needs}
 use Rattle.word_kinds.proofs.kinds.is_word.Statement.{statement}
 use Rattle.word_kinds.proofs.kinds.is_word.Tie as tie
 
--- a high code point reads the table
+-- a high code point reads the ranges of the letters
 holds-requires : tie.Need-holds-requires
 holds-requires c κs =
-    let s = c .before .before .before in
-    (s .pre .room, s .pre .lent (le-leb _ _ (c .if1 .taken)))
+    let s = c .before .before .before .before in
+    (s .pre .room, s .pre .lent (le-leb _ _ (c .before .if1 .taken)))
 
 returns-2 : tie.Need-returns-2
 returns-2 c =
-    let s = c .before .before .before .before .before .before in
-    rw (not-true s.args.s.letters (c .before .if2 .taken)) (c .in-bounds .ensures)
+    let s = c .before .before .before .before .before .before .before in
+    rw (not-true s.args.s.letters (c .before .before .if2 .taken)) (c .in-bounds .ensures)
 
 returns-3 : tie.Need-returns-3
 returns-3 c =
@@ -23,9 +23,10 @@ returns-3 c =
 
 returns-4 : tie.Need-returns-4
 returns-4 c =
-    let b3 = c .before .before .before in
-    let s = b3 .before .before .before .before .before in
-    rw (not-false s.args.s.letters (b3 .if2 .left), sym (c .before .before .is-letter .ensures) ∙ c .before .if3 .left) (c .in-bounds2 .ensures)
+    let b4 = c .before .before .before .before in
+    let s = b4 .before .before .before .before .before in
+    rw (not-false s.args.s.letters (b4 .if2 .left), sym (c .before .before .before .is-letter .ensures) ∙ c .before .before .if3 .left)
+    (c .in-bounds2 .ensures)
 
 pub is-word-spec : {M : Type 1} → statement M
 is-word-spec =

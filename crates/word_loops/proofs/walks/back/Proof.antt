@@ -15,12 +15,12 @@ use Rattle.word_loops.proofs.walks.back.Statement.{statement}
 use Rattle.word_loops.proofs.walks.back.Tie as tie
 
 abbrev Inv-loop : tie.InvT-loop
-Inv-loop t bounds table s class cur₀ cur =
+Inv-loop t bounds starts lengths s class cur₀ cur =
     IsSpot t cur ×
     Walking (λ q. eqb (cls t (kindBy bounds s) q) class && not (onEmptyRow t q)) (dec t) (length t + 1) (placeOf t cur₀) (cur .at) (placeOf t cur)
 
 abbrev μ-loop : tie.MeasureT-loop
-μ-loop t bounds table s class cur₀ cur = cur .at
+μ-loop t bounds starts lengths s class cur₀ cur = cur .at
 
 loop-holds : tie.Need-loop-holds Inv-loop μ-loop
 loop-holds c =

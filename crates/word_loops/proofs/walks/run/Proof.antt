@@ -14,11 +14,11 @@ use Rattle.word_loops.proofs.walks.run.Statement.{statement}
 use Rattle.word_loops.proofs.walks.run.Tie as tie
 
 abbrev Inv-loop : tie.InvT-loop
-Inv-loop t bounds table s kind cur₀ cur =
+Inv-loop t bounds starts lengths s kind cur₀ cur =
     IsSpot t cur × Walking (goesOn t (kindBy bounds s) kind) (stepForward t) (length t + 1) (placeOf t cur₀) (length t - cur .at) (placeOf t cur)
 
 abbrev μ-loop : tie.MeasureT-loop
-μ-loop t bounds table s kind cur₀ cur = length t - cur .at
+μ-loop t bounds starts lengths s kind cur₀ cur = length t - cur .at
 
 loop-holds : tie.Need-loop-holds Inv-loop μ-loop
 loop-holds c =

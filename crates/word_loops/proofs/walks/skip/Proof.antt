@@ -15,14 +15,14 @@ use Rattle.word_loops.proofs.walks.skip.Statement.{statement}
 use Rattle.word_loops.proofs.walks.skip.Tie as tie
 
 abbrev Inv-loop : tie.InvT-loop
-Inv-loop t bounds table s a b cur₀ cur =
+Inv-loop t bounds starts lengths s a b cur₀ cur =
     IsSpot t cur ×
     Walking (λ q. eqb (kindAt t (kindBy bounds s) q) a || eqb (kindAt t (kindBy bounds s) q) b) (stepForward t) (length t + 1) (placeOf t cur₀)
     (length t - cur .at)
     (placeOf t cur)
 
 abbrev μ-loop : tie.MeasureT-loop
-μ-loop t bounds table s a b cur₀ cur = length t - cur .at
+μ-loop t bounds starts lengths s a b cur₀ cur = length t - cur .at
 
 loop-holds : tie.Need-loop-holds Inv-loop μ-loop
 loop-holds c =

@@ -1,4 +1,4 @@
--- `words::entry::walk_with_letters` meets its contract: the const is the table of letters. Assumes nothing.
+-- `words::entry::walk_with_letters` meets its contract: the consts are the starts and the lengths of the letters' ranges. Assumes nothing.
 use mathlib.Core.Path.{refl}
 use Rattle.letters.specs.Letters.{letters}
 use borrow.Author.Needs.{needs}
@@ -9,9 +9,9 @@ walk-requires : tie.Need-walk-requires
 unfolding letters
 walk-requires c κs =
     let s = c .before .before .before .before in
-    record { lent = record { room = s .pre .0; lent = λ h. refl }; folded = s .pre .1 }
+    record { lent = record { room = s .pre .0; lent = λ h. record { starts-are = refl; lengths-are = refl } }; folded = s .pre .1 }
 
 pub walk-with-letters-spec : {M : Type 1} → statement M
 walk-with-letters-spec =
     tie.close
-    (tie.spec (λ c. search needs) walk-requires (λ c. search needs))
+    (tie.spec (λ c. search needs) (λ c. search needs) walk-requires (λ c. search needs))

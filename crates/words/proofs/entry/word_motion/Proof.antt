@@ -1,5 +1,5 @@
--- `words::entry::word_motion` meets its contract: what was made is what the walk goes by, and a text with no high code point needs no table of
--- letters. Assumes nothing.
+-- `words::entry::word_motion` meets its contract: what was made is what the walk goes by, and a text with no high code point needs no ranges
+-- of the letters. Assumes nothing.
 use mathlib.Core.Path.{_≡_, sym, _∙_}
 use Prim.Native.Nat.{ℕ}
 use native.Mathlib.Omega.{arith}
@@ -24,9 +24,9 @@ returns c =
 -- no code point is high
 walk-requires : tie.Need-walk-requires
 walk-requires c κs =
-    let r = c .before .before .before .before .before in
+    let r = c .before .before .before .before .before .before in
     let made = r .prepare .ensures in
-    let low = sym (made .is-high) ∙ c .before .before .if1 .left in
+    let low = sym (made .is-high) ∙ c .before .before .before .if1 .left in
     record {
       lent = record { room = made .room; lent = λ h. let z : _≡_ {A = ℕ} 0 1 = cc (sym h ∙ low) in absurd (omega arith) };
       folded = made-folded made (r .before .before .before .pre .0);
@@ -34,7 +34,7 @@ walk-requires c κs =
 
 returns-2 : tie.Need-returns-2
 returns-2 c =
-    let r = c .before .before .before .before .before .before in
+    let r = c .before .before .before .before .before .before .before in
     let a = r .before .before .before .args in
     let e = made-motion (r .prepare .ensures) (a .folds .now) (a .m) (a .stop) (a .count) (placeOf (a .t .now) (a .p)) in
     (c .walk .ensures .0 ∙ e, c .walk .ensures .1)
@@ -42,4 +42,4 @@ returns-2 c =
 pub word-motion-spec : {M : Type 1} → statement M
 word-motion-spec =
     tie.close
-    (tie.spec (λ c κs. search needs) (λ c. search needs) walk-with-letters-requires returns (λ c. search needs) (λ c. search needs) walk-requires returns-2)
+    (tie.spec (λ c κs. search needs) walk-with-letters-requires returns (λ c. search needs) (λ c. search needs) walk-requires returns-2)

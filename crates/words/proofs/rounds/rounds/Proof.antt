@@ -14,14 +14,14 @@ use Rattle.words.proofs.rounds.rounds.Statement.{statement}
 use Rattle.words.proofs.rounds.rounds.Tie as tie
 
 abbrev Inv-loop : tie.InvT-loop
-Inv-loop t folds bounds table s m count cur₀ left₀ w₀ cur left w =
+Inv-loop t folds bounds starts lengths s m count cur₀ left₀ w₀ cur left w =
     IsSpot t cur ×
     (counted (roundOf t folds (kindBy bounds s) (s .big) m false) count (placeOf t cur₀) ≡
     counted (roundOf t folds (kindBy bounds s) (s .big) m false) left (placeOf t cur)) ×
     NoFold folds w
 
 abbrev μ-loop : tie.MeasureT-loop
-μ-loop t folds bounds table s m count cur₀ left₀ w₀ cur left w = left
+μ-loop t folds bounds starts lengths s m count cur₀ left₀ w₀ cur left w = left
 
 loop-holds : tie.Need-loop-holds Inv-loop μ-loop
 loop-holds c =

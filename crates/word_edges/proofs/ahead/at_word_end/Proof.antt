@@ -1,0 +1,33 @@
+-- `word_edges::ahead::at_word_end` meets its contract: a place with a class is on a character, so that the next place is in its row. Assumes nothing.
+use mathlib.Core.Path.{_∙_}
+use borrow.Author.Tests.{eq-eqb, ne-eqb}
+use Rattle.word_edges.specs.Words.{atWordEnd}
+use Rattle.word_kinds.proofs.Ahead.{class-there, char-spot, char-col}
+use borrow.Author.Needs.{needs}
+use Rattle.word_edges.proofs.ahead.at_word_end.Statement.{statement}
+use Rattle.word_edges.proofs.ahead.at_word_end.Tie as tie
+
+returns : tie.Need-returns
+unfolding atWordEnd
+returns c = rw (← c .before .cls .ensures, eq-eqb _ _ (c .if1 .taken))
+
+cls-requires-2 : tie.Need-cls-requires-2
+cls-requires-2 c κs =
+    let b6 = c .before .before .before .before .before .before in
+    let w = b6 .pre in
+    let h = class-there (b6 .args .t .now) (b6 .args .p) (w .spot) _ (λ z. c .before .if1 .left (c .before .before .cls .ensures ∙ z)) in
+    (w .lent, char-spot (b6 .args .t .now) (b6 .args .p) (w .spot) (h .0) (h .1))
+
+returns-2 : tie.Need-returns-2
+unfolding atWordEnd
+returns-2 c =
+    let b3 = c .before .before .before in
+    let b7 = b3 .before .before .before .before in
+    let w = b7 .pre in
+    let h = class-there (b7 .args .t .now) (b7 .args .p) (w .spot) _ (λ z. c .before .before .if1 .left (b3 .cls .ensures ∙ z)) in
+    rw (← b3 .cls .ensures, ne-eqb _ _ (c .before .before .if1 .left), ← char-col (b7 .args .t .now) (b7 .args .p) (w .spot) (h .0) (h .1), ← c .cls2 .ensures)
+
+pub at-word-end-spec : {M : Type 1} → statement M
+at-word-end-spec =
+    tie.close
+    (tie.spec (λ c κs. search needs) returns (λ c. search needs) cls-requires-2 returns-2)
