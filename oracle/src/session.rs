@@ -1,4 +1,4 @@
-//! Document 01's session over the given motions: the input's bytes to the output's.
+//! Document 01's session over the given motions, with `$` as document 02 has it: the input's bytes to the output's.
 
 use crate::calls::{self, Words};
 use crate::generate::Dice;
@@ -32,7 +32,11 @@ fn press(text: &[u32], at: Caret, key: &str, count: u32) -> Option<Result<Caret,
         "ge" | "gE" => calls::move_word_end_back(text, at, words(key == "gE"), count),
         "0" => calls::move_line_start(text, at),
         "^" => calls::move_first_non_blank(text, at),
-        "$" => calls::move_line_end(text, at),
+        "$" => {
+            // document 02, #104: past the end of every row
+            let ends = |caret| Caret { sticky: Some(u32::MAX), ..caret };
+            return Some(calls::move_line_end(text, at).map(ends));
+        }
         "g_" => calls::move_last_non_blank(text, at),
         "{" => calls::move_paragraph_prev(text, at, count),
         "}" => calls::move_paragraph_next(text, at, count),

@@ -143,9 +143,13 @@ calls =
     case "find_char_on_line" (till false "axx") (answer (found 0 0)) (missing 0 0) (answer (found 0 1)) ∷
     []
 
--- document 01's printed session: what it prints, that with `j` left out, and what a refused input prints
+-- document 01's printed session: what it prints, that with `j` left out, and what a refused input prints. And document 02's #104: after `$`, `j` goes
+-- to the end of each row, and not to the column of the first row, nor to that of the row before
 unfoldable pub sessions : List Case
 sessions =
     case "session" (answer (sessionOf (codes "w 1\nj 1\n% 1\n.\nif (n) {\nx (y)\n}\n")))
     (answer (codes "w 0 3\nj 1 3\n% 1 2\n")) (answer (codes "w 0 3\n% 1 2\n")) (answer (codes "refused\n")) ∷
+    case "session" (answer (sessionOf (codes "$\nj\nj\nj\n.\nabc\nd\n\nefgh\n")))
+    (answer (codes "$ 0 2\nj 1 0\nj 2 0\nj 3 3\n")) (answer (codes "$ 0 2\nj 1 0\nj 2 0\nj 3 2\n"))
+    (answer (codes "$ 0 2\nj 1 0\nj 2 0\nj 3 0\n")) ∷
     []

@@ -31,8 +31,9 @@ use Rattle.motions.specs.Finds.{partnerTo, landsOn, seeking}
 use Rattle.motions.specs.Going.{landed, movedBy}
 use Rattle.session_keys.specs.Keys.{Named, twoBytes, wordKeys, lineKeys, placeKeys, table, found, keyOf, isKnown}
 use Rattle.session_presses.specs.declared.Act.{Act}
-use Rattle.session_presses.specs.declared.Act.the-variants.{Clears, Keeps, Unknown}
-use Rattle.session_presses.specs.Pressed.{actOf, does, cleared, acted, pressed}
+use Rattle.session_presses.specs.declared.Act.the-variants.{Does, Unknown}
+use Rattle.session_presses.specs.declared.Column.{Column}
+use Rattle.session_presses.specs.Pressed.{actOf, does, held, acted, pressed}
 
 -- it is none that is refused with 0
 abbrev Numbered : Moved → Type 0
@@ -104,8 +105,7 @@ numbered t folds list tabstop (Find x forward till skip) n k = seeking-numbered 
 
 -- whether a key does something; all of a table do
 isAct : Act → Bool
-isAct (Clears m) = true
-isAct (Keeps m) = true
+isAct (Does m c) = true
 isAct Unknown = false
 
 allActs : List Named → Bool
@@ -130,14 +130,13 @@ found-unknown (key ∷ rest) name all q = go (isSame name (key .name)) (isAct (a
     go false false e all q ih = let y : _≡_ {A = ℕ} 0 1 = cc in absurd (omega arith)
 
 module _ (t : List ℕ) (n : ℕ) (k : Caret) where
-  cleared-zero : (m : Moved) → cleared m ≡ Refused 0 → m ≡ Refused 0
-  cleared-zero (To c) q = let z : _≡_ {A = ℕ} 0 1 = cc in absurd (omega arith)
-  cleared-zero (Refused f) q = q
+  held-zero : (c : Column) (m : Moved) → held c m ≡ Refused 0 → m ≡ Refused 0
+  held-zero c (To k) q = let z : _≡_ {A = ℕ} 0 1 = cc in absurd (omega arith)
+  held-zero c (Refused f) q = q
 
   acted-unknown : (a : Act) → acted a t n k ≡ Refused 0 → isAct a ≡ false
   unfolding acted isAct
-  acted-unknown (Clears m) q = absurd (numbered t [] (codes "@,48-57,_") 8 m n k (cleared-zero (does m t n k) q))
-  acted-unknown (Keeps m) q = absurd (numbered t [] (codes "@,48-57,_") 8 m n k q)
+  acted-unknown (Does m c) q = absurd (numbered t [] (codes "@,48-57,_") 8 m n k (held-zero c (does m t n k) q))
   acted-unknown Unknown q = refl
 
   -- a key that is refused with 0 is in no table

@@ -1,1 +1,2 @@
 pub mod Pressed
+pub mod Ends

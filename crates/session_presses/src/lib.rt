@@ -8,35 +8,50 @@ use vertical::Sticky;
 use word_rounds::Motion;
 ghost use mathlib.Core.Path.{_≡_};
 ghost use mathlib.Core.Bool.{false};
-ghost use Rattle.session_presses.specs.Pressed.{actOf, does, pressed};
-ghost use Rattle.session_presses.specs.Pressed.{cleared as Pressed·cleared};
+ghost use Rattle.session_presses.specs.Pressed.{actOf, does, stickyAfter, pressed};
+ghost use Rattle.session_presses.specs.Pressed.{held as Pressed·held};
 
 // The keyword list `@,48-57,_`.
 const LIST: [u32; 9] = [64, 44, 52, 56, 45, 53, 55, 44, 95];
 
-// What a key does: a move after which the sticky column is cleared, or one that keeps it.
+// What becomes of the sticky column after a key: it is cleared, stays as the move left it, or is set
+// past the end of every row.
+pub enum Column {
+    Cleared,
+    Kept,
+    Ends,
+}
+
+// What a key does: a move, and what becomes of the sticky column; or nothing, for an unknown key.
 pub enum Act {
-    Clears(Move),
-    Keeps(Move),
+    Does(Move, Column),
     Unknown,
 }
 
-// A move on the text alone.
+// A move on the text alone, after which there is no sticky column.
 fn by(w: Way) -> Act
-    ensures { λ r. ⌜ r ≡ Act.Clears (Move.By w) ⌝ }
+    ensures { λ r. ⌜ r ≡ Act.Does (Move.By w) Column.Cleared ⌝ }
 {
-    Act::Clears(Move::By(w))
+    Act::Does(Move::By(w), Column::Cleared)
 }
 
 // A word motion; `e` and `E` have stop off.
 fn word(big: bool, motion: Motion) -> Act
-    ensures { λ r. ⌜ r ≡ Act.Clears (Move.Word motion big false) ⌝ }
+    ensures { λ r. ⌜ r ≡ Act.Does (Move.Word motion big false) Column.Cleared ⌝ }
 {
-    Act::Clears(Move::Word {
+    let m = Move::Word {
         motion: motion,
         big: big,
         stop: false,
-    })
+    };
+    Act::Does(m, Column::Cleared)
+}
+
+// Up or down, by the sticky column that there is.
+fn rows(down: bool) -> Act
+    ensures { λ r. ⌜ r ≡ Act.Does (Move.Rows down) Column.Kept ⌝ }
+{
+    Act::Does(Move::Rows { down: down }, Column::Kept)
 }
 
 // What each key does.
@@ -56,7 +71,7 @@ fn act_of(key: Key) -> Act
         Key::BigEndBack => word(true, Motion::EndBack),
         Key::LineStart => by(Way::LineStart),
         Key::FirstNonBlank => by(Way::FirstNonBlank),
-        Key::LineEnd => by(Way::LineEnd),
+        Key::LineEnd => Act::Does(Move::By(Way::LineEnd), Column::Ends),
         Key::LastNonBlank => by(Way::LastNonBlank),
         Key::ParagraphPrev => by(Way::ParagraphPrev),
         Key::ParagraphNext => by(Way::ParagraphNext),
@@ -70,23 +85,37 @@ fn act_of(key: Key) -> Act
         Key::Top => by(Way::Top),
         Key::Bottom => by(Way::Bottom),
         Key::Column => by(Way::GotoColumn),
-        Key::Bracket => Act::Clears(Move::Bracket),
-        Key::Down => Act::Keeps(Move::Rows { down: true }),
-        Key::Up => Act::Keeps(Move::Rows { down: false }),
+        Key::Bracket => Act::Does(Move::Bracket, Column::Cleared),
+        Key::Down => rows(true),
+        Key::Up => rows(false),
         Key::Unknown => Act::Unknown,
     }
 }
 
-// The answer with the sticky column cleared.
-fn cleared(m: Moved) -> Moved
-    ensures { λ r. ⌜ r ≡ Pressed·cleared m ⌝ }
+// The sticky column after a move that left `s`.
+fn sticky_after(c: Column, s: Sticky) -> Sticky
+    ensures { λ r. ⌜ r ≡ stickyAfter c s ⌝ }
+{
+    match c {
+        Column::Cleared => Sticky::Absent,
+        Column::Kept => s,
+        Column::Ends => Sticky::At(4294967295),
+    }
+}
+
+// The answer with its sticky column; a refused call has none to change.
+fn held(c: Column, m: Moved) -> Moved
+    ensures { λ r. ⌜ r ≡ Pressed·held c m ⌝ }
 {
     match m {
-        Moved::To(k) => Moved::To(Caret {
-            row: k.row,
-            col: k.col,
-            sticky: Sticky::Absent,
-        }),
+        Moved::To(k) => {
+            let s = k.sticky;
+            Moved::To(Caret {
+                row: k.row,
+                col: k.col,
+                sticky: sticky_after(c, s),
+            })
+        }
         Moved::Refused(f) => Moved::Refused(f),
     }
 }
@@ -105,8 +134,7 @@ pub fn press(key: &[u8], k: Caret, t: &[u32], n: u32) -> Moved
     ensures { λ r. ⌜ r ≡ pressed (now (key .entry)) (now (t .entry)) n k ⌝ }
 {
     match act_of(session_keys::key_of(key)) {
-        Act::Clears(m) => cleared(motion(m, t, n, k)),
-        Act::Keeps(m) => motion(m, t, n, k),
+        Act::Does(m, c) => held(c, motion(m, t, n, k)),
         Act::Unknown => Moved::Refused(0),
     }
 }

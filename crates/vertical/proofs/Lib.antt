@@ -4,3 +4,4 @@ pub mod Landed
 pub mod Inside
 pub mod Edges
 pub mod Examples
+pub mod Ends

@@ -1,8 +1,7 @@
 -- `press` meets its contract, by the cases of what the key does. Assumes nothing.
-use mathlib.Core.Path.{ap, sym, _∙_}
+use mathlib.Core.Path.{ap, _∙_}
 use borrow.Author.Needs.{needs}
-use Rattle.session_keys.specs.declared.Key.{Key}
-use Rattle.session_presses.specs.Pressed.{actOf, cleared, acted}
+use Rattle.session_presses.specs.Pressed.{held, acted}
 use Rattle.session_presses.proofs.press.Statement.{statement}
 use Rattle.session_presses.proofs.press.Tie as tie
 
@@ -12,18 +11,11 @@ returns c =
     let at-act = c .before .before .before in
     let at-key = at-act .before .before in
     rw (← at-key .before .key-of .ensures, ← at-key .act-of .ensures, at-act .m .given .1)
-    (c .cleared .ensures ∙ ap cleared (c .before .motion .ensures))
+    (c .held .ensures ∙ ap (held _) (c .before .motion .ensures))
 
 returns-2 : tie.Need-returns-2
 unfolding acted
 returns-2 c =
-    let at-act = c .before .before in
-    let at-key = at-act .before .before in
-    rw (← at-key .before .key-of .ensures, ← at-key .act-of .ensures, at-act .m2 .given .1) (c .motion2 .ensures)
-
-returns-3 : tie.Need-returns-3
-unfolding acted
-returns-3 c =
     let at-key = c .before .before in
     rw (← at-key .before .key-of .ensures, ← at-key .act-of .ensures, c .enum-told .given .1)
 
@@ -37,8 +29,5 @@ press-spec =
     (λ c κs. search needs)
     (λ c κs. search needs)
     (λ c. search needs)
-    (λ c κs. search needs)
-    (λ c. search needs)
     returns
-    returns-2
-    returns-3)
+    returns-2)
