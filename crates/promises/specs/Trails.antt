@@ -5,7 +5,6 @@ use Prim.Native.Nat.{ℕ, zero, suc, _-_, max}
 use mathlib.Core.List.{List, [], _∷_}
 use mathlib.Core.Bool.{Bool, false}
 use Rattle.text.specs.Text.{rowAt, position}
-use Rattle.word_kinds.specs.Places
 use Rattle.word_rounds.specs.declared.Motion.{Motion}
 use Rattle.word_rounds.specs.declared.Motion.the-variants.{Fwd, Back, End, EndBack}
 use Rattle.word_rounds.specs.Rounds.{Turn, On, Off, jumpFwd, jumpBack, roundOf}
@@ -20,27 +19,27 @@ trail show f zero p = []
 trail show f (suc n) p = show (f p) ∷ trail show f n (f p)
 
 -- the place that a word is sought from: out of the closed fold, where there is one
-abbrev pub origin : List ℕ → List ℕ → Motion → Places.Position → Places.Position
+abbrev pub origin : List ℕ → List ℕ → Motion → Position → Position
 origin t folds Fwd p = jumpFwd t folds p
 origin t folds Back p = jumpBack t folds p
 origin t folds End p = jumpFwd t folds p
 origin t folds EndBack p = p
 
-abbrev pub atPlace : Places.Position → Position
+abbrev pub atPlace : Position → Position
 atPlace p = position (p .row) (p .col)
 
 -- the word found, then what the rounds after it write; none is found, and no more is written
-abbrev pub found : Turn → (Places.Position → List Position) → List Position
+abbrev pub found : Turn → (Position → List Position) → List Position
 found (On q) rest = atPlace q ∷ rest q
 found (Off q) rest = []
 
 -- each round of a word motion writes the fold's jump, then the word found
-unfoldable pub countedWrites : (Places.Position → Places.Position) → (Places.Position → Turn) → ℕ → Places.Position → List Position
+unfoldable pub countedWrites : (Position → Position) → (Position → Turn) → ℕ → Position → List Position
 countedWrites from round zero p = []
 countedWrites from round (suc n) p = atPlace (from p) ∷ found (round p) (countedWrites from round n)
 
 -- as in `wordMotion`, `stop` holds in the first round alone
-unfoldable pub wordWrites : List ℕ → List ℕ → (ℕ → ℕ) → Bool → Motion → Bool → ℕ → Places.Position → List Position
+unfoldable pub wordWrites : List ℕ → List ℕ → (ℕ → ℕ) → Bool → Motion → Bool → ℕ → Position → List Position
 wordWrites t folds kind big m stop count p =
     atPlace (origin t folds m p) ∷
     found (roundOf t folds kind big m stop p) (countedWrites (origin t folds m) (roundOf t folds kind big m false) (max count 1 - 1))
