@@ -112,7 +112,12 @@ fn printed_session() {
     assert_eq!(shown(".\n\u{E9}"), "refused\n");
     assert_eq!(shown("x\nw 1234567890\n\nw  1\n.\nab\n"), "? 0 0\n? 0 0\n? 0 0\n? 0 0\n");
     assert_eq!(shown("w\n.\na\rb"), "!3 0 0\n");
-    assert_eq!(shown("j\n$\nj\n.\nabc\nab\nabc"), "j 1 0\n$ 1 1\nj 2 1\n");
+    // document 02, #104: after `$`, j and k follow the ends, until a key other than these is accepted
+    assert_eq!(shown("j\n$\nj\n.\nabc\nab\nabc"), "j 1 0\n$ 1 1\nj 2 2\n");
+    assert_eq!(shown("$\nj\nj\nj\n.\nabc\nd\n\nefgh"), "$ 0 2\nj 1 0\nj 2 0\nj 3 3\n");
+    assert_eq!(shown("$\nj 9\nj\nk\n.\nab\nbcd\n"), "$ 0 1\nj 2 0\nj 2 0\nk 1 2\n");
+    assert_eq!(shown("$ 5\nx\nj\n.\na\nbcd"), "$ 0 0\n? 0 0\nj 1 2\n");
+    assert_eq!(shown("$\nj\nl\nk\n.\nabc\nd"), "$ 0 2\nj 1 0\nl 1 0\nk 0 0\n");
     assert_eq!(shown("."), "");
     let full = |n: usize| format!(".\n{}", "a".repeat(n - 2));
     assert_eq!(shown(&full(16_384)), "");
