@@ -74,6 +74,18 @@ int main(void) {
     REFUSES("no such motion", tsivareza_motion_u32(99, branch, 10, 0, 0, 0, 0, 0, out), 100);
     REFUSES("no such mode of down", tsivareza_vertical_u32(TSIVAREZA_MOVE_DOWN, branch, 10, none, 0, 9, 0, 0, 0, 3, 0, 1, 8, out), 100);
 
+    /* UTF-8 both ways; 13 has its place in the high half, and leaves everything. */
+    static const uint8_t accents[] = {0xC3, 0xA9, 0xE2, 0x86, 0x92}, bad[] = {'a', 0xED, 0xA0, 0x80}, four[] = {0xE9, 0, 0, 0};
+    uint8_t back[5] = {7, 7, 7, 7, 7};
+    SAYS("utf8_decode", (uint32_t)tsivareza_utf8_decode(accents, 5, room, 2, out), 2);
+    SAYS("utf8_encode", tsivareza_utf8_encode_u32(room, 2, back, 5, out), 5);
+    for (int i = 0; i < 5; i++) expect("a byte of UTF-8", back[i], accents[i], out, out, 0);
+    SAYS("utf8_encode on bytes", tsivareza_utf8_encode(four, 4, room, 1, back, 2, out), 2);
+    uint64_t told = 0;
+    REFUSES("bad UTF-8", (uint32_t)(told = tsivareza_utf8_decode(bad, 4, room, 1, out)), 13);
+    expect("the place of bad UTF-8", (uint32_t)(told >> 32), 2, out, out, 0);
+    REFUSES("too little room for UTF-8", (uint32_t)tsivareza_utf8_decode(accents, 5, room, 1, out), 14);
+
     /* 101, 102 and 100, each before the next and before 4; the room is written to from 100 on. */
     static const uint32_t kept[] = {7, 7, 7, 7, 7}, filled[] = {'(', '[', ')', ']', 7};
     for (int i = 0; i < 5; i++) room[i] = 7;

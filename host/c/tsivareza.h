@@ -7,10 +7,12 @@
  *     3  U+000B, C, D, U+0085, U+2028, 9     8  over 128 tokens kept of a keyword list
  *     4  a position outside the text         9  too little room for the segments
  *     5  wrong folds                        10  segments of odd length
+ *    13  bytes that are no UTF-8            14  too little room for UTF-8, or for its code points
  *   100  no such operation, mode or kind   102  too little room for the code points
  *   101  bytes that make no whole points   103  an answer that no uint32_t holds
  * 101 comes first, then 102, then 100, for with one of these there is no call to be made; then the
- * lowest of 1 to 10 that applies. 103 stands in an answer's place, in tsivareza_segment_for_col alone.
+ * lowest of 1 to 14 that applies. 103 stands in an answer's place, in tsivareza_segment_for_col alone, and
+ * of tsivareza_utf8_decode it comes first of all, for over 4,294,967,295 bytes.
  *
  * A text, row or list goes as code points (the `_u32` forms), or as bytes, four to a code point, the
  * lowest first, with room for the code points: `room_len` counts uint32_t places, and where a call
@@ -200,6 +202,17 @@ uint32_t tsivareza_seek_u32(uint32_t op, const uint32_t *text, size_t text_len, 
 uint32_t tsivareza_seek(uint32_t op, const uint8_t *text, size_t text_len, uint32_t *room,
                         size_t room_len, uint32_t row, uint32_t col, uint32_t held, uint32_t sticky,
                         uint32_t x, uint32_t out[5]);
+
+/* UTF-8 by RFC 3629; out[0] counts the code points, or the bytes, which stand at the start of `points` or
+ * `bytes`. Decoding answers 64 bits: in the low half 0 or the number, and in the high half, for 13 alone,
+ * the place of the first byte that can't stand there, bytes_len where they are cut off. Encoding gives 1,
+ * 2 and then 14. */
+uint64_t tsivareza_utf8_decode(const uint8_t *bytes, size_t bytes_len, uint32_t *points,
+                               size_t points_len, uint32_t out[1]);
+uint32_t tsivareza_utf8_encode_u32(const uint32_t *points, size_t points_len, uint8_t *bytes,
+                                   size_t bytes_len, uint32_t out[1]);
+uint32_t tsivareza_utf8_encode(const uint8_t *points, size_t points_len, uint32_t *room,
+                               size_t room_len, uint8_t *bytes, size_t bytes_len, uint32_t out[1]);
 
 /* A session: command rows, a row with only a full stop, and a text, to the lines that they print.
  * Answers how many bytes of `out` those are; there is always room. */

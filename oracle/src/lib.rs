@@ -4,7 +4,7 @@
 //! apart from it, `pairs` document 02's `inner_pair` from its words, `case` a call with its inputs as
 //! one line of text, `generate` cases from a seed
 //! and small families, `replay` the list that the program `replay` runs, `session` document 01's
-//! session over the given motions.
+//! session over the given motions, `utf8` RFC 3629's tables and `std::str`.
 
 pub mod calls;
 pub mod case;
@@ -13,6 +13,7 @@ pub mod pairs;
 pub mod refusals;
 pub mod replay;
 pub mod session;
+pub mod utf8;
 
 /// Row, column and sticky column.
 #[derive(Clone, Copy, Debug, PartialEq, Eq, Default)]

@@ -2,11 +2,12 @@
 //!
 //! A row is the call's group and its operation there, eight numbers, how many numbers follow of a text or row, of folds and
 //! of a list (keywords, or segments), those, and the answer: 0 or the refusal's number, and what the places lent for the
-//! answer and for segments hold afterwards. A space ends each number but the last; `3*97` is 97 three times.
+//! answer and for segments hold afterwards. A space ends each number but the last; `3*97` is 97 three times. UTF-8, which the
+//! given Rust has no call for, comes last, by RFC 3629's tables: groups 14 and 15, with a byte as a number.
 
 use crate::case::{CALLS, Call, Case, FILLER};
 use crate::generate::{self, Dice};
-use crate::{Outcome, Wrap};
+use crate::{Outcome, Wrap, utf8};
 
 const SEED: u64 = 9;
 
@@ -159,7 +160,7 @@ fn answer(k: &Case, places: usize, outcome: &Outcome) -> Option<Vec<u32>> {
 
 /// A case of the list: its numbers, and the case and its answer in words.
 pub struct Row {
-    pub call: &'static Call,
+    pub call: &'static str,
     pub outcome: Outcome,
     pub numbers: String,
     pub words: String,
@@ -178,7 +179,7 @@ fn row(k: &Case) -> Option<Row> {
     }
     let outcome = k.answer();
     let numbers = [given, written(&[&answer(k, places, &outcome)?])].join(" ");
-    Some(Row { call: k.call, words: format!("{k} -> {outcome}"), outcome, numbers })
+    Some(Row { call: k.call.name, words: format!("{k} -> {outcome}"), outcome, numbers })
 }
 
 /// The numbers of some parts; no run goes on from one part into the next.
@@ -198,7 +199,73 @@ fn rows(call: &'static Call) -> Vec<Row> {
     short.filter_map(|k| row(&k)).take(CASES).chain(limits).collect()
 }
 
+/// What places lent for bytes hold before a call.
+const FILLER_BYTE: u32 = 0xA5;
+
+/// The code points of texts of UTF-8, and values that are none.
+const POINTS: [u32; 16] =
+    [0, 0x0A, 0x61, 0x61, 0x7A, 0x7F, 0x80, 0xE9, 0x7FF, 0x800, 0x2192, 0xD7FF, 0xE000, 0xFFFF, 0x1_0000, 0x10_FFFF];
+const NO_POINTS: [u32; 3] = [0xD800, 0xDFFF, 0x11_0000];
+const EDGES: [u8; 12] = [0x7F, 0x80, 0xBF, 0xC0, 0xC2, 0xE0, 0xED, 0xEF, 0xF0, 0xF4, 0xF5, 0xFF];
+
+/// A row of group 14 or 15: what is given, the places lent, the answer's first numbers, and what the places hold then.
+fn coding(group: u32, given: &[u32], room: usize, told: &[u32], left: Vec<u32>, filler: u32) -> Row {
+    let (call, outcome) = (["utf8_decode", "utf8_encode"][group as usize - 14], match told[0] {
+        0 => Outcome::Number(left.len() as u64),
+        number => Outcome::Refused(number),
+    });
+    let words = format!("{call} of {given:x?} into {room} places -> {outcome}");
+    let places = [left.clone(), vec![filler; room - left.len()]].concat();
+    let counts = [given.len() as u32, 0, 0];
+    let numbers = written(&[&[group, 0, room as u32, 0, 0, 0, 0, 0, 0, 0], &counts, given, told, &places]);
+    Row { call, outcome, numbers, words }
+}
+
+fn decoded(bytes: &[u8], room: usize) -> Row {
+    let given: Vec<u32> = bytes.iter().map(|&b| b.into()).collect();
+    match utf8::decode(bytes, room) {
+        Ok(points) => coding(14, &given, room, &[0, 0, points.len() as u32], points, FILLER),
+        Err((number, place)) => coding(14, &given, room, &[number, place, FILLER], vec![], FILLER),
+    }
+}
+
+fn encoded(points: &[u32], room: usize) -> Row {
+    match utf8::encode(points, room) {
+        Ok(bytes) => coding(15, points, room, &[0, bytes.len() as u32], bytes.iter().map(|&b| b.into()).collect(), FILLER_BYTE),
+        Err(number) => coding(15, points, room, &[number, FILLER], vec![], FILLER_BYTE),
+    }
+}
+
+/// Random texts of at most 64 bytes both ways, with damage, and the first limit.
+fn codings() -> Vec<Row> {
+    let (mut there, mut back) = (Vec::new(), Vec::new());
+    for index in 0..CASES as u64 {
+        let dice = &mut Dice::new(SEED, index);
+        let mut points: Vec<u32> = (0..dice.pick(&[0, 1, 2, 3, 5, 9, 16])).map(|_| dice.pick(&POINTS)).collect();
+        let mut bytes: Vec<u8> = points.iter().flat_map(|&x| utf8::encoded(x)).collect();
+        let short = |dice: &mut Dice, most: usize| if dice.once_in(6) { most.saturating_sub(1) } else { most.min(60) + dice.below(4) };
+        if dice.once_in(8) && !points.is_empty() {
+            let at = dice.below(points.len());
+            points[at] = dice.pick(&NO_POINTS);
+        }
+        back.push(encoded(&points, short(dice, bytes.len())));
+        let most = points.len();
+        if dice.once_in(2) {
+            let at = dice.below(bytes.len() + 1);
+            match dice.below(3) {
+                0 => bytes.truncate(at),
+                1 => bytes.insert(at, dice.pick(&EDGES)),
+                _ => _ = bytes.splice(at..bytes.len().min(at + 1), [dice.pick(&EDGES)]).count(),
+            }
+            bytes.truncate(64);
+        }
+        there.push(decoded(&bytes, short(dice, most)));
+    }
+    back.push(encoded(&vec![0x61; 1_048_577], 4));
+    there.into_iter().chain(back).collect()
+}
+
 /// The rows of the list, in its order.
 pub fn list() -> Vec<Row> {
-    CALLS.iter().flat_map(rows).collect()
+    CALLS.iter().flat_map(rows).chain(codings()).collect()
 }

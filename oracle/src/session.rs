@@ -1,4 +1,4 @@
-//! Document 01's session over the given motions, with `$` as document 02 has it: the input's bytes to the output's.
+//! Document 01's session over the given motions, with `$` and UTF-8 as document 02 has them (#104, #105): the input's bytes to the output's.
 
 use crate::calls::{self, Words};
 use crate::generate::Dice;
@@ -60,7 +60,7 @@ fn press(text: &[u32], at: Caret, key: &str, count: u32) -> Option<Result<Caret,
 
 pub fn session(input: &[u8]) -> Vec<u8> {
     let refused = b"refused\n".to_vec();
-    if input.len() > 16_384 || input.iter().any(|&b| b > 127) {
+    if input.len() > 16_384 || std::str::from_utf8(input).is_err() {
         return refused;
     }
     let mut rows = input.split(|&b| b == b'\n');
@@ -68,7 +68,7 @@ pub fn session(input: &[u8]) -> Vec<u8> {
     if commands.len() == input.split(|&b| b == b'\n').count() {
         return refused;
     }
-    let text: Vec<u32> = rows.collect::<Vec<_>>().join(&b'\n').iter().map(|&b| b.into()).collect();
+    let text = points(std::str::from_utf8(&rows.collect::<Vec<_>>().join(&b'\n')).expect("rows of UTF-8"));
     let mut at = Caret::at(0, 0);
     let mut out = String::new();
     for row in commands {
@@ -89,14 +89,24 @@ const KEYS: [&str; 29] = [
     "h", "l", "w", "b", "e", "W", "B", "E", "ge", "gE", "0", "^", "$", "g_", "{", "}", "[[", "]]", "[]", "][", "+", "-", "_",
     "gg", "G", "|", "%", "j", "k",
 ];
-const NO_KEYS: [&str; 18] =
-    ["g", "[", "]", "x", "", "wW", "w1", " w", "gg1", "?", "!", "jj", "..", " .", ". ", "\r", "j\r", ".\r"];
+const NO_KEYS: [&str; 25] = [
+    "g", "[", "]", "x", "", "wW", "w1", " w", "gg1", "?", "!", "jj", "..", " .", ". ", "\r", "j\r", ".\r", "é", "é 1", "jé", "→", "\u{FF4A}",
+    "\u{FEFF}j", "j\u{A0}1",
+];
 const COUNTS: [&str; 14] =
     ["", "", "", "", " 0", " 1", " 1", " 2", " 3", " 9", " 100", " 007", " 123456789", " 999999999"];
-const NO_COUNTS: [&str; 11] =
-    [" ", "  1", " 1 ", " -1", " +1", " 1a", " 0000000000", "\t1", " 1 2", " 1234567890", " 4294967296"];
-const TEXTS: [&str; 8] =
-    ["ab ({[]})<>\n\n.", "ab_1 \t\n", "{}\nx \n", "a\n", "[(])\n", " \t\nab", "ab,;. 12\n", "\ta\tbc\n \n"];
+const NO_COUNTS: [&str; 13] = [
+    " ", "  1", " 1 ", " -1", " +1", " 1a", " 0000000000", "\t1", " 1 2", " 1234567890", " 4294967296", " \u{661}", "\u{3000}1",
+];
+const TEXTS: [&str; 12] = [
+    "ab ({[]})<>\n\n.", "ab_1 \t\n", "{}\nx \n", "a\n", "[(])\n", " \t\nab", "ab,;. 12\n", "\ta\tbc\n \n", "aé→ (ü)\n", "é\u{301}à\t\n",
+    "あ日a \n\t", "→←𝄞 {}\n",
+];
+/// Bytes that are no UTF-8 somewhere, and separators that no text may hold.
+const ODD: [&[u8]; 16] = [
+    b"\0", b"\x0B", b"\x0C", b"\r", b"\x7F", b"\x80", b"\xFF", b"\xC3", b"\xE2\x86", b"\xC0\x80", b"\xED\xA0\x80", b"\xF4\x90\x80\x80", b"\xC2\x85",
+    b"\xE2\x80\xA8", b"\xE2\x80\xA9", b"\xEF\xBB\xBF",
+];
 
 /// A random input: mostly sound command rows and a text, sometimes malformed or refused.
 pub fn random(dice: &mut Dice) -> Vec<u8> {
@@ -111,23 +121,26 @@ pub fn random(dice: &mut Dice) -> Vec<u8> {
     if !dice.once_in(20) {
         input.extend_from_slice(if dice.once_in(20) { b"." } else { b".\n" });
     }
-    let alphabet = dice.pick(&TEXTS).as_bytes();
+    let alphabet: Vec<char> = dice.pick(&TEXTS).chars().collect();
     for _ in 0..dice.pick(&[0, 1, 2, 5, 10, 20, 60, 200]) {
-        input.push(dice.pick(alphabet));
+        input.extend_from_slice(dice.pick(&alphabet).to_string().as_bytes());
     }
-    if dice.once_in(20) {
-        input.push(dice.pick(&[0, 0x0B, 0x0C, 0x0D, 0x7F, 0x80, 0xFF]));
+    if dice.once_in(12) {
+        let at = if dice.once_in(2) { input.len() } else { dice.below(input.len() + 1) };
+        input.splice(at..at, dice.pick(&ODD).iter().copied());
     }
     input
 }
 
-/// Every input of up to `most` bytes over a small alphabet, shortest first.
+/// Every input of up to `most` bytes over a small alphabet, and over one with the bytes of `é` and of an arrow, shortest first.
 pub fn small(most: usize, mut visit: impl FnMut(&[u8])) {
-    let mut row: Vec<Vec<u8>> = vec![Vec::new()];
-    for length in 0..=most {
-        row.iter().for_each(|input| visit(input));
-        if length < most {
-            row = row.iter().flat_map(|r| b"jg$ 1.\n".iter().map(|&b| [&r[..], &[b]].concat())).collect();
+    for alphabet in [&b"jg$ 1.\n"[..], b"$.\n\xC3\xA9\xE2\x86\x92"] {
+        let mut row: Vec<Vec<u8>> = vec![Vec::new()];
+        for length in 0..=most {
+            row.iter().for_each(|input| visit(input));
+            if length < most {
+                row = row.iter().flat_map(|r| alphabet.iter().map(|&b| [&r[..], &[b]].concat())).collect();
+            }
         }
     }
 }
@@ -148,10 +161,15 @@ pub fn limits() -> Vec<Vec<u8>> {
         joined(&[(b"$\nj\n", 1), (b"\n", 13_300), (b".\n", 1), (b"\n", 1), (b"a", 1_001)]),
         joined(&[(b"h\n", 6_000), (b".\n", 1), (b"\x0B", 1)]),
         joined(&[(b"$\n|123\n", 100), (b".\n", 1), (b"a", 12_345)]),
+        joined(&[(b"$\n.\n", 1), ("é".as_bytes(), 8_190)]),
+        joined(&[(b"$\n.\n", 1), ("é".as_bytes(), 8_191)]),
+        joined(&[("é\n".as_bytes(), 5_460), (b".\n", 1)]),
+        joined(&[(b"$\nj\n", 1), (b".\n", 1), ("→é\n".as_bytes(), 2_000)]),
     ];
-    for last in [0x0B, 0x0C, 0x0D, 0x7F, 0x80, 0xFF] {
-        inputs.push(joined(&[(b"w\nj\n.\n", 1), (b"a", 100), (&[last], 1)]));
-        inputs.push(joined(&[(&[last], 1), (b"\n.\n", 1)]));
+    for odd in ODD {
+        inputs.push([b"w\nj\n.\n", &b"a".repeat(100)[..], odd].concat());
+        inputs.push([odd, b"\n.\n"].concat());
+        inputs.push([b"w\n", odd, b".\na"].concat());
     }
     for input in ["", ".", ".\n", ".\n.", "..\n. \n.\n.\n", "w\nw\n", "w", "w\r\n.\r\na b\n"] {
         inputs.push(input.into());

@@ -109,7 +109,10 @@ fn printed_session() {
     let shown = |input: &str| String::from_utf8(oracle::session::session(input.as_bytes())).unwrap();
     assert_eq!(shown(input), "w 0 3\nj 1 3\n% 1 2\n");
     assert_eq!(shown("w 1\n"), "refused\n");
-    assert_eq!(shown(".\n\u{E9}"), "refused\n");
+    assert_eq!(shown("$\n.\n\u{E9}\u{2192}"), "$ 0 1\n");
+    assert_eq!(shown("w\n\u{E9}\n.\na b\u{85}"), "!3 0 0\n? 0 0\n");
+    assert_eq!(oracle::session::session(b"$\n.\n\xE9"), b"refused\n");
+    assert_eq!(oracle::session::session(b"\xC3\n.\na"), b"refused\n");
     assert_eq!(shown("x\nw 1234567890\n\nw  1\n.\nab\n"), "? 0 0\n? 0 0\n? 0 0\n? 0 0\n");
     assert_eq!(shown("w\n.\na\rb"), "!3 0 0\n");
     // document 02, #104: after `$`, j and k follow the ends, until a key other than these is accepted
@@ -122,4 +125,35 @@ fn printed_session() {
     let full = |n: usize| format!(".\n{}", "a".repeat(n - 2));
     assert_eq!(shown(&full(16_384)), "");
     assert_eq!(shown(&full(16_385)), "refused\n");
+}
+
+/// The places of the corners: overlong forms, surrogates and values too large at the second byte, what is cut off at its length.
+#[test]
+fn places_of_bad_bytes() {
+    let bad: [(&[u8], usize); 20] = [
+        (b"\x80", 0),
+        (b"\xBF", 0),
+        (b"\xC0", 0),
+        (b"\xC1\x80", 0),
+        (b"\xF5", 0),
+        (b"\xFF", 0),
+        (b"\xE0\x80\x80", 1),
+        (b"\xE0\x9F", 1),
+        (b"\xF0\x8F", 1),
+        (b"\xE2\x28\xA1", 1),
+        (b"\xED\xA0\x80", 1),
+        (b"\xF4\x90\x80\x80", 1),
+        (b"\xE2\x82", 2),
+        (b"\xF0\x90\x80", 3),
+        (b"\xE0", 1),
+        (b"\x61\xF0\x9F\x98", 4),
+        (b"\xE2\x82\xE2", 2),
+        (b"\xC3\xC3", 1),
+        (b"\x61\xBF", 1),
+        (b"\xE0\x80", 1),
+    ];
+    for (bytes, place) in bad {
+        assert_eq!(oracle::utf8::decoded(bytes), Err(place), "{bytes:02x?}");
+        assert_eq!(oracle::utf8::by_std(bytes), Err(place), "{bytes:02x?}");
+    }
 }

@@ -39,7 +39,7 @@ fn the_stored_list_is_current() {
 
     for call in &CALLS {
         let (mut answered, mut refused) = (0, BTreeSet::new());
-        for row in list.iter().filter(|row| row.call == call) {
+        for row in list.iter().filter(|row| row.call == call.name) {
             match row.outcome {
                 Outcome::Refused(number) => _ = refused.insert(number),
                 _ => answered += 1,
@@ -47,5 +47,12 @@ fn the_stored_list_is_current() {
         }
         assert!(answered >= 40, "{}: {answered} cases are answered", call.name);
         assert_eq!(refused, refusals(&Case::new(call)), "the refusals of {}", call.name);
+    }
+    for (call, all) in [("utf8_decode", [13, 14].as_slice()), ("utf8_encode", &[1, 2, 14])] {
+        let rows: Vec<_> = list.iter().filter(|row| row.call == call).collect();
+        let told = |row: &&&replay::Row| matches!(row.outcome, Outcome::Number(_));
+        assert!(rows.iter().filter(told).count() >= 30, "{call}");
+        let refused: BTreeSet<u32> = rows.iter().filter_map(|row| if let Outcome::Refused(n) = row.outcome { Some(n) } else { None }).collect();
+        assert_eq!(refused, all.iter().copied().collect(), "the refusals of {call}");
     }
 }

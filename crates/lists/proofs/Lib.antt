@@ -1,4 +1,5 @@
 -- Laws of plain lists, which the proofs of the crates above cite.
+pub mod Beginnings
 pub mod Lists
 pub mod Any
 pub mod Finding

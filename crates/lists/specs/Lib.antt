@@ -1,3 +1,4 @@
+pub mod Beginnings
 pub mod Codes
 pub mod Lists
 pub mod Rounds

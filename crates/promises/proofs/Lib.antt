@@ -1,6 +1,7 @@
 -- What is promised of all calls at once.
 pub mod Examples
 pub mod Runs
+pub mod Codings
 pub mod Results
 pub mod Landings
 pub mod KeyMoves

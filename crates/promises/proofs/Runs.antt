@@ -34,7 +34,10 @@ use Rattle.motions.specs.Finds.{partnerTo, seeking, landsOn}
 use Rattle.print.specs.Print.{spell, decimal}
 use Rattle.session_row.specs.Commands.{digitsFrom, digitsOf, countIn}
 use Rattle.session_keys.specs.Keys.{twoBytes, wordKeys, lineKeys, placeKeys, found}
-use Rattle.session_input.specs.Parts.{commandRows, hasStop, textAt, isRefused}
+use Rattle.utf8.specs.Encoding.{encoding, utf8}
+use Rattle.utf8.specs.Decoding.{onto, isLead, tailsOf, lowOf, highOf, bitsOf, ended, reading}
+use Rattle.utf8.specs.Walks.{textOf}
+use Rattle.session_input.specs.Parts.{commandRows, hasStop, textAt, isBad, isRefused}
 use Rattle.session_presses.specs.Pressed.{actOf, acted}
 use Rattle.session.specs.Session.{shownOf, lineOf, linesOf, sessionOf}
 use Rattle.session.specs.Session.{counted as turned}
@@ -50,5 +53,6 @@ unfolding sessions
     kindOf kindAt onEmptyRow nextRow stepForward endOfBuffer walk goesOn rounds verticalRow landed nextWordStart roundOf counted wordMotion
     positionRefusal lowest orSought moving partnerTo seeking landsOn
     codes spell decimal isSame digitsFrom digitsOf countIn twoBytes wordKeys lineKeys placeKeys found
-    commandRows hasStop textAt isRefused actOf acted shownOf lineOf linesOf sessionOf turned
+    encoding utf8 onto isLead tailsOf lowOf highOf bitsOf ended reading textOf
+    commandRows hasStop textAt isBad isRefused actOf acted shownOf lineOf linesOf sessionOf turned
 session-alone = refl

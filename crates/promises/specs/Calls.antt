@@ -1,6 +1,6 @@
 -- A case of every public call, by the name that the Rust has for it, and of the session: its reply, and two replies that its contract
 -- rules out. Definitions only; `proofs/Examples.antt` and `proofs/Runs.antt` compute them. Assumes nothing.
-use Prim.Native.Nat.{ℕ}
+use Prim.Native.Nat.{ℕ, _+_, _*_}
 use Prim.Native.String.{String}
 use mathlib.Core.List.{List, [], _∷_}
 use mathlib.Core.Bool.{Bool, true, false}
@@ -16,6 +16,8 @@ use Rattle.call_folds.specs.Terms.{words}
 use Rattle.call_texts.specs.Viewports.{viewports}
 use Rattle.call_folds.specs.Upright.{verticals}
 use Rattle.call_rows.specs.Wraps.{offsets, segmentOf}
+use Rattle.call_utf8.specs.Utf8.{decodes, encodes}
+use Rattle.utf8.specs.Encoding.{utf8}
 use Rattle.session.specs.Session.{sessionOf}
 use Rattle.lists.specs.Lists.{isSame}
 use Rattle.lists.specs.Codes.{codes}
@@ -143,8 +145,18 @@ calls =
     case "find_char_on_line" (till false "axx") (answer (found 0 0)) (missing 0 0) (answer (found 0 1)) ∷
     []
 
--- document 01's printed session: what it prints, that with `j` left out, and what a refused input prints. And document 02's #104: after `$`, `j` goes
--- to the end of each row, and not to the column of the first row, nor to that of the row before
+-- UTF-8 from and to code points: `é`, a surrogate, whose second byte can't stand there, and an arrow
+unfoldable pub codings : List Case
+codings =
+    case "utf8_decode" (decodes (0xc3 ∷ 0xa9 ∷ []) (9 ∷ [])) (value 1) (value 2) (refused 13) ∷
+    case "utf8_decode" (decodes (0xed ∷ 0xa0 ∷ 0x80 ∷ []) []) (refused (13 + 4294967296 * 1)) (refused 13) (refused 14) ∷
+    case "utf8_encode" (encodes (0x2192 ∷ []) (9 ∷ 9 ∷ 9 ∷ [])) (value 3) (value 1) (refused 14) ∷
+    case "utf8_encode" (encodes (0xd800 ∷ []) []) (refused 2) (value 3) (refused 14) ∷
+    []
+
+-- document 01's printed session: what it prints, that with `j` left out, and what a refused input prints. Document 02's #104: after `$`, `j` goes
+-- to the end of each row, and not to the column of the first row, nor to that of the row before. And one with an accent and an arrow, whose columns
+-- are code points
 unfoldable pub sessions : List Case
 sessions =
     case "session" (answer (sessionOf (codes "w 1\nj 1\n% 1\n.\nif (n) {\nx (y)\n}\n")))
@@ -152,4 +164,5 @@ sessions =
     case "session" (answer (sessionOf (codes "$\nj\nj\nj\n.\nabc\nd\n\nefgh\n")))
     (answer (codes "$ 0 2\nj 1 0\nj 2 0\nj 3 3\n")) (answer (codes "$ 0 2\nj 1 0\nj 2 0\nj 3 2\n"))
     (answer (codes "$ 0 2\nj 1 0\nj 2 0\nj 3 0\n")) ∷
+    case "session" (answer (sessionOf (utf8 (codes "$\n.\né→\n")))) (answer (codes "$ 0 1\n")) (answer (codes "$ 0 4\n")) (answer (codes "refused\n")) ∷
     []

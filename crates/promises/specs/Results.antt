@@ -25,7 +25,8 @@ pub record OneResult : Type 1 where
   pub answered : (s room out : List ℕ) (m : Reply) → One (λ (x : ℕ × List ℕ × List ℕ). Answered s room out m (x .0) (x .1) (x .2))
   -- an export on several byte strings, which share the room
   pub answered-all : (l : List (List ℕ)) (room out : List ℕ) (m : Reply) → One (λ (x : ℕ × List ℕ × List ℕ). AnsweredAll l room out m (x .0) (x .1) (x .2))
-  -- `wrap_segments` for hosts, on code points and on bytes: another clause says what is left in the slice lent for segments
+  -- `wrap_segments` and UTF-8 for hosts, on code points and on bytes: another clause says what is left in the slice lent for segments, code points
+  -- or bytes
   pub replied-leaving : (m : Reply) (out left : List ℕ) → One (λ (x : ℕ × List ℕ × List ℕ). Replied m out (x .0) (x .1) × (x .2 ≡ left))
   pub answered-leaving : (s room out : List ℕ) (m : Reply) (left : List ℕ) →
       One (λ (x : ℕ × List ℕ × List ℕ × List ℕ). Answered s room out m (x .0) (x .1) (x .2) × (x .3 ≡ left))

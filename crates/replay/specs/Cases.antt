@@ -9,6 +9,7 @@ use Rattle.replay_verdicts.specs.declared.Verdict.{Verdict}
 use Rattle.replay_verdicts.specs.declared.Verdict.the-variants.{Malformed}
 use Rattle.replay_verdicts.specs.Answers.{compared}
 use Rattle.replay_rows.specs.Cases.{headOf, foldsAt, listAt, storedAt, part}
+use Rattle.replay_codings.specs.Codings.{decodeVerdict, encodeVerdict}
 use Rattle.replay.specs.Calls.{characterOf, keywordsOf, columnsOf, offsetsOf, segmentForColOf, wrapVerdict}
 use Rattle.replay.specs.Calls.{contentRowCountOf, matchingBracketPosOf, innerPairOf, motionOf, seekOf, wordOf, verticalVerdict, viewportVerdict}
 
@@ -29,7 +30,9 @@ byGroup group k text folds list stored =
     (cond (eqb group 11) (verticalVerdict k text folds stored)
     (cond (eqb group 12) (viewportVerdict k text stored)
     (cond (eqb group 13) (compared (innerPairOf k text) stored)
-    Malformed)))))))))))))
+    (cond (eqb group 14) (decodeVerdict k text stored)
+    (cond (eqb group 15) (encodeVerdict k text stored)
+    Malformed)))))))))))))))
 
 -- the verdict of a case
 unfoldable pub verdictOf : List ℕ → Verdict

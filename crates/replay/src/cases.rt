@@ -33,6 +33,8 @@ fn by_group(
         11 => calls::vertical(k, text, folds, stored),
         12 => calls::viewport(k, text, stored),
         13 => calls::inner_pair(k, text, stored),
+        14 => replay_codings::utf8_decode(k, text, stored),
+        15 => replay_codings::utf8_encode(k, text, stored),
         _ => Verdict::Malformed,
     }
 }

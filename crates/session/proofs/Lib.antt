@@ -1,3 +1,5 @@
 pub mod Lengths
 pub mod Progress
 pub mod Printing
+pub mod PlainKeys
+pub mod Plain

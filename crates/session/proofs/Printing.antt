@@ -8,6 +8,7 @@ use lib.ListN.{length, drop}
 use lib.Seq.{sets-eq, length-take-le}
 use Rattle.lists.specs.Codes.{codes}
 use Rattle.print.specs.Print.{Wrote}
+use Rattle.utf8.specs.Walks.{pointsOf}
 use Rattle.session_input.specs.declared.Begin.the-variants.{At, Refused}
 use Rattle.session_input.specs.Parts.{textOf, isRefused, beginOf}
 use Rattle.session_input.proofs.Inputs.{taken-short, begin-refused, begin-taken}
@@ -21,7 +22,7 @@ module _ (input : List ℕ) where
   unfolding sessionOf
   session-refused e = rw (begin-refused input e)
 
-  pub session-runs : {i : ℕ} → At i ≡ beginOf input → sessionOf input ≡ outputOf (drop i input) input
+  pub session-runs : {i : ℕ} → At i ≡ beginOf input → sessionOf input ≡ outputOf (pointsOf (drop i input)) input
   unfolding sessionOf
   session-runs e = let b = begin-taken input e in rw (b .0, b .1)
 

@@ -1,5 +1,5 @@
-// Document 01's session: command rows, a row with only a full stop, and a text. Every command row
-// prints a line: its key, and the row and column of the caret then.
+// Document 01's session: command rows, a row with only a full stop, and a text, all of it UTF-8
+// (document 02, #105). Every command row prints a line: its key, and the row and column of the caret then.
 use motions::Caret;
 use motions::Moved;
 use print::put;
@@ -14,6 +14,7 @@ ghost use Prim.Native.Nat.{_+_, _≤_};
 ghost use lib.ListN.{length, drop};
 ghost use Rattle.lists.specs.Codes.{codes};
 ghost use Rattle.print.specs.Print.{Wrote};
+ghost use Rattle.utf8.specs.Walks.{pointsOf};
 ghost use Rattle.motions.specs.Carets.{caretAfter};
 ghost use Rattle.session.specs.Session.{turned, shownOf, lineOf, outputOf, sessionOf};
 ghost use Rattle.session.specs.Written.{Printed};
@@ -101,11 +102,11 @@ fn lines(input: &[u8], t: &[u32], out: &mut [u8]) -> usize
 // What an input with a full-stop row prints; its text begins at `from`.
 fn run(input: &[u8], from: usize, out: &mut [u8]) -> usize
     requires { ⌜ (length (now input) ≤ 16384) × (393240 ≤ length (now out)) ⌝ }
-    ensures { λ r. ⌜ Wrote (now (out .entry)) 0 (outputOf (drop from (now (input .entry)))
-        (now (input .entry))) r (now (out .exit)) ⌝ }
+    ensures { λ r. ⌜ Wrote (now (out .entry)) 0 (outputOf (pointsOf (drop from
+        (now (input .entry)))) (now (input .entry))) r (now (out .exit)) ⌝ }
 {
     let mut room = [0u32; 16384];
-    let n = session_input::widen(input, from, &mut room);
+    let n = session_input::read_text(input, from, &mut room);
     lines(input, &room[..n], out)
 }
 
@@ -118,8 +119,9 @@ fn refuse(out: &mut [u8]) -> usize
 }
 
 // Prints into out what the input asks for, and answers how many bytes that is. Input over 16,384
-// bytes, with a byte above 127 or with no full-stop row prints `refused`. The room is enough for
-// the longest output: a row prints at most 24 bytes for each of its own, its separator included.
+// bytes, that is no UTF-8 or with no full-stop row prints `refused`. Columns count code points.
+// What is printed is ASCII, and so its own encoding (`session-encoded`). The room is enough for the
+// longest output: a row prints at most 24 bytes for each of its own, its separator included.
 pub fn session(input: &[u8], out: &mut [u8; 393240]) -> usize
     ensures { λ r. ⌜ Printed (now (out .entry)) (sessionOf (now (input .entry))) r
         (now (out .exit)) ⌝ }

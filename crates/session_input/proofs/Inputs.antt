@@ -1,18 +1,16 @@
--- Laws of an input: when it is refused, and its bytes widened. Assumes nothing.
+-- Laws of an input: when it is refused. Assumes nothing.
 use mathlib.Core.Path.{_≡_, refl, _∙_}
 use mathlib.Core.List.{List}
 use mathlib.Core.Bool.{Bool, true, false, cond, not, _||_}
-use Prim.Native.Nat.{ℕ, _+_, _≤_, _<_}
-use native.Mathlib.Numerals.{add-one}
+use Prim.Native.Nat.{ℕ, _≤_, _<_}
 use native.Mathlib.Omega.{arith}
 use lib.Dec.{ltb}
-use lib.ListN.{length, getD, take, drop, set, length-drop}
-use lib.Seq.{take-suc, take-suc-set, getD-drop, take-all}
+use lib.ListN.{length}
 use borrow.Author.Tests.{lt-ltb, le-ltb, ltb-false}
-use Rattle.lists.specs.Lists.{any}
 use Rattle.text.specs.Text.{rows}
+use Rattle.utf8.specs.Decoding.{decoding}
 use Rattle.session_input.specs.declared.Begin.the-variants.{At, Refused}
-use Rattle.session_input.specs.Parts.{hasStop, textAt, isAbove, isRefused, beginOf, stopOf}
+use Rattle.session_input.specs.Parts.{hasStop, textAt, isBad, isRefused, beginOf, stopOf}
 
 -- when an input is refused
 module _ (input : List ℕ) where
@@ -20,11 +18,11 @@ module _ (input : List ℕ) where
   unfolding beginOf isRefused
   begin-long h = rw (lt-ltb 16384 (length input) h)
 
-  pub begin-above : length input ≤ 16384 → any isAbove input ≡ true → Refused ≡ beginOf input
+  pub begin-bad : length input ≤ 16384 → isBad (decoding input) ≡ true → Refused ≡ beginOf input
   unfolding beginOf isRefused
-  begin-above h a = rw (le-ltb 16384 (length input) h, a)
+  begin-bad h a = rw (le-ltb 16384 (length input) h, a)
 
-  pub begin-stop : length input ≤ 16384 → any isAbove input ≡ false → stopOf input ≡ beginOf input
+  pub begin-stop : length input ≤ 16384 → isBad (decoding input) ≡ false → stopOf input ≡ beginOf input
   unfolding beginOf isRefused stopOf
   begin-stop h a = rw (le-ltb 16384 (length input) h, a) (go (hasStop (rows input)))
     where
@@ -36,7 +34,7 @@ module _ (input : List ℕ) where
   unfolding isRefused
   taken-short = go (ltb 16384 (length input)) refl
     where
-      go : (b : Bool) → ltb 16384 (length input) ≡ b → (b || (any isAbove input || not (hasStop (rows input)))) ≡ false → length input ≤ 16384
+      go : (b : Bool) → ltb 16384 (length input) ≡ b → (b || (isBad (decoding input) || not (hasStop (rows input)))) ≡ false → length input ≤ 16384
       go true p q = let z : _≡_ {A = ℕ} 0 1 = cc in absurd (omega arith)
       go false p q = ltb-false 16384 (length input) p
 
@@ -63,14 +61,3 @@ module _ (input : List ℕ) where
           let z : _≡_ {A = ℕ} 0 1 = cc in
           absurd (omega arith)
       go false r = let f : textAt (rows input) ≡ i = cc (begin-cases false r) in (refl, f)
-
--- bytes widened one after another
-pub widen-on :
-    (input room : List ℕ) (from n i : ℕ) → i ≡ from + n → i < length input → n < length room → take n room ≡ take n (drop from input) →
-    take (n + 1) (set room n (getD input i 0)) ≡ take (n + 1) (drop from input)
-widen-on input room from n i e h k p =
-    let f : n < length (drop from input) = omega (arith, length-drop from input) in
-    rw (add-one n, take-suc-set room n (getD input i 0) k, take-suc (drop from input) n 0 f, p, getD-drop from input n 0, e)
-
-pub widen-all : (input room : List ℕ) (from n : ℕ) → length input ≤ from + n → take n room ≡ take n (drop from input) → take n room ≡ drop from input
-widen-all input room from n h p = p ∙ take-all n (drop from input) (omega (arith, length-drop from input))

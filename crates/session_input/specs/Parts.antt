@@ -1,14 +1,16 @@
--- The parts of an input: command rows, the first row with only a full stop, and the text; and when it is refused. Document 01, "The session".
--- Definitions only; the laws are in `proofs/Rows.antt`. Assumes nothing.
+-- The parts of an input: command rows, the first row with only a full stop, and the text; and when it is refused. Document 01, "The session", and
+-- document 02, #105. Definitions only; the laws are in `proofs/`. Assumes nothing.
 use Prim.Native.Nat.{ℕ, _+_, _≤_}
 use mathlib.Core.Path.{_≡_}
 use mathlib.Core.List.{List, [], _∷_}
-use mathlib.Core.Bool.{Bool, false, cond, not, _||_}
+use mathlib.Core.Bool.{Bool, true, false, cond, not, _||_}
 use lib.Dec.{ltb}
 use lib.ListN.{length, take, drop}
-use Rattle.lists.specs.Lists.{any, isSame}
+use Rattle.lists.specs.Lists.{isSame}
 use Rattle.text.specs.Text.{rows}
 use Rattle.lists.specs.Codes.{codes}
+use Rattle.utf8.specs.Decoding.{Reading, text, bad, decoding}
+use Rattle.utf8.specs.Walks.{pointsOf}
 use Rattle.session_input.specs.declared.Begin.{Begin}
 use Rattle.session_input.specs.declared.Begin.the-variants.{At, Refused}
 
@@ -30,15 +32,18 @@ unfoldable pub textAt : List (List ℕ) → ℕ
 textAt [] = 0
 textAt (row ∷ rest) = length row + 1 + cond (isStop row) 0 (textAt rest)
 
+-- the text: the code points of what stands from there on
 abbrev pub textOf : List ℕ → List ℕ
-textOf input = drop (textAt (rows input)) input
+textOf input = pointsOf (drop (textAt (rows input)) input)
 
--- over 16,384 bytes, a byte above 127, or no full-stop row
-abbrev pub isAbove : ℕ → Bool
-isAbove b = ltb 127 b
+-- bytes that are no UTF-8
+unfoldable pub isBad : Reading → Bool
+isBad (text t) = false
+isBad (bad place) = true
 
+-- over 16,384 bytes, no UTF-8 anywhere in it, or no full-stop row
 unfoldable pub isRefused : List ℕ → Bool
-isRefused input = ltb 16384 (length input) || (any isAbove input || not (hasStop (rows input)))
+isRefused input = ltb 16384 (length input) || (isBad (decoding input) || not (hasStop (rows input)))
 
 unfoldable pub beginOf : List ℕ → Begin
 beginOf input = cond (isRefused input) Refused (At (textAt (rows input)))
@@ -47,8 +52,8 @@ beginOf input = cond (isRefused input) Refused (At (textAt (rows input)))
 unfoldable pub stopOf : List ℕ → Begin
 stopOf input = cond (hasStop (rows input)) (At (textAt (rows input))) Refused
 
--- the first n places of the room hold the bytes from an index on
-pub record Widened (input : List ℕ) (from n : ℕ) (room : List ℕ) : Type 0 where
-  pub front : take n room ≡ drop from input
+-- the first n places of the room hold the code points of the text that begins at an index
+pub record TextIn (input : List ℕ) (from n : ℕ) (room : List ℕ) : Type 0 where
+  pub front : take n room ≡ pointsOf (drop from input)
   pub within : n ≤ length room
   pub counts : n ≡ length (take n room)

@@ -5,7 +5,8 @@
 //! boundary's: 100 no such operation, mode or kind of bracket, 101 bytes that make no whole code points, 102 too
 //! little room, 103 an answer that no u32 holds. 101 comes first, then 102, then 100, for with one of
 //! these there is no call to be made; then the lowest of document 01's that applies. 103 stands in an
-//! answer's place, in [`segment_for_col`] alone. Of what is lent, a refusal changes a [`Room`] alone.
+//! answer's place, in [`segment_for_col`] alone, and of [`utf8_decode`] it comes first of all. Of what
+//! is lent, a refusal changes a [`Room`] alone.
 //!
 //! ```
 //! assert_eq!(tsivareza::matching_bracket_pos(&[0x28, 0x5B, 0x29, 0x5D], 0, 0), Ok(Some((0, 2))));
@@ -14,6 +15,7 @@
 //! assert_eq!(room.content_row_count(&tsivareza::bytes(&[0x61, 0x0A])), Ok(1));
 //! ```
 
+mod encodings;
 mod inner;
 mod raw;
 mod upright;
@@ -24,6 +26,7 @@ mod upright;
 #[doc = include_str!("../../../docs/TUTORIAL.md")]
 struct Papers;
 
+pub use encodings::{utf8_decode, utf8_encode};
 pub use inner::{Kind, Range, Ranges, inner_pair};
 pub use upright::{Steps, Vertical, Viewport, vertical, viewport};
 

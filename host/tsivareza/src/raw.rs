@@ -285,5 +285,29 @@ unsafe extern "C" {
         out: *mut [u32; 4],
     ) -> u32;
 
+    pub fn tsivareza_utf8_decode(
+        bytes: *const u8,
+        bytes_len: usize,
+        points: *mut u32,
+        points_len: usize,
+        out: *mut [u32; 1],
+    ) -> u64;
+    pub fn tsivareza_utf8_encode(
+        points: *const u8,
+        points_len: usize,
+        room: *mut u32,
+        room_len: usize,
+        bytes: *mut u8,
+        bytes_len: usize,
+        out: *mut [u32; 1],
+    ) -> u32;
+    pub fn tsivareza_utf8_encode_u32(
+        points: *const u32,
+        points_len: usize,
+        bytes: *mut u8,
+        bytes_len: usize,
+        out: *mut [u32; 1],
+    ) -> u32;
+
     pub fn tsivareza_session(input: *const u8, input_len: usize, out: *mut [u8; 393240]) -> usize;
 }

@@ -121,3 +121,22 @@ fn a_character_tested_is_a_scalar_value() {
         assert_eq!((tsivareza::is_white(x), tsivareza::is_letter(x), tsivareza::width(x)), (Err(2), Err(2), Err(2)));
     }
 }
+
+#[test]
+fn utf_8_refuses_before_it_writes() {
+    let mut points = [7; 3];
+    assert_eq!(tsivareza::utf8_decode(b"ab\xC3", &mut points), Err((13, 3)));
+    assert_eq!(tsivareza::utf8_decode(b"a\xFF", &mut points[..0]), Err((13, 1)));
+    assert_eq!(tsivareza::utf8_decode(b"abcd", &mut points), Err((14, 0)));
+    assert_eq!(points, [7; 3]);
+    assert_eq!(tsivareza::utf8_decode(b"ab", &mut points), Ok(2));
+    assert_eq!(points, [0x61, 0x62, 7]);
+    let mut bytes = [9; 4];
+    assert_eq!(tsivareza::utf8_encode(&[0x61, 0xDFFF], &mut bytes), Err(2));
+    assert_eq!(tsivareza::utf8_encode(&[0x61, 0x2192, 0x61], &mut bytes), Err(14));
+    assert_eq!(Room::new(2).utf8_encode(&[0x61, 0, 0], &mut bytes), Err(101));
+    assert_eq!(Room::new(1).utf8_encode(&tsivareza::bytes(&[0x61, 0x62]), &mut bytes), Err(102));
+    assert_eq!(bytes, [9; 4]);
+    assert_eq!(tsivareza::utf8_encode(&[0x2192], &mut bytes), Ok(3));
+    assert_eq!(bytes, [0xE2, 0x86, 0x92, 9]);
+}

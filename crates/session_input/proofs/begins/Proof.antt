@@ -1,21 +1,26 @@
 -- `session_input::begins` meets its contract: each way that an input is refused, and where its text begins. Assumes nothing.
 use mathlib.Core.Path.{sym, _∙_}
 use borrow.Author.Needs.{needs}
-use borrow.Author.Tests.{not-true, not-false}
-use Rattle.session_input.proofs.Inputs.{begin-long, begin-above, begin-stop}
+use Rattle.session_input.proofs.Inputs.{begin-long, begin-bad, begin-stop}
+use Rattle.session_input.proofs.TextRead.{check-good, check-bad}
 use Rattle.session_input.proofs.begins.Statement.{statement}
 use Rattle.session_input.proofs.begins.Tie as tie
 
 returns : tie.Need-returns
 returns c = begin-long _ (c .if1 .taken)
 
+-- UTF-8: by the full-stop row
 returns-2 : tie.Need-returns-2
-returns-2 c = begin-above _ (c .before .before .if1 .left) (not-false _ (sym (c .before .plain .ensures) ∙ not-true _ (c .if2 .taken)))
+returns-2 c =
+    let told = c .before in
+    let checked = told .before .before in
+    c .find-stop .ensures ∙ begin-stop _ (checked .before .if1 .left) (check-good _ (sym (told .enum-told .given .1) ∙ checked .check .ensures))
 
+-- no UTF-8
 returns-3 : tie.Need-returns-3
 returns-3 c =
-    let i = c .before in
-    c .find-stop .ensures ∙ begin-stop _ (i .before .before .if1 .left) (not-true _ (sym (i .before .plain .ensures) ∙ not-false _ (i .if2 .left)))
+    let checked = c .before .before in
+    begin-bad _ (checked .before .if1 .left) (check-bad _ (sym (c .enum-told2 .given .1) ∙ checked .check .ensures))
 
 pub begins-spec : {M : Type 1} → statement M
 begins-spec =
@@ -23,6 +28,8 @@ begins-spec =
     (tie.spec
     returns
     (λ c κs. search needs)
-    returns-2
+    (λ c. search needs)
     (λ c κs. search needs)
+    (λ c. search needs)
+    returns-2
     returns-3)

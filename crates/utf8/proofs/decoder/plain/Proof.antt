@@ -1,4 +1,4 @@
--- `session_input::plain` meets its contract. The invariant of its loop: what was found, or will be. The measure is what is left. Assumes nothing.
+-- `decoder::plain` meets its contract. The invariant of its loop: what was found, or will be. The measure is what is left. Assumes nothing.
 use Prim.Native.Nat.{_-_, _≤_}
 use mathlib.Core.Path.{_≡_, refl, ap, sym}
 use mathlib.Core.Bool.{not, _||_}
@@ -6,15 +6,15 @@ use lib.ListN.{length, drop}
 use borrow.Author.Needs.{needs}
 use Rattle.lists.specs.Lists.{any}
 use Rattle.lists.proofs.Any.{any-on, any-end}
-use Rattle.session_input.specs.Parts.{isAbove}
-use Rattle.session_input.proofs.plain.Statement.{statement}
-use Rattle.session_input.proofs.plain.Tie as tie
+use Rattle.utf8.specs.Encoding.{isAbove}
+use Rattle.utf8.proofs.decoder.plain.Statement.{statement}
+use Rattle.utf8.proofs.decoder.plain.Tie as tie
 
 abbrev Inv-loop : tie.InvT-loop
-Inv-loop input above₀ i₀ above i = (i ≤ length input) × (any isAbove input ≡ (above || any isAbove (drop i input)))
+Inv-loop bytes above₀ i₀ above i = (i ≤ length bytes) × (any isAbove bytes ≡ (above || any isAbove (drop i bytes)))
 
 abbrev μ-loop : tie.MeasureT-loop
-μ-loop input above₀ i₀ above i = length input - i
+μ-loop bytes above₀ i₀ above i = length bytes - i
 
 loop-holds : tie.Need-loop-holds Inv-loop μ-loop
 loop-holds c = (search needs, refl)
@@ -23,13 +23,13 @@ loop-again : tie.Need-loop-again Inv-loop μ-loop
 loop-again c =
     let s = c .before .before .before in
     let l = c .before .before .loop in
-    (search needs, any-on isAbove s.args.input.now (l .i) (l .above) (c .before .loop-test .taken) (l .inv .1))
+    (search needs, any-on isAbove s.args.bytes.now (l .i) (l .above) (c .before .loop-test .taken) (l .inv .1))
 
 returns : tie.Need-returns Inv-loop μ-loop
 returns c =
     let s = c .before .before in
     let l = c .before .loop in
-    ap not (sym (any-end isAbove s.args.input.now (l .i) (l .above) (c .loop-test .left) (l .inv .1)))
+    ap not (sym (any-end isAbove s.args.bytes.now (l .i) (l .above) (c .loop-test .left) (l .inv .1)))
 
 pub plain-spec : {M : Type 1} → statement M
 plain-spec =

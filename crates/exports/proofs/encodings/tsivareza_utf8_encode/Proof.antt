@@ -1,0 +1,46 @@
+-- `tsivareza_utf8_encode` meets its contract: the room is filled, and the call on code points answers. Assumes nothing.
+use mathlib.Core.List.{List}
+use Prim.Native.Nat.{ℕ}
+use borrow.Author.Needs.{needs}
+use Rattle.call_utf8.specs.Utf8.{encodes}
+use Rattle.utf8.specs.Calls.{encodedIn}
+use Rattle.call_bytes.proofs.Replies.{answered-unfit, front-count, answered-one, kept-unfit, left-fit}
+use Rattle.exports.proofs.encodings.tsivareza_utf8_encode.Statement.{statement}
+use Rattle.exports.proofs.encodings.tsivareza_utf8_encode.Tie as tie
+
+-- what was lent is unfit
+returns : tie.Need-returns
+returns c =
+    let f = c .before .before .before .fill .ensures in
+    (answered-unfit f (c .if1 .taken), kept-unfit f (c .if1 .taken) _ _)
+
+part : tie.Need-slice-reshare-prefix-utf8-encode
+part c = c .before .before .before .fill .ensures .fit (c .if1 .left) .within
+
+part-length : tie.Need-slice-aggregate-utf8-encode
+part-length c = front-count (c .before .before .before .before .fill .ensures) (c .before .if1 .left)
+
+-- the call on code points answers
+returns-2 : tie.Need-returns-2
+returns-2 c =
+    let b = c .before .before .before .before .before .before in
+    let a = b .before .before .before .before .before .before .before .before .args in
+    let f = b .before .before .before .fill .ensures in
+    let s = c .before .before .utf8-encode .ensures in (
+      answered-one f (λ (t : List ℕ). encodes t (a .bytes .now)) (b .if1 .left) (s .0),
+      left-fit f (λ (t : List ℕ). encodedIn t (a .bytes .now)) (b .if1 .left) _ (s .1),
+    )
+
+pub tsivareza-utf8-encode-spec : {M : Type 1} → statement M
+tsivareza-utf8-encode-spec =
+    tie.close
+    (tie.spec
+    (λ c κs. search needs)
+    (λ c. search needs)
+    returns
+    part
+    part-length
+    (λ c κs. search needs)
+    (λ c. search needs)
+    (λ c. search needs)
+    returns-2)

@@ -1,0 +1,37 @@
+-- `compared_three` meets its contract, by what stands first in the stored answer and then by the rest. Assumes nothing.
+use mathlib.Core.Path.{sym, _∙_}
+use mathlib.Core.List.{_∷_}
+use native.Mathlib.Omega.{arith}
+use borrow.Author.Needs.{needs}
+use Rattle.replay_verdicts.proofs.Comparing.{compared-none, compared-other, compared-first}
+use Rattle.replay_codings.proofs.compared_three.Statement.{statement}
+use Rattle.replay_codings.proofs.compared_three.Tie as tie
+
+returns : tie.Need-returns
+returns c =
+    let a = c .before .before .before .args in
+    compared-none a.first (a .second ∷ a .third ∷ a .places .now) (a .stored .now) (c .if1 .taken)
+
+returns-2 : tie.Need-returns-2
+returns-2 c =
+    let a = c .before .before .before .before .before .args in
+    compared-other a.first (a .second ∷ a .third ∷ a .places .now) (a .stored .now) (omega arith) (c .if2 .taken)
+
+returns-3 : tie.Need-returns-3
+returns-3 c =
+    let b = c .before .before in
+    let a = b .before .before .before .before .before .args in
+    c .compared-two .ensures ∙ sym (compared-first a.first (a .second ∷ a .third ∷ a .places .now) (a .stored .now) (omega arith) (b .if2 .left))
+
+pub compared-three-spec : {M : Type 1} → statement M
+compared-three-spec =
+    tie.close
+    (tie.spec
+    returns
+    (λ c. search needs)
+    returns-2
+    (λ c. search needs)
+    (λ c. search needs)
+    (λ c. search needs)
+    (λ c κs. search needs)
+    returns-3)

@@ -1,0 +1,26 @@
+-- `encode_into` meets its contract: what the call answers, and leaves in both lent places, is compared. Assumes nothing.
+use mathlib.Core.Path.{_∙_}
+use borrow.Author.Needs.{needs}
+use Rattle.replay_codings.proofs.Coded.{encoded-compared}
+use Rattle.replay_codings.proofs.encode_into.Statement.{statement}
+use Rattle.replay_codings.proofs.encode_into.Tie as tie
+
+returns : tie.Need-returns
+returns c =
+    let widened = c .before .before .before .before in
+    let answered = widened .before .before .before .before .before in
+    let a = answered .before .before .before .before .before .before .before .args in
+    let e = answered .utf8-encode .ensures in
+    encoded-compared (a .points .now) (a .bytes .now) (a .stored .now) (e .0) (rw (widened .widen .ensures ∙ e .1) at (c .compared-two .ensures))
+
+pub encode-into-spec : {M : Type 1} → statement M
+encode-into-spec =
+    tie.close
+    (tie.spec
+    (λ c κs. search needs)
+    (λ c κs. search needs)
+    (λ c. search needs)
+    (λ c κs. search needs)
+    (λ c. search needs)
+    (λ c. search needs)
+    returns)

@@ -1,0 +1,77 @@
+-- `narrow` meets its contract. The invariant of its loop: the numbers before i are bytes, and stand in the places. The measure is the length
+-- less i. Assumes nothing.
+use Prim.Native.Nat.{_-_, _≤_}
+use mathlib.Core.Path.{_≡_, refl, ap, sym, _∙_}
+use mathlib.Core.Bool.{true, false, not}
+use native.Mathlib.Omega.{arith}
+use borrow.Author.Needs.{needs}
+use borrow.Author.Tests.{lt-ltb, le-ltb}
+use lib.ListN.{length, getD, take, drop, length-set}
+use lib.Seq.{take-all}
+use Rattle.lists.specs.Lists.{any}
+use Rattle.lists.proofs.Any.{any-on, any-end, any-there}
+use Rattle.replay_codings.specs.Codings.{isWide}
+use Rattle.replay_codings.proofs.Coded.{take-on, no-true}
+use Rattle.replay_codings.proofs.narrow.Statement.{statement}
+use Rattle.replay_codings.proofs.narrow.Tie as tie
+
+abbrev Inv-loop : tie.InvT-loop
+Inv-loop numbers bytes₀ i₀ bytes i =
+    (i ≤ length numbers) × (any isWide numbers ≡ any isWide (drop i numbers)) × (take i bytes ≡ take i numbers) × (length bytes ≡ length bytes₀)
+
+abbrev μ-loop : tie.MeasureT-loop
+μ-loop numbers bytes₀ i₀ bytes i = length numbers - i
+
+loop-holds : tie.Need-loop-holds Inv-loop μ-loop
+loop-holds c = (omega arith, refl, refl, refl)
+
+-- a number that is no byte
+returns : tie.Need-returns Inv-loop μ-loop
+returns c =
+    let at-loop = c .before .before .before in
+    let s = at-loop .before .args .numbers .now in
+    let i = at-loop .loop .i in
+    let wide = any-there isWide s i (c .before .before .loop-test .taken) (lt-ltb 255 (getD s i 0) (c .if1 .taken)) in
+    record { told = sym (ap not wide); front = λ e. no-true e; same = at-loop .loop .inv .3 }
+
+loop-again : tie.Need-loop-again Inv-loop μ-loop
+loop-again c =
+    let at-loop = c .before .before .before in
+    let s = at-loop .before .args .numbers .now in
+    let i = at-loop .loop .i in
+    let h = c .before .before .loop-test .taken in (
+      omega arith,
+      rw (le-ltb 255 (getD s i 0) (c .if1 .left)) at (any-on isWide s i false h (at-loop .loop .inv .1)),
+      take-on s (at-loop .loop .bytes) i h (omega arith) (at-loop .loop .inv .2),
+      simp length-set (at-loop .loop .inv .3),
+    )
+
+returns-2 : tie.Need-returns-2 Inv-loop μ-loop
+returns-2 c =
+    let s = c .before .before .args .numbers .now in
+    let l = c .before .loop in
+    let all : l.i ≡ length s = omega arith in
+    record {
+      told = sym (ap not (any-end isWide s l.i false (c .loop-test .left) (l.inv .1)));
+      front = λ e. (rw all at (l.inv .2)) ∙ take-all (length s) s (omega arith);
+      same = l.inv .3;
+    }
+
+pub narrow-spec : {M : Type 1} → statement M
+narrow-spec =
+    tie.close
+    (tie.spec
+    Inv-loop
+    μ-loop
+    loop-holds
+    (λ c. search needs)
+    (λ c. search needs)
+    (λ c. c .before .before .before .loop .inv .3)
+    returns
+    (λ c. search needs)
+    (λ c. omega arith)
+    (λ c. search needs)
+    (λ c. search needs)
+    loop-again
+    (λ c. c .before .loop .inv .3)
+    returns-2)

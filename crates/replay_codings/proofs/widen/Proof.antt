@@ -1,0 +1,51 @@
+-- `widen` meets its contract. The invariant of its loop: the first i bytes stand in the places. The measure is the length less i. Assumes nothing.
+use Prim.Native.Nat.{_-_, _≤_}
+use mathlib.Core.Path.{_≡_, refl, sym, _∙_}
+use native.Mathlib.Omega.{arith}
+use borrow.Author.Needs.{needs}
+use lib.ListN.{length, take, length-set}
+use lib.Seq.{take-all}
+use Rattle.replay_codings.proofs.Coded.{take-on}
+use Rattle.replay_codings.proofs.widen.Statement.{statement}
+use Rattle.replay_codings.proofs.widen.Tie as tie
+
+abbrev Inv-loop : tie.InvT-loop
+Inv-loop bytes numbers₀ i₀ numbers i = (i ≤ length bytes) × (take i numbers ≡ take i bytes) × (length numbers ≡ length numbers₀)
+
+abbrev μ-loop : tie.MeasureT-loop
+μ-loop bytes numbers₀ i₀ numbers i = length bytes - i
+
+cast-numbers : tie.Need-cast-numbers Inv-loop μ-loop
+cast-numbers c = omega (arith, c .shared-slice-known .given (c .before .before .loop .i))
+
+loop-again : tie.Need-loop-again Inv-loop μ-loop
+loop-again c =
+    let at-loop = c .before .before in
+    let h = c .before .loop-test .taken in (
+      omega arith,
+      take-on (at-loop .before .args .bytes .now) (at-loop .loop .numbers) (at-loop .loop .i) h (omega arith) (at-loop .loop .inv .1),
+      simp length-set (at-loop .loop .inv .2),
+    )
+
+returns : tie.Need-returns Inv-loop μ-loop
+returns c =
+    let l = c .before .loop in
+    let s = c .before .before .args .bytes .now in
+    sym (take-all l.i l.numbers (omega arith)) ∙ l.inv .1 ∙ take-all l.i s (omega arith)
+
+pub widen-spec : {M : Type 1} → statement M
+widen-spec =
+    tie.close
+    (tie.spec
+    Inv-loop
+    μ-loop
+    (λ c. (omega arith, refl, refl))
+    (λ c. search needs)
+    cast-numbers
+    (λ c. search needs)
+    (λ c. omega arith)
+    (λ c. search needs)
+    (λ c. search needs)
+    loop-again
+    (λ c. c .before .loop .inv .2)
+    returns)

@@ -1,0 +1,61 @@
+-- Reading against the definition: it gives a text exactly where the bytes are the encoding of that text, so that each accepted byte string is the
+-- only encoding of one text; and else the place of the longest beginning that some accepted byte string has. Assumes nothing.
+use mathlib.Core.Path.{_≡_, refl, ap, sym, subst, _∙_}
+use mathlib.Core.List.{List, _++_}
+use mathlib.Core.Logic.{_↔_}
+use mathlib.Core.Bool.{false}
+use Prim.Native.Nat.{ℕ, suc, _+_, _<_}
+use native.Mathlib.Omega.{arith}
+use lib.ListN.{length, take}
+use Rattle.chars.specs.Scalar.{notScalar}
+use Rattle.lists.specs.Lists.{any}
+use Rattle.lists.specs.Beginnings.{Begins, Place}
+use Rattle.utf8.specs.Encoding.{utf8, Accepted}
+use Rattle.utf8.specs.Decoding.{Reading, text, bad, decoding}
+use Rattle.utf8.proofs.Sound.{reads-encoded}
+use Rattle.utf8.proofs.Complete.{encoded-reads}
+use Rattle.utf8.proofs.Places.{IsText, wrong-from}
+
+-- the text is read exactly where it is scalar and its encoding is what was read
+pub decoding-text : (b t : List ℕ) → (decoding b ≡ text t) ↔ ((any notScalar t ≡ false) × (utf8 t ≡ b))
+decoding-text b t =
+    (reads-encoded 0 b t, λ w. subst (λ (l : List ℕ). decoding l ≡ text t) (w .1) (encoded-reads t 0 (w .0)))
+
+-- no two texts have one encoding
+pub utf8-one : (t u : List ℕ) → any notScalar t ≡ false → any notScalar u ≡ false → utf8 t ≡ utf8 u → t ≡ u
+utf8-one t u h k e =
+    let f : decoding (utf8 t) ≡ text t = encoded-reads t 0 h in
+    let g : decoding (utf8 t) ≡ text u = decoding-text (utf8 t) u .1 (k, sym e) in
+    cc
+
+pub read-accepted : (b : List ℕ) (a : Accepted b) → decoding b ≡ text (a .text)
+read-accepted b a = decoding-text b (a .text) .1 (a .scalar, a .same)
+
+accepted-text : (b : List ℕ) → IsText (decoding b) → Accepted b
+unfolding IsText
+accepted-text b is = go (decoding b) refl is
+  where
+    go : (r : Reading) → decoding b ≡ r → IsText r → Accepted b
+    go (text t) e i = let w = reads-encoded 0 b t e in record { text = t; scalar = w .0; same = w .1 }
+    go (bad n) e i = absurd i
+
+pub bad-refused : (b : List ℕ) (n : ℕ) → decoding b ≡ bad n → Accepted b → ⊥
+bad-refused b n e a =
+    let f = read-accepted b a in
+    let z : _≡_ {A = ℕ} 0 1 = cc in
+    omega arith
+
+-- the place is that of the longest beginning
+pub bad-place : (b : List ℕ) (n : ℕ) → decoding b ≡ bad n → Place Accepted b n
+bad-place b n e =
+    let w = wrong-from b 0 0 0 0 0 (omega arith) n e in
+    let p : w .passed ≡ n = omega (arith, w .place) in
+    let q : n + 1 ≡ suc (w .passed) = omega arith in
+    record {
+      inside = omega (arith, w .inside);
+      begins = subst (λ (m : ℕ). Begins Accepted (take m b)) p (w .rest, accepted-text (take (w .passed) b ++ w .rest) (w .begins));
+      longest =
+          λ l g.
+          let a = subst (λ (m : ℕ). Accepted (take m b ++ g .0)) q (g .1) in
+          bad-refused (take (suc (w .passed)) b ++ g .0) n (w .longest (omega arith) (g .0)) a;
+    }

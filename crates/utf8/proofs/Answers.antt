@@ -1,0 +1,68 @@
+-- What the check found, and what the decoder then answers and leaves in the room. Assumes nothing.
+use mathlib.Core.Path.{_≡_, refl, sym, _∙_}
+use mathlib.Core.List.{List, _++_}
+use mathlib.Core.Bool.{true, false}
+use Prim.Native.Nat.{ℕ, _≤_, _<_}
+use native.Mathlib.Omega.{arith}
+use lib.ListN.{length, drop}
+use borrow.Author.Tests.{le-leb, lt-leb}
+use Rattle.utf8.specs.declared.Checked.the-variants.{Points, Bad}
+use Rattle.utf8.specs.declared.Decoded.the-variants.{Text, Bad as Decoded·Bad, Refused}
+use Rattle.utf8.specs.Decoding.{Reading, text, bad, decoding}
+use Rattle.utf8.specs.Calls.{tally, checked, decoded, decodedIn}
+use Rattle.utf8.specs.Walks.{textOf, pointsOf, Holds}
+
+tally-points : (r : Reading) (n : ℕ) → tally r ≡ Points n → (r ≡ text (textOf r)) × (length (textOf r) ≡ n)
+unfolding tally textOf
+tally-points (text t) n e = let f : length t ≡ n = cc in (refl, f)
+tally-points (bad p) n e = let z : _≡_ {A = ℕ} 0 1 = cc in absurd (omega arith)
+
+tally-bad : (r : Reading) (place : ℕ) → tally r ≡ Bad place → r ≡ bad place
+unfolding tally
+tally-bad (text t) place e = let z : _≡_ {A = ℕ} 0 1 = cc in absurd (omega arith)
+tally-bad (bad p) place e = let f : p ≡ place = cc in rw f
+
+module _ (b room : List ℕ) where
+  -- by what was read
+  text-fits :
+      (t : List ℕ) → decoding b ≡ text t → length t ≤ length room →
+      (decoded (decoding b) (length room) ≡ Text (length t)) × (decodedIn (decoding b) room ≡ t ++ drop (length t) room)
+  unfolding decoded decodedIn
+  text-fits t e h = (rw (e, le-leb (length t) (length room) h), rw (e, le-leb (length t) (length room) h))
+
+  text-short :
+      (t : List ℕ) → decoding b ≡ text t → length room < length t →
+      (decoded (decoding b) (length room) ≡ Refused 14) × (decodedIn (decoding b) room ≡ room)
+  unfolding decoded decodedIn
+  text-short t e h = (rw (e, lt-leb (length t) (length room) h), rw (e, lt-leb (length t) (length room) h))
+
+  bad-kept :
+      (place : ℕ) → decoding b ≡ bad place → (decoded (decoding b) (length room) ≡ Decoded·Bad place) × (decodedIn (decoding b) room ≡ room)
+  unfolding decoded decodedIn
+  bad-kept place e = (rw e, rw e)
+
+  -- by what the check answered
+  module _ (n : ℕ) (e : checked b ≡ Points n) where
+    pub check-holds : n ≤ length room → Holds b 0 0 room
+    check-holds h =
+        let f = tally-points (decoding b) n e in
+        record { within = omega arith; rest = f .0; most = omega arith; front = refl; room = omega (arith, f .1) }
+
+    pub check-text : n ≤ length room → Text n ≡ decoded (decoding b) (length room)
+    check-text h =
+        let f = tally-points (decoding b) n e in
+        sym (text-fits (pointsOf b) (f .0) (omega (arith, f .1)) .0 ∙ rw (f .1))
+
+    pub check-short : length room < n → (Refused 14 ≡ decoded (decoding b) (length room)) × (room ≡ decodedIn (decoding b) room)
+    check-short h =
+        let f = tally-points (decoding b) n e in
+        let w = text-short (pointsOf b) (f .0) (omega (arith, f .1)) in
+        (sym (w .0), sym (w .1))
+
+  pub check-bad :
+      (place : ℕ) → checked b ≡ Bad place → (Decoded·Bad place ≡ decoded (decoding b) (length room)) × (room ≡ decodedIn (decoding b) room)
+  check-bad place e = let w = bad-kept place (tally-bad (decoding b) place e) in (sym (w .0), sym (w .1))
+
+  -- by what was written
+  pub written-in : Holds b 0 0 room → (points : List ℕ) → points ≡ pointsOf b ++ drop (length (pointsOf b)) room → points ≡ decodedIn (decoding b) room
+  written-in h points e = e ∙ sym (text-fits (pointsOf b) (h .rest) (h .room) .1)

@@ -1,0 +1,19 @@
+-- Laws of UTF-8, which the proofs of the functions and of the crates above cite.
+pub mod Encodings
+pub mod Leads
+pub mod Readings
+pub mod Opens
+pub mod Sound
+pub mod Complete
+pub mod Places
+pub mod Accepts
+pub mod Ascii
+pub mod Steps
+pub mod Starts
+pub mod Counted
+pub mod Written
+pub mod Answers
+pub mod Puts
+pub mod Encodes
+pub mod Sizes
+pub mod Cuts

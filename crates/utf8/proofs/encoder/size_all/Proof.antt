@@ -1,0 +1,60 @@
+-- `encoder::size_all` meets its contract. The invariant of its loop: the bytes counted, and those to come. The measure is the length less i.
+-- Assumes nothing.
+use Prim.Native.Nat.{_+_, _*_, _-_, _≤_}
+use mathlib.Core.Path.{_≡_, ap, sym, _∙_}
+use native.Mathlib.Omega.{arith}
+use borrow.Author.Needs.{needs}
+use lib.ListN.{length, getD, drop, length-append}
+use Rattle.utf8.specs.Encoding.{encoding, utf8}
+use Rattle.utf8.proofs.Encodings.{size-most}
+use Rattle.utf8.proofs.Puts.{utf8-at, utf8-end}
+use Rattle.utf8.proofs.encoder.size_all.Statement.{statement}
+use Rattle.utf8.proofs.encoder.size_all.Tie as tie
+
+abbrev Inv-loop : tie.InvT-loop
+Inv-loop points n₀ i₀ n i = (i ≤ length points) × (n ≤ 4 * i) × (length (utf8 points) ≡ n + length (utf8 (drop i points)))
+
+abbrev μ-loop : tie.MeasureT-loop
+μ-loop points n₀ i₀ n i = length points - i
+
+loop-holds : tie.Need-loop-holds Inv-loop μ-loop
+loop-holds c = (omega arith, omega arith, omega arith)
+
+add-n : tie.Need-add-n Inv-loop μ-loop
+add-n c =
+    let at-loop = c .before .before .before in
+    let x = getD (at-loop .before .before .args .points .now) (at-loop .loop .i) 0 in
+    omega (arith, c .size .ensures, size-most x)
+
+loop-again : tie.Need-loop-again Inv-loop μ-loop
+loop-again c =
+    let at-loop = c .before .before .before in
+    let t = at-loop .before .before .args .points .now in
+    let i = at-loop .loop .i in
+    let x = getD t i 0 in
+    let next = utf8-at t i (c .before .before .loop-test .taken) in (
+      omega arith,
+      omega (arith, c .size .ensures, size-most x),
+      omega (arith, c .size .ensures, at-loop .loop .inv .2, ap length next, length-append (encoding x) (utf8 (drop (i + 1) t))),
+    )
+
+returns : tie.Need-returns Inv-loop μ-loop
+returns c =
+    let t = c .before .before .before .args .points .now in
+    omega (arith, c .before .loop .inv .2, ap length (utf8-end t (c .before .loop .i) (c .loop-test .left)))
+
+pub size-all-spec : {M : Type 1} → statement M
+size-all-spec =
+    tie.close
+    (tie.spec
+    Inv-loop
+    μ-loop
+    loop-holds
+    (λ c. search needs)
+    (λ c. search needs)
+    (λ c κs. search needs)
+    add-n
+    (λ c. search needs)
+    (λ c. search needs)
+    loop-again
+    returns)

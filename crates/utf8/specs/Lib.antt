@@ -1,0 +1,5 @@
+pub mod Encoding
+pub mod Decoding
+pub mod Sequences
+pub mod Calls
+pub mod Walks
