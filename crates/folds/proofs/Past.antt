@@ -106,3 +106,14 @@ prev-within folds (suc r) x e = go (hidden folds r) e (λ h. prev-within folds r
     go : (b : Bool) → cond b (prevVisible folds r) (Row r) ≡ Row x → (prevVisible folds r ≡ Row x → x < r) → x < suc r
     go true h ih = omega (arith, ih h)
     go false h ih = let z : r ≡ x = cc in omega arith
+
+-- no fold hides it
+pub prev-shown : (folds : List ℕ) (r x : ℕ) → prevVisible folds r ≡ Row x → hidden folds x ≡ false
+unfolding prevVisible
+prev-shown folds zero x e = cc
+prev-shown folds (suc r) x e = go (hidden folds r) refl e (λ h. prev-shown folds r x h)
+  where
+    go : (b : Bool) → hidden folds r ≡ b → cond b (prevVisible folds r) (Row r) ≡ Row x → (prevVisible folds r ≡ Row x → hidden folds x ≡ false) →
+        hidden folds x ≡ false
+    go true q h ih = ih h
+    go false q h ih = let z : r ≡ x = cc in rw z at q

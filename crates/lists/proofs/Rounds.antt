@@ -1,5 +1,5 @@
 -- Laws of a round that is gone through so many times. Assumes nothing.
-use mathlib.Core.Path.{_≡_, refl, ap, _∙_}
+use mathlib.Core.Path.{_≡_, refl, ap, sym, _∙_}
 use Prim.Native.Nat.{ℕ, zero, suc, _+_, _-_, _≤_, _<_}
 use native.Mathlib.Nat.{zero-add}
 use native.Mathlib.Omega.{arith}
@@ -38,3 +38,20 @@ pub rounds-keep : {A : Type 0} (P : A → Type 0) (f : A → A) → ((p : A) →
 unfolding rounds
 rounds-keep P f h zero p i = i
 rounds-keep P f h (suc n) p i = rounds-keep P f h n (f p) (h p i)
+
+-- a counted motion of which one more is one and then the rest: it is so many rounds, and its counts add
+module _ {A : Type 0} (f : ℕ → A → A) (more : (n : ℕ) (p : A) → 0 < n → f (n + 1) p ≡ f n (f 1 p)) where
+  counts-rounds : (n : ℕ) (p : A) → 0 < n → f n p ≡ rounds (f 1) n p
+  unfolding rounds
+  counts-rounds zero p h = absurd (omega arith)
+  counts-rounds (suc zero) p h = refl
+  counts-rounds (suc (suc n)) p h =
+      let one : suc (suc n) ≡ suc n + 1 = omega arith in
+      ap (λ (x : ℕ). f x p) one ∙ more (suc n) p (omega arith) ∙ counts-rounds (suc n) (f 1 p) (omega arith)
+
+  pub counts-add : (m n : ℕ) (p : A) → 0 < m → 0 < n → f (m + n) p ≡ f n (f m p)
+  counts-add m n p h k =
+      counts-rounds (m + n) p (omega arith)
+      ∙ rounds-add (f 1) m n p
+      ∙ ap (rounds (f 1) n) (sym (counts-rounds m p h))
+      ∙ sym (counts-rounds n (f m p) k)

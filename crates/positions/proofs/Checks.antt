@@ -29,6 +29,10 @@ module _ (t : List ℕ) (k : Position) where
       go true false p q h = absurd (omega arith)
       go false b p q h = absurd (omega arith)
 
+  pub inside-taken : Inside t k → positionRefusal t k ≡ 0
+  unfolding positionRefusal
+  inside-taken i = rw (lt-ltb (k .row) (rowCount t) (i .in-row), le-leb (k .col) (rowLen t (k .row)) (i .in-col))
+
   pub inside : refusalAt t k ≡ 0 → Inside t k
   inside e = inside-at (lowest-none (positionRefusal t k) [] (lowest-none (textRefusal t) (positionRefusal t k ∷ []) e .1) .0)
 

@@ -27,6 +27,13 @@ lowest-kept (f ∷ rest) d n = go (eqb f 0) (λ m. lowest-kept rest d m) n
     go true h n = h n
     go false h n = refl
 
+-- one input for another that is accepted too, after the first
+pub lowest-other : (f a b : ℕ) (rest : List ℕ) → lowest (f ∷ a ∷ rest) ≡ 0 → b ≡ 0 → lowest (f ∷ b ∷ rest) ≡ 0
+unfolding lowest
+lowest-other f a b rest z e =
+    let first = lowest-none f (a ∷ rest) z in
+    rw (eq-eqb f 0 (first .0), eq-eqb b 0 e) (lowest-none a rest (first .1) .1)
+
 pub both : (a b : ℕ) → a ≡ 0 → b ≡ 0 → lowest (a ∷ b ∷ []) ≡ 0
 unfolding lowest
 both a b p q = rw (eq-eqb a 0 p, eq-eqb b 0 q)

@@ -10,3 +10,7 @@ pub mod Trails
 pub mod Writing
 pub mod Uprights
 pub mod Positions
+pub mod Sums
+pub mod CountsAdd
+pub mod Methods
+pub mod Apart

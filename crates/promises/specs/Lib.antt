@@ -6,3 +6,7 @@ pub mod Positions
 pub mod Trails
 pub mod Writes
 pub mod KeyMoves
+pub mod Adding
+pub mod CountsAdd
+pub mod Methods
+pub mod Apart

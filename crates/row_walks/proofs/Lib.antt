@@ -4,3 +4,4 @@ pub mod Walks
 pub mod Rounding
 pub mod Leading
 pub mod Marks
+pub mod Adding

@@ -2,3 +2,4 @@
 pub mod Staying
 pub mod Led
 pub mod Going
+pub mod Adding

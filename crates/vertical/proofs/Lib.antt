@@ -5,3 +5,4 @@ pub mod Inside
 pub mod Edges
 pub mod Examples
 pub mod Ends
+pub mod Adding

@@ -2,3 +2,4 @@
 pub mod Free
 pub mod Visible
 pub mod Signed
+pub mod Adding

@@ -17,7 +17,7 @@ use Rattle.folds.specs.declared.Visible.{Visible}
 use Rattle.folds.specs.declared.Visible.the-variants.{Row, NoRow}
 use Rattle.text.proofs.Content.{content-near}
 use Rattle.folds.proofs.Hiding.{Covers, cover-covers}
-use Rattle.folds.proofs.Past.{folds-good, visible-within}
+use Rattle.folds.proofs.Past.{folds-good, visible-within, prev-shown}
 use Rattle.word_rounds.specs.Rounds.{toLast, toFirst, foldAt, jumpFwd, jumpBack}
 
 -- a hidden row is a row of the text
@@ -27,17 +27,6 @@ hidden-within folds rows x g h = go (coverOf folds x) (cover-covers folds x)
     go : (r : Span) → Covers folds x r → x < rows
     go (Of s e) v = omega (arith, v .1, v .3 rows g)
     go NoSpan v = let z : _≡_ {A = ℕ} 0 1 = cc in absurd (omega arith)
-
--- the last row seen before another is seen
-prev-shown : (folds : List ℕ) (r x : ℕ) → prevVisible folds r ≡ Row x → hidden folds x ≡ false
-unfolding prevVisible
-prev-shown folds zero x e = cc
-prev-shown folds (suc r) x e = go (hidden folds r) refl e (λ h. prev-shown folds r x h)
-  where
-    go : (b : Bool) → hidden folds r ≡ b → cond b (prevVisible folds r) (Row r) ≡ Row x → (prevVisible folds r ≡ Row x → hidden folds x ≡ false) →
-        hidden folds x ≡ false
-    go true q h ih = ih h
-    go false q h ih = let z : r ≡ x = cc in rw z at q
 
 -- it is the row itself, where all between are hidden
 prev-over : (folds : List ℕ) (a k : ℕ) → hidden folds a ≡ false → ((x : ℕ) → a < x → x < a + 1 + k → hidden folds x ≡ true) →

@@ -1,11 +1,12 @@
 -- Counts of rounds: they add where a round that ends the motion ends it again, and a round that changes nothing ends it.
 -- Assumes nothing.
-use mathlib.Core.Path.{_≡_, refl}
+use mathlib.Core.Path.{_≡_, refl, ap, sym, _∙_}
 use mathlib.Core.List.{List}
 use mathlib.Core.Bool.{Bool, false}
 use Prim.Native.Nat.{ℕ, zero, suc, _+_, _-_, _<_, max}
-use native.Mathlib.Nat.{zero-add, suc-add}
 use native.Mathlib.Omega.{arith}
+use Rattle.lists.specs.Rounds.{rounds}
+use Rattle.lists.proofs.Rounds.{rounds-still, rounds-add}
 use Rattle.text.specs.declared.Position.{Position}
 use Rattle.word_rounds.specs.Rounds.{Turn, On, Off, roundOf, after, counted, wordMotion}
 use Rattle.word_rounds.specs.declared.Motion.{Motion}
@@ -34,20 +35,30 @@ module _ (round : Position → Turn) where
   counted-still zero p e = refl
   counted-still (suc n) p e = rw e (counted-still n p e)
 
-  -- m rounds and then n are m + n rounds, where the round after the last is the last again
-  pub counted-add : ((p q : Position) → round p ≡ Off q → round q ≡ Off q) → (m n : ℕ) (p : Position) → counted round (m + n) p ≡ counted round n (counted round m p)
-  unfolding counted
-  counted-add again zero n p = rw (zero-add n)
-  counted-add again (suc m) n p = rw (suc-add m n) (go (round p) refl (λ q. counted-add again m n q))
-    where
-      stays : (k : ℕ) (q : Position) → round q ≡ Off q → q ≡ counted round k q
-      stays zero q e = refl
-      stays (suc k) q e = rw e
+  -- where the round after the last is the last again, they are as many rounds from place to place
+  module _ (again : (p q : Position) → round p ≡ Off q → round q ≡ Off q) where
+    ends : Turn → Position
+    ends (On q) = q
+    ends (Off q) = q
 
-      go : (r : Turn) → round p ≡ r → ((q : Position) → counted round (m + n) q ≡ counted round n (counted round m q)) → after r (counted round (m + n))
-          ≡ counted round n (after r (counted round m))
-      go (On q) e ih = ih q
-      go (Off q) e ih = stays n q (again p q e)
+    counted-rounds : (n : ℕ) (p : Position) → counted round n p ≡ rounds (λ q. ends (round q)) n p
+    unfolding counted rounds ends
+    counted-rounds zero p = refl
+    counted-rounds (suc n) p = go (round p) refl (λ q. counted-rounds n q)
+      where
+        go : (r : Turn) → round p ≡ r → ((q : Position) → counted round n q ≡ rounds (λ q. ends (round q)) n q) →
+            after r (counted round n) ≡ rounds (λ q. ends (round q)) n (ends r)
+        go (On q) e ih = ih q
+        go (Off q) e ih = sym (rounds-still (λ q. ends (round q)) n q (ap ends (again p q e)))
+
+    -- m rounds and then n are m + n rounds
+    pub counted-add : (m n : ℕ) (p : Position) → counted round (m + n) p ≡ counted round n (counted round m p)
+    counted-add m n p =
+        let step : Position → Position = λ q. ends (round q) in
+        counted-rounds (m + n) p
+        ∙ rounds-add step m n p
+        ∙ ap (rounds step n) (sym (counted-rounds m p))
+        ∙ sym (counted-rounds n (counted round m p))
 
 -- the first round, and the rest
 module _ (t folds : List ℕ) (kind : ℕ → ℕ) (big : Bool) (m : Motion) (stop : Bool) (count : ℕ) (p : Position) {q : Position} where
