@@ -15,7 +15,7 @@ use Rattle.motions.specs.declared.Moved.the-variants.{To, Refused}
 use Rattle.motions.specs.Carets.{here, caretRefusal, moving, Inside}
 use Rattle.promises.specs.CountsAdd.{Sums}
 
-to-once : {j k : Caret} → To j ≡ To k → j ≡ k
+pub to-once : {j k : Caret} → To j ≡ To k → j ≡ k
 to-once e = cc
 
 to-refused : {k : Caret} {f : ℕ} → To k ≡ Refused f → ⊥

@@ -17,6 +17,7 @@ use Rattle.call_folds.specs.Terms.{word}
 use Rattle.call_folds.specs.Upright.{vertical}
 use Rattle.promises.specs.Calls.{same, caret, caretTo}
 use Rattle.promises.specs.Adding.{whole, dropped}
+use Rattle.promises.specs.CountsAdd.{Sums}
 
 -- a call by its count and its caret
 abbrev pub Asking : Type 0
@@ -83,11 +84,24 @@ told =
     apart "move_down" (caretTo 2 1 1) (caretTo 2 1 1) ∷
     []
 
+-- what `CountsAdd` would say of a move with count 1 and count 1 again
+abbrev pub Would : (Caret → Caret) → Asking → ℕ → ℕ → Type 0
+Would handed f r c =
+    let start = caretOf r c 0 0 in
+    Sums (f 1 start) (λ k. f 1 (handed k)) (f 2 start)
+
 -- whether the two end at the same caret
 abbrev pub met : List Apart → List Bool
 met [] = []
 met (a ∷ l) = same (a .twice) (a .once) ∷ met l
 
+-- the table is as told, and what `CountsAdd` would say of its examples is false
 pub record NotAdding : Type 0 where
   pub table : computed ≡ told
   pub ends : met told ≡ replicate 10 false ++ (true ∷ [])
+  pub paragraphs-on : Would whole (paragraph true "a") 0 1 → ⊥
+  pub paragraphs-back : Would whole (paragraph false "a") 0 1 → ⊥
+  pub screen-down : Would whole (screen true 2 2 [] "aa aa") 0 1 → ⊥
+  pub screen-up : Would whole (screen false 2 2 [] "aa aa") 0 4 → ⊥
+  pub stop-twice : Would whole (end "a a") 0 0 → ⊥
+  pub sticky-dropped : Would dropped (down "aa\n\naa") 0 1 → ⊥
