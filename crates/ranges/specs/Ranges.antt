@@ -22,6 +22,11 @@ abbrev pub ascending : List ℕ → Bool
 ascending [] = true
 ascending (b ∷ rest) = climbs b rest
 
+-- x is below the numbers of the table from `end` on
+pub record BelowFrom (table : List ℕ) (x end : ℕ) : Type 0 where
+  pub inside : end ≤ length table
+  pub above : (k : ℕ) → end ≤ k → k < length table → x < getD table k 0
+
 -- the first r numbers of the table are at most x, and those after them are above it
 pub record UpTo (table : List ℕ) (x r : ℕ) : Type 0 where
   pub inside : r ≤ length table

@@ -3,16 +3,17 @@
 // table of `chars` and `letters`.
 ghost use mathlib.Core.Path.{_≡_};
 ghost use lib.Dec.{T};
-ghost use Rattle.ranges.specs.Ranges.{inTable, ascending, UpTo};
+ghost use Rattle.ranges.specs.Ranges.{inTable, ascending, BelowFrom, UpTo};
 ghost use Rattle.ranges.specs.Lengths.{boundsOf, apart};
 
-// How many numbers of an ascending table are at most x. Halves the table at each step.
-fn up_to(table: &[u32], x: u32) -> usize
-    requires { ⌜ T (ascending (now table)) ⌝ }
+// How many numbers of an ascending table are at most x, which is below those from `end` on. Halves
+// the table at each step.
+fn up_to_end(table: &[u32], x: u32, end: usize) -> usize
+    requires { ⌜ T (ascending (now table)) × BelowFrom (now table) x end ⌝ }
     ensures { λ r. ⌜ UpTo (now (table .entry)) x r ⌝ }
 {
     let mut low: usize = 0;
-    let mut high: usize = table.len();
+    let mut high: usize = end;
     while low < high {
         let mid = low + (high - low) / 2;
         if table[mid] <= x {
@@ -22,6 +23,21 @@ fn up_to(table: &[u32], x: u32) -> usize
         }
     }
     low
+}
+
+// How many numbers of an ascending table are at most x. What is asked most often, as letters of a
+// table of widths, lies before its third number: there no search is made.
+fn up_to(table: &[u32], x: u32) -> usize
+    requires { ⌜ T (ascending (now table)) ⌝ }
+    ensures { λ r. ⌜ UpTo (now (table .entry)) x r ⌝ }
+{
+    let len = table.len();
+    if len > 2 {
+        if x < table[2] {
+            return up_to_end(table, x, 2);
+        }
+    }
+    up_to_end(table, x, len)
 }
 
 // Whether x lies in a range of the table: an odd number of bounds are at most x.

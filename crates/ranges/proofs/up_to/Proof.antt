@@ -1,51 +1,21 @@
--- `ranges::up_to` meets its contract. The invariant of its loop: the numbers before `low` are at most x, those from `high` on are
--- above it. The measure is what lies between. Assumes nothing.
-use Prim.Native.Nat.{_+_, _-_, _/_}
-use mathlib.Core.Path.{_≡_}
+-- `ranges::up_to` meets its contract: x is below the third number, and so below all after it, or the whole table is searched.
+-- Assumes nothing.
 use native.Mathlib.Omega.{arith}
 use borrow.Author.Needs.{needs}
-use Rattle.ranges.proofs.Search.{Search, search-up, search-down, search-found}
+use Rattle.ranges.proofs.Ascending.{ascending-le}
 use Rattle.ranges.proofs.up_to.Statement.{statement}
 use Rattle.ranges.proofs.up_to.Tie as tie
 
-abbrev Inv-loop : tie.InvT-loop
-Inv-loop table x low₀ high₀ low high = Search table x low high
-
-abbrev μ-loop : tie.MeasureT-loop
-μ-loop table x low₀ high₀ low high = high - low
-
--- the number in the middle is at most x: so are those before it
-loop-again : tie.Need-loop-again Inv-loop μ-loop
-loop-again c =
-    let l = c .before .before .before .loop in
-    search-up (c .before .before .before .before .pre) l.inv (l.low + (l.high - l.low) / 2) (omega arith) (omega arith) (c .if1 .taken)
-
--- it is above x: so are those after it
-loop-again-2 : tie.Need-loop-again-2 Inv-loop μ-loop
-loop-again-2 c =
-    let l = c .before .before .before .loop in
-    search-down (c .before .before .before .before .pre) l.inv (l.low + (l.high - l.low) / 2) (omega arith) (omega arith) (c .if1 .left)
-
-returns : tie.Need-returns Inv-loop μ-loop
-returns c =
-    let l = c .before .loop in
-    let e : l.high ≡ l.low = omega arith in
-    search-found l.low (rw e at l.inv)
+before-third : tie.Need-up-to-end-requires
+before-third c κs =
+    let start = c .before .before .before .before in (
+      start .pre,
+      record {
+        inside = omega arith;
+        above = λ k from inside. omega (arith, ascending-le (start .args .table .now) (start .pre) 2 k from inside, c .if2 .taken);
+      },
+    )
 
 pub up-to-spec : {M : Type 1} → statement M
 up-to-spec =
-    tie.close
-    (tie.spec
-    Inv-loop
-    μ-loop
-    (λ c. search needs)
-    (λ c. search needs)
-    (λ c. search needs)
-    (λ c. search needs)
-    (λ c. search needs)
-    (λ c. search needs)
-    (λ c. search needs)
-    loop-again
-    (λ c. search needs)
-    loop-again-2
-    returns)
+    tie.close (tie.spec (λ c. search needs) before-third (λ c. search needs) (λ c κs. search needs) (λ c. search needs))
