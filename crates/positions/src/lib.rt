@@ -27,7 +27,7 @@ fn refused(f: u32) -> Entry
 }
 
 // The checks that every motion begins with: the text (1, 2, 3), then the position (4). The rows are
-// counted and the position's row is found here, once for the call.
+// counted here, once for the call, and the position's row is found while they are.
 pub fn enter(t: &[u32], p: Position) -> Entry
     ensures { λ r. ⌜ r ≡ entryOf (now (t .entry)) p ⌝ }
 {
@@ -35,15 +35,15 @@ pub fn enter(t: &[u32], p: Position) -> Entry
     if f != 0 {
         return refused(f);
     }
-    let rows = text::row_count(t);
-    if p.row >= rows {
+    let l = text::offsets::reach(t, p.row);
+    if l.row < p.row {
         return refused(4);
     }
-    let l = text::offsets::row_line(t, rows, p.row);
     let n = text::offsets::row_len(t, l);
     if p.col > n {
         return refused(4);
     }
+    let rows = text::offsets::rows_from(t, l);
     Entry {
         refusal: 0,
         start: l.start,

@@ -7,11 +7,11 @@ use Prim.Native.Nat.{ℕ, zero, suc, _+_, _-_, _≤_, _<_}
 use native.Mathlib.Numerals.{add-one}
 use native.Mathlib.Decide.{ℕ-discrete}
 use native.Mathlib.Omega.{arith}
-use lib.Dec.{eqb}
+use lib.Dec.{eqb, ltb}
 use lib.ListN.{length, getD}
-use borrow.Author.Tests.{eq-eqb, ne-eqb}
+use borrow.Author.Tests.{eq-eqb, ne-eqb, ltb-true, ltb-false}
 use Rattle.text.specs.Text.{rowCount, rowLen}
-use Rattle.text.specs.Offsets.{rowStart, At, Stands, IsLine, lineAt, endFrom, rowOf}
+use Rattle.text.specs.Offsets.{rowStart, At, Stands, IsLine, lineAt, Reached, endFrom, rowOf}
 use Rattle.text.specs.declared.Line.{Line}
 use Rattle.text.proofs.Rows.{start-zero}
 use Rattle.text.proofs.At.{at-first, at-start, at-le, at-col, after-char, after-nl, to-end}
@@ -76,6 +76,31 @@ line-eq t {row} s e = (λ i. record { row = row; start = s i }) ∙ ap (lineAt t
 
 pub line-there : (t : List ℕ) (l : Line) (r : ℕ) → l ≡ lineAt t r → r < rowCount t → IsLine t l
 line-there t l r e h = rw e (line-at t r h)
+
+-- a row that was sought from above, and the last row where the text ends before it
+pub reached-row : (t : List ℕ) {row start q : ℕ} → start ≡ rowStart t row → row ≡ q → row < rowCount t → Reached t q record { row = row; start = start }
+reached-row t e same h = record { there = λ inside. line-eq t e same; short = λ beyond. absurd (omega arith) }
+
+pub reached-end : (t : List ℕ) {row at q : ℕ} → row < q → row + 1 ≡ rowCount t → Reached t q record { row = row; start = at }
+reached-end t above last = record { there = λ inside. absurd (omega arith); short = λ beyond. last }
+
+-- the text has the row sought exactly where the one reached lies no higher
+module _ (t : List ℕ) (r : ℕ) (l : Line) (reached : Reached t r l) where
+  pub reached-there : r ≤ l .row → r < rowCount t
+  reached-there low = go (ltb r (rowCount t)) refl
+    where
+      go : (b : Bool) → ltb r (rowCount t) ≡ b → r < rowCount t
+      go true e = ltb-true _ _ e
+      go false e =
+          let beyond = ltb-false r (rowCount t) e in
+          absurd (omega (arith, reached .short beyond))
+
+  pub reached-short : l .row < r → rowCount t ≤ r
+  reached-short high = go (ltb r (rowCount t)) refl
+    where
+      go : (b : Bool) → ltb r (rowCount t) ≡ b → rowCount t ≤ r
+      go true e = absurd (omega (arith, ap (λ (x : Line). x .row) (reached .there (ltb-true _ _ e))))
+      go false e = ltb-false _ _ e
 
 module _ {t : List ℕ} {row start at : ℕ} (s : Stands t row start at) where
   pub stands-own : Stands t row (rowStart t row) at

@@ -12,6 +12,7 @@ use Rattle.text.specs.Text.{rowCount}
 use Rattle.text.specs.Offsets.{rowStart, Stands, rowOf}
 use Rattle.text.proofs.Rows.{rows-nil, rows-pos}
 use Rattle.text.proofs.Parts.{count-cons-nl, count-cons-on}
+use Rattle.text.proofs.At.{on-last}
 use Rattle.text.proofs.Before.{same-row}
 use Rattle.text.proofs.Stands.{stands-at, at-stands, row-there, step-char, step-nl}
 
@@ -60,6 +61,13 @@ module _ (t : List ℕ) {row start at : ℕ} (w : Stands t row start at) (s : �
       let same : r + s ≡ row = same-row (stands-at on) (stands-at w) in
       let up : r ≡ row - s = omega arith in
       (omega arith, rw up at back)
+
+-- the rows above an offset, and those from it on
+pub pass-all : (t : List ℕ) {row start at : ℕ} → Stands t row start at → (n : ℕ) → n ≡ rowCount (take (length t - at) (drop at t)) → row + n ≡ rowCount t
+pass-all t {at = at} w n e =
+    let some = rows-pos (take (length t - at) (drop at t)) in
+    let at-end = pass-on t w (n - 1) (length t) (w .within) (omega arith) (omega arith) in
+    omega (arith, on-last (stands-at at-end) (omega arith))
 
 -- what is left to go up shrinks by the rows passed
 pub left-over : (r left s : ℕ) → s ≤ r → s ≤ left → r - s - (left - s) ≡ r - left

@@ -40,6 +40,11 @@ lineAt t r = record { row = r; start = rowStart t r }
 abbrev pub IsLine : List ℕ → Line → Type 0
 IsLine t l = Stands t (l .row) (l .start) (l .start)
 
+-- what a search for row r from above it has reached: that row, or the last one where the text has no row r
+pub record Reached (t : List ℕ) (r : ℕ) (l : Line) : Type 0 where
+  pub there : r < rowCount t → l ≡ lineAt t r
+  pub short : rowCount t ≤ r → l .row + 1 ≡ rowCount t
+
 -- the end of the row that has the offset `at`: the separator after it, or the end of the text
 abbrev pub endFrom : List ℕ → ℕ → ℕ
 endFrom t at = at + rowLen (drop at t) 0

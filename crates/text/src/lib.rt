@@ -25,12 +25,16 @@ pub enum Counted {
     Refused(u32),
 }
 
-// How many separators a part of a text has. The loop leaves by its end alone, so that the compiler
-// reads many code points at a time.
-pub fn separators(part: &[u32]) -> usize
+// How many code points are passed over at a time where their separators alone count.
+const STRETCH: usize = 256;
+
+// How many separators a stretch has. It counts in 32 bits, as wide as a code point, and leaves its
+// loop by the end alone, so that the compiler reads and counts many code points at a time.
+fn few(part: &[u32]) -> u32
+    requires { ⌜ length (now part) ≤ 1048576 ⌝ }
     ensures { λ r. ⌜ (r + 1 ≡ rowCount (now (part .entry))) × (r ≤ length (now (part .entry))) ⌝ }
 {
-    let mut n: usize = 0;
+    let mut n: u32 = 0;
     let mut i: usize = 0;
     while i < part.len() {
         if part[i] == 10 {
@@ -41,6 +45,21 @@ pub fn separators(part: &[u32]) -> usize
         }
     }
     n
+}
+
+// How many separators a part of a text has, stretch by stretch.
+pub fn separators(part: &[u32]) -> usize
+    ensures { λ r. ⌜ (r + 1 ≡ rowCount (now (part .entry))) × (r ≤ length (now (part .entry))) ⌝ }
+{
+    let len = part.len();
+    let mut n: usize = 0;
+    let mut i: usize = 0;
+    while len - i >= STRETCH {
+        let end = i + STRETCH;
+        n += few(&part[i..end]) as usize;
+        i = end;
+    }
+    n + few(&part[i..len]) as usize
 }
 
 // How many rows a text has: one more than its separators.

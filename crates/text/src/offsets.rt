@@ -2,24 +2,20 @@
 // where an offset stands.
 // From document 01, "Text, rows, carets"; the Rust asks its rope for these.
 use crate::Line;
-use crate::content_of;
-use crate::least;
+use crate::STRETCH;
 use crate::row_count;
 use crate::separators;
 ghost use mathlib.Core.Path.{_≡_};
-ghost use Prim.Native.Nat.{_+_, _-_, _≤_, _<_, min};
+ghost use Prim.Native.Nat.{_+_, _-_, _≤_, _<_};
 ghost use lib.ListN.{length};
-ghost use Rattle.text.specs.Text.{rowCount, rowAt, rowLen, contentRows};
-ghost use Rattle.text.specs.Offsets.{rowStart, Stands, IsLine, lineAt, endFrom, rowOf};
+ghost use Rattle.text.specs.Text.{rowCount, rowAt, rowLen};
+ghost use Rattle.text.specs.Offsets.{rowStart, Stands, IsLine, lineAt, Reached, endFrom, rowOf};
 
-// How many code points are passed over at a time where their separators alone count.
-const STRETCH: usize = 256;
-
-// Row `to`, which lies below row `row`: a walk from the offset `at` of that one.
+// Row `to`, which lies below row `row`, by a walk from the offset `at` of that one; or the last row
+// where the text has no row `to`.
 fn walk_down(t: &[u32], row: usize, at: usize, to: usize) -> Line
-    requires { ⌜ Stands (now t) row (rowStart (now t) row) at × (row < to) × (to < rowCount (now t))
-        ⌝ }
-    ensures { λ r. ⌜ r ≡ lineAt (now (t .entry)) to ⌝ }
+    requires { ⌜ Stands (now t) row (rowStart (now t) row) at × (row < to) ⌝ }
+    ensures { λ r. ⌜ Reached (now (t .entry)) to r ⌝ }
 {
     let mut r = row;
     let mut i = at;
@@ -39,9 +35,8 @@ fn walk_down(t: &[u32], row: usize, at: usize, to: usize) -> Line
 
 // The same. Stretches that end before that row are counted and not walked.
 fn below(t: &[u32], row: usize, at: usize, to: usize) -> Line
-    requires { ⌜ Stands (now t) row (rowStart (now t) row) at × (row < to) × (to < rowCount (now t))
-        ⌝ }
-    ensures { λ r. ⌜ r ≡ lineAt (now (t .entry)) to ⌝ }
+    requires { ⌜ Stands (now t) row (rowStart (now t) row) at × (row < to) ⌝ }
+    ensures { λ r. ⌜ Reached (now (t .entry)) to r ⌝ }
 {
     let mut r = row;
     let mut i = at;
@@ -55,6 +50,27 @@ fn below(t: &[u32], row: usize, at: usize, to: usize) -> Line
         i = end;
     }
     walk_down(t, r, i, to)
+}
+
+// Row `to`, sought from the top; its number is less than `to` where the text has no such row.
+pub fn reach(t: &[u32], to: usize) -> Line
+    ensures { λ r. ⌜ Reached (now (t .entry)) to r ⌝ }
+{
+    if to == 0 {
+        return Line { row: 0, start: 0 };
+    }
+    below(t, 0, 0, to)
+}
+
+// How many rows the text has: those above a row, and those from it on.
+pub fn rows_from(t: &[u32], l: Line) -> usize
+    requires { ⌜ IsLine (now t) l ⌝ }
+    ensures { λ r. ⌜ r ≡ rowCount (now (t .entry)) ⌝ }
+{
+    let row = l.row;
+    let s = l.start;
+    let e = t.len();
+    row + row_count(&t[s..e])
 }
 
 // The row n rows below `from`.
@@ -166,14 +182,6 @@ pub fn row_line(t: &[u32], rows: usize, row: usize) -> Line
     line_from(t, rows, first, row)
 }
 
-// Row `row` of the text, or the last row where there are fewer.
-pub fn line_at(t: &[u32], row: usize) -> Line
-    ensures { λ r. ⌜ r ≡ lineAt (now (t .entry)) (min row (rowCount (now (t .entry)) - 1)) ⌝ }
-{
-    let rows = row_count(t);
-    row_line(t, rows, least(row, rows - 1))
-}
-
 // Row `to` of the text, sought from row `row`, which has the offset `at`: only what lies between
 // them is read.
 pub fn line_to(t: &[u32], row: usize, at: usize, to: usize) -> Line
@@ -184,15 +192,6 @@ pub fn line_to(t: &[u32], row: usize, at: usize, to: usize) -> Line
         return up(t, row, at, row - to);
     }
     below(t, row, at, to)
-}
-
-// Row `row` of the text, or the last row with content where there are fewer of those.
-pub fn content_line(t: &[u32], row: usize) -> Line
-    ensures { λ r. ⌜ r ≡ lineAt (now (t .entry)) (min row (contentRows (now (t .entry)) - 1)) ⌝ }
-{
-    let rows = row_count(t);
-    let content = content_of(t, rows);
-    row_line(t, rows, least(row, content - 1))
 }
 
 // The end of the row that has the offset `at`: its separator, or the end of the text.

@@ -8,7 +8,7 @@ use borrow.Author.Needs.{needs}
 use Rattle.text.specs.Text.{rowCount, rowLen, contentRows}
 use Rattle.text.specs.Offsets.{lineAt}
 use Rattle.text.specs.declared.Line.{Line}
-use Rattle.text.proofs.Stands.{line-there}
+use Rattle.text.proofs.Stands.{line-there, reached-there, reached-short}
 use Rattle.text.specs.declared.Position.{Position}
 use Rattle.positions.specs.Positions.{refusalAt, foundAt}
 use Rattle.positions.proofs.Checks.{refusal-text, refusal-row, refusal-col, refusal-none, by-refused, by-none}
@@ -35,51 +35,58 @@ returns c =
 -- the text has no such row
 returns-2 : tie.Need-returns-2
 returns-2 c =
-    let r = c .before .before .before in
-    let k = r .before .before in
-    let a = k .before .before .args in
-    let none = sym (k .text-refusal .ensures) ∙ r .before .if1 .left in
-    by-refused (a .t .now) (a .p) _ _ _ (c .refused2 .ensures)
-    (refusal-row (a .t .now) (a .p) none (omega (arith, r .row-count .ensures, c .before .if2 .taken))) (λ z. absurd (omega (arith, z)))
-
-row-line-requires : tie.Need-row-line-requires
-row-line-requires c κs = (c .before .before .row-count .ensures, omega (arith, c .if2 .left))
+    let at-reach = c .before .before .before .before in
+    let at-text = at-reach .before .before in
+    let a = at-text .before .before .args in
+    let none = sym (at-text .text-refusal .ensures) ∙ at-reach .before .if1 .left in
+    let beyond = reached-short (a .t .now) (a .p .row) (at-reach .reach .result) (at-reach .reach .ensures) (c .before .if2 .taken) in
+    by-refused (a .t .now) (a .p) _ _ _ (c .refused2 .ensures) (refusal-row (a .t .now) (a .p) none beyond) (λ z. absurd (omega (arith, z)))
 
 row-len-requires : tie.Need-row-len-requires
 row-len-requires c κs =
-    let r = c .before .before .before in
-    line-there (r .before .before .before .before .args .t .now) (c .row-line .result) _ (c .row-line .ensures)
-    (omega (arith, r .row-count .ensures, c .before .if2 .left))
+    let at-reach = c .before .before .before in
+    let a = at-reach .before .before .before .before .args in
+    let inside = reached-there (a .t .now) (a .p .row) (at-reach .reach .result) (at-reach .reach .ensures) (c .if2 .left) in
+    line-there (a .t .now) (at-reach .reach .result) _ (at-reach .reach .ensures .there inside) inside
 
 -- the row has no such column
 returns-3 : tie.Need-returns-3
 returns-3 c =
-    let n = c .before .before .before in
-    let l = n .before in
-    let r = l .before .before .before in
-    let k = r .before .before in
-    let a = k .before .before .args in
-    let none = sym (k .text-refusal .ensures) ∙ r .before .if1 .left in
-    let m = long (a .t .now) (l .row-line .result) (a .p .row) _ (l .row-line .ensures) (n .row-len .ensures) in
+    let at-len = c .before .before .before in
+    let at-reach = at-len .before .before .before .before in
+    let at-text = at-reach .before .before in
+    let a = at-text .before .before .args in
+    let none = sym (at-text .text-refusal .ensures) ∙ at-reach .before .if1 .left in
+    let inside = reached-there (a .t .now) (a .p .row) (at-reach .reach .result) (at-reach .reach .ensures) (at-len .before .if2 .left) in
+    let m = long (a .t .now) (at-reach .reach .result) (a .p .row) _ (at-reach .reach .ensures .there inside) (at-len .row-len .ensures) in
     by-refused (a .t .now) (a .p) _ _ _ (c .refused3 .ensures)
-    (refusal-col (a .t .now) (a .p) none (omega (arith, r .row-count .ensures, l .before .if2 .left)) (omega (arith, m, c .before .if3 .taken)))
-    (λ z. absurd (omega (arith, z)))
+    (refusal-col (a .t .now) (a .p) none inside (omega (arith, m, c .before .if3 .taken))) (λ z. absurd (omega (arith, z)))
+
+rows-from-requires : tie.Need-rows-from-requires
+rows-from-requires c κs =
+    let at-len = c .before .before in
+    let at-reach = at-len .before .before .before .before in
+    let a = at-reach .before .before .before .before .args in
+    let inside = reached-there (a .t .now) (a .p .row) (at-reach .reach .result) (at-reach .reach .ensures) (at-len .before .if2 .left) in
+    line-there (a .t .now) (at-reach .reach .result) _ (at-reach .reach .ensures .there inside) inside
 
 returns-4 : tie.Need-returns-4
 returns-4 c =
-    let n = c .before .before .before in
-    let l = n .before in
-    let r = l .before .before .before in
-    let k = r .before .before in
-    let a = k .before .before .args in
-    let none = sym (k .text-refusal .ensures) ∙ r .before .if1 .left in
-    let m = long (a .t .now) (l .row-line .result) (a .p .row) _ (l .row-line .ensures) (n .row-len .ensures) in
+    let at-rows = c .before in
+    let at-len = at-rows .before .before .before in
+    let at-reach = at-len .before .before .before .before in
+    let at-text = at-reach .before .before in
+    let a = at-text .before .before .args in
+    let none = sym (at-text .text-refusal .ensures) ∙ at-reach .before .if1 .left in
+    let inside = reached-there (a .t .now) (a .p .row) (at-reach .reach .result) (at-reach .reach .ensures) (at-len .before .if2 .left) in
+    let there = at-reach .reach .ensures .there inside in
+    let m = long (a .t .now) (at-reach .reach .result) (a .p .row) _ there (at-len .row-len .ensures) in
     by-none (a .t .now) (a .p) (refusalAt (a .t .now) (a .p)) _
-    (found (a .t .now) (a .p) (l .row-line .result) _ _ (l .row-line .ensures) (r .row-count .ensures) (c .content-of .ensures))
-    (refusal-none (a .t .now) (a .p) none (omega (arith, r .row-count .ensures, l .before .if2 .left)) (omega (arith, m, c .before .if3 .left)))
+    (found (a .t .now) (a .p) (at-reach .reach .result) _ _ there (at-rows .rows-from .ensures) (c .content-of .ensures))
+    (refusal-none (a .t .now) (a .p) none inside (omega (arith, m, at-rows .before .if3 .left)))
 
 pub enter-spec : {M : Type 1} → statement M
 enter-spec =
     tie.close
-    (tie.spec (λ c κs. search needs) (λ c κs. search needs) returns (λ c κs. search needs) (λ c κs. search needs) returns-2 row-line-requires
-    row-len-requires (λ c κs. search needs) returns-3 (λ c κs. search needs) returns-4)
+    (tie.spec (λ c κs. search needs) (λ c κs. search needs) returns (λ c κs. search needs) (λ c κs. search needs) returns-2
+    row-len-requires (λ c κs. search needs) returns-3 rows-from-requires (λ c κs. search needs) returns-4)

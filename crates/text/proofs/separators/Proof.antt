@@ -1,36 +1,40 @@
--- `text::separators` meets its contract. The invariant of its loop: n counts the separators before i. The measure is the part's length less i.
+-- `text::separators` meets its contract. The invariant of its loop: i stands in row n of the part. The measure is the part's length less i.
 -- Assumes nothing.
-use Prim.Native.Nat.{_+_, _≤_, _-_}
-use mathlib.Core.Path.{_≡_}
+use Prim.Native.Nat.{_-_}
 use native.Mathlib.Omega.{arith}
-use lib.ListN.{length, drop}
+use lib.ListN.{length}
 use borrow.Author.Needs.{needs}
-use Rattle.text.specs.Text.{rowCount}
-use Rattle.text.proofs.Rows.{count-nl, count-on, count-end}
+use Rattle.text.specs.Offsets.{Stands, rowStart}
+use Rattle.text.proofs.At.{on-last}
+use Rattle.text.proofs.Stands.{stands-at, stands-own, first-line}
+use Rattle.text.proofs.Stretches.{pass-on}
 use Rattle.text.proofs.separators.Statement.{statement}
 use Rattle.text.proofs.separators.Tie as tie
 
 abbrev Inv-loop : tie.InvT-loop
-Inv-loop part n₀ i₀ n i = (i ≤ length part) × (n ≤ i) × (rowCount part ≡ n + rowCount (drop i part))
+Inv-loop part len n₀ i₀ n i = Stands part n (rowStart part n) i
 
 abbrev μ-loop : tie.MeasureT-loop
-μ-loop part n₀ i₀ n i = length part - i
+μ-loop part len n₀ i₀ n i = length part - i
+
+loop-holds : tie.Need-loop-holds Inv-loop μ-loop
+loop-holds c = stands-own (first-line (c .before .args .part .now))
 
 loop-again : tie.Need-loop-again Inv-loop μ-loop
 loop-again c =
-    let k = c .before .before in
-    omega (arith, count-nl (k .before .before .args .part .now) (k .before .loop .i) (k .loop-test .taken) (c .if1 .taken))
-
-loop-again-2 : tie.Need-loop-again-2 Inv-loop μ-loop
-loop-again-2 c =
-    let k = c .before .before in
-    omega (arith, count-on (k .before .before .args .part .now) (k .before .loop .i) (k .loop-test .taken) (c .if1 .left))
+    let at-loop = c .before .before .before in
+    pass-on (at-loop .before .before .args .part .now) (at-loop .loop .inv) (c .few .result) _ (omega arith) (omega arith) (c .few .ensures .0)
 
 returns : tie.Need-returns Inv-loop μ-loop
-returns c = omega (arith, count-end (c .before .before .args .part .now) (c .before .loop .i) (c .loop-test .left))
+returns c =
+    let at-loop = c .before .before .before in
+    let part = at-loop .before .before .args .part .now in
+    let at-end = pass-on part (at-loop .loop .inv) (c .few2 .result) (length part) (at-loop .loop .inv .within) (omega arith) (c .few2 .ensures .0) in
+    (on-last (stands-at at-end) (omega arith), at-end .below)
 
 pub separators-spec : {M : Type 1} → statement M
 separators-spec =
     tie.close
-    (tie.spec Inv-loop μ-loop (λ c. search needs) (λ c. search needs) (λ c. search needs) (λ c. search needs) (λ c. search needs) (λ c. search needs) loop-again
-    (λ c. search needs) (λ c. search needs) loop-again-2 returns)
+    (tie.spec Inv-loop μ-loop loop-holds (λ c. search needs) (λ c. search needs) (λ c. search needs) (λ c. search needs) (λ c. search needs) (λ c. search needs)
+    (λ c κs. search needs) (λ c. search needs) (λ c. search needs) (λ c. search needs) loop-again (λ c. search needs) (λ c. search needs) (λ c. search needs)
+    (λ c. search needs) (λ c κs. search needs) (λ c. search needs) (λ c. search needs) returns)

@@ -4,14 +4,13 @@ use Prim.Native.Nat.{_-_, _<_}
 use native.Mathlib.Omega.{arith}
 use lib.ListN.{length}
 use borrow.Author.Needs.{needs}
-use Rattle.text.specs.Text.{rowCount}
 use Rattle.text.specs.Offsets.{Stands, rowStart}
 use Rattle.text.proofs.Stretches.{pass-on}
 use Rattle.text.proofs.offsets.below.Statement.{statement}
 use Rattle.text.proofs.offsets.below.Tie as tie
 
 abbrev Inv-loop : tie.InvT-loop
-Inv-loop t row at to r₀ i₀ r i = Stands t r (rowStart t r) i × (r < to) × (to < rowCount t)
+Inv-loop t row at to r₀ i₀ r i = Stands t r (rowStart t r) i × (r < to)
 
 abbrev μ-loop : tie.MeasureT-loop
 μ-loop t row at to r₀ i₀ r i = length t - i
@@ -22,7 +21,6 @@ loop-again c =
     let v = k .loop .inv in (
       pass-on (k .before .before .args .t .now) (v .0) (c .before .separators .result) _ (omega arith) (omega arith) (c .before .separators .ensures .0),
       omega arith,
-      v .2,
     )
 
 pub below-spec : {M : Type 1} → statement M

@@ -16,5 +16,8 @@ add-below c =
     let s = c .before .before .before in
     omega (arith, s .pre .1, count-le (s .args .t .now))
 
+returns-2 : tie.Need-returns-2
+returns-2 c = c .below .ensures .there (c .before .before .before .before .pre .1)
+
 pub down-spec : {M : Type 1} → statement M
-down-spec = tie.close (tie.spec returns add-below (λ c κs. search needs) (λ c. search needs))
+down-spec = tie.close (tie.spec returns add-below (λ c κs. search needs) returns-2)

@@ -4,15 +4,14 @@ use Prim.Native.Nat.{_-_, _<_}
 use native.Mathlib.Omega.{arith}
 use lib.ListN.{length}
 use borrow.Author.Needs.{needs}
-use Rattle.text.specs.Text.{rowCount}
 use Rattle.text.specs.Offsets.{Stands, rowStart}
 use Rattle.text.proofs.At.{on-last}
-use Rattle.text.proofs.Stands.{stands-at, stands-own, line-eq, step-char, step-nl}
+use Rattle.text.proofs.Stands.{stands-at, stands-own, reached-row, reached-end, step-char, step-nl}
 use Rattle.text.proofs.offsets.walk_down.Statement.{statement}
 use Rattle.text.proofs.offsets.walk_down.Tie as tie
 
 abbrev Inv-loop : tie.InvT-loop
-Inv-loop t row at to r₀ i₀ r i = Stands t r (rowStart t r) i × (r < to) × (to < rowCount t)
+Inv-loop t row at to r₀ i₀ r i = Stands t r (rowStart t r) i × (r < to)
 
 abbrev μ-loop : tie.MeasureT-loop
 μ-loop t row at to r₀ i₀ r i = length t - i
@@ -20,21 +19,24 @@ abbrev μ-loop : tie.MeasureT-loop
 returns : tie.Need-returns Inv-loop μ-loop
 returns c =
     let k = c .before .before .before in
-    line-eq (k .before .before .args .t .now) (step-nl (k .before .loop .inv .0) (k .loop-test .taken) (c .before .if1 .taken) .begins) (c .if2 .taken)
+    let at-row = step-nl (k .before .loop .inv .0) (k .loop-test .taken) (c .before .if1 .taken) in
+    reached-row (k .before .before .args .t .now) (at-row .begins) (c .if2 .taken) (at-row .in-row)
 
 loop-again : tie.Need-loop-again Inv-loop μ-loop
 loop-again c =
     let k = c .before .before .before in
-    (stands-own (step-nl (k .before .loop .inv .0) (k .loop-test .taken) (c .before .if1 .taken)), omega (arith, c .if2 .left), k .before .loop .inv .2)
+    (stands-own (step-nl (k .before .loop .inv .0) (k .loop-test .taken) (c .before .if1 .taken)), omega (arith, c .if2 .left))
 
 loop-again-2 : tie.Need-loop-again-2 Inv-loop μ-loop
 loop-again-2 c =
     let k = c .before .before in
-    (step-char (k .before .loop .inv .0) (k .loop-test .taken) (c .if1 .left), k .before .loop .inv .1, k .before .loop .inv .2)
+    (step-char (k .before .loop .inv .0) (k .loop-test .taken) (c .if1 .left), k .before .loop .inv .1)
 
--- the text does not end before row `to`
+-- the text ends before row `to`
 returns-2 : tie.Need-returns-2 Inv-loop μ-loop
-returns-2 c = absurd (omega (arith, on-last (stands-at (c .before .loop .inv .0)) (c .loop-test .left)))
+returns-2 c =
+    let at-loop = c .before .loop in
+    reached-end (c .before .before .args .t .now) (at-loop .inv .1) (on-last (stands-at (at-loop .inv .0)) (c .loop-test .left))
 
 pub walk-down-spec : {M : Type 1} → statement M
 walk-down-spec =
