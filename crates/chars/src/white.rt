@@ -53,12 +53,27 @@ fn high_white(x: u32) -> bool
     white_in(&WHITE, x)
 }
 
+// The same below U+1680. Behind U+00A0 the list has nothing there, where most letters stand, and it
+// is not built.
+fn low_white(x: u32) -> bool
+    requires { ⌜ x < 0x1680 ⌝ }
+    ensures { λ r. ⌜ r ≡ isWhite x ⌝ }
+{
+    if x > 0xa0 {
+        return false;
+    }
+    high_white(x)
+}
+
 // Whether x is white space.
 pub fn is_white(x: u32) -> bool
     ensures { λ r. ⌜ r ≡ isWhite x ⌝ }
 {
     if x < 0x80 {
         return ascii_white(x);
+    }
+    if x < 0x1680 {
+        return low_white(x);
     }
     high_white(x)
 }
