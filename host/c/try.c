@@ -86,6 +86,20 @@ int main(void) {
     expect("the place of bad UTF-8", (uint32_t)(told >> 32), 2, out, out, 0);
     REFUSES("too little room for UTF-8", (uint32_t)tsivareza_utf8_decode(accents, 5, room, 1, out), 14);
 
+    /* A keyword list with a retired sign: 21 has its place in the high half; and the list without it. */
+    static const uint32_t signed_list[] = {'5', ',', '+', '4'}, plain_list[] = {'5', ',', '4', 7};
+    static const uint8_t signed_bytes[] = {'+', 0, 0, 0, '4', 0, 0, 0};
+    uint32_t written[4] = {7, 7, 7, 7};
+    REFUSES("a retired sign", (uint32_t)(told = tsivareza_enter_u32(TSIVAREZA_ENTER, signed_list, 4, 0, out)), 21);
+    expect("the place of a retired sign", (uint32_t)(told >> 32), 2, out, out, 0);
+    SAYS("without_plus", tsivareza_without_plus_u32(signed_list, 4, written, 3, out), 3);
+    expect("a list without its sign", 0, 0, written, plain_list, 4);
+    SAYS("enter", (uint32_t)tsivareza_enter_u32(TSIVAREZA_ENTER, written, 3, 0, out), 2);
+    SAYS("enter, and match", (uint32_t)tsivareza_enter_u32(TSIVAREZA_ENTER_MATCHES, written, 3, 4, out), 1);
+    REFUSES("a retired sign in bytes", (uint32_t)tsivareza_enter(TSIVAREZA_ENTER, signed_bytes, 8, room, 2, 0, out), 21);
+    SAYS("without_plus on bytes", tsivareza_without_plus(signed_bytes, 8, room, 2, written, 1, out), 1);
+    REFUSES("too little room for a list", tsivareza_without_plus_u32(signed_list, 4, written, 2, out), 14);
+
     /* 101, 102 and 100, each before the next and before 4; the room is written to from 100 on. */
     static const uint32_t kept[] = {7, 7, 7, 7, 7}, filled[] = {'(', '[', ')', ']', 7};
     for (int i = 0; i < 5; i++) room[i] = 7;

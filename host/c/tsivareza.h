@@ -7,7 +7,8 @@
  *     3  U+000B, C, D, U+0085, U+2028, 9     8  over 128 tokens kept of a keyword list
  *     4  a position outside the text         9  too little room for the segments
  *     5  wrong folds                        10  segments of odd length
- *    13  bytes that are no UTF-8            14  too little room for UTF-8, or for its code points
+ *    13  bytes that are no UTF-8            14  too little room to write into
+ *    21  a retired plus sign in a keyword list, with its place
  *   100  no such operation, mode or kind   102  too little room for the code points
  *   101  bytes that make no whole points   103  an answer that no uint32_t holds
  * 101 comes first, then 102, then 100, for with one of these there is no call to be made; then the
@@ -50,6 +51,24 @@ uint32_t tsivareza_keywords_u32(uint32_t op, const uint32_t *list, size_t list_l
                                 uint32_t out[1]);
 uint32_t tsivareza_keywords(uint32_t op, const uint8_t *list, size_t list_len, uint32_t *room,
                             size_t room_len, uint32_t x, uint32_t out[1]);
+
+/* The entry of a keyword list, where the plus sign of a number that is kept is retired: how many tokens
+ * are kept; whether the list's table holds x. A refusal has its number in the answer's low 32 bits and
+ * its place in the high ones: 7, then 21, a retired sign, with the place of the first, then 8; else the
+ * place is 0. A character that is no scalar value is 2, before these. */
+enum { TSIVAREZA_ENTER, TSIVAREZA_ENTER_MATCHES };
+
+uint64_t tsivareza_enter_u32(uint32_t op, const uint32_t *list, size_t list_len, uint32_t x,
+                             uint32_t out[1]);
+uint64_t tsivareza_enter(uint32_t op, const uint8_t *list, size_t list_len, uint32_t *room,
+                         size_t room_len, uint32_t x, uint32_t out[1]);
+
+/* A keyword list without its retired signs, written to the front of `written`; out[0] counts its code
+ * points. Refuses 7, then 14 where `written` is too short. */
+uint32_t tsivareza_without_plus_u32(const uint32_t *list, size_t list_len, uint32_t *written,
+                                    size_t written_len, uint32_t out[1]);
+uint32_t tsivareza_without_plus(const uint8_t *list, size_t list_len, uint32_t *room, size_t room_len,
+                                uint32_t *written, size_t written_len, uint32_t out[1]);
 
 /* Tab columns of a row. */
 enum {

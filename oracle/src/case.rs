@@ -1,5 +1,5 @@
-//! A call with its inputs, as a value and as one line of text, and what the given Rust answers, or `pairs` for a call that
-//! it does not have.
+//! A call with its inputs, as a value and as one line of text, and what the given Rust answers, or `pairs` and `plus` for
+//! calls that it does not have.
 //!
 //! A line is the call's name and its inputs, each `name=value` and each once:
 //! `move_word_fwd text=61,20,62 row=0 col=0 sticky=none folds= list=40,2c,5f big=0 count=1`.
@@ -7,7 +7,7 @@
 //! numbers are decimal, and a list of them has commas.
 
 use crate::calls::{self, Words};
-use crate::{Outcome, pairs};
+use crate::{Outcome, pairs, plus};
 use std::fmt;
 
 /// An input that a call takes.
@@ -34,7 +34,7 @@ pub enum Input {
     Viewport,
     /// A text width and a wrap mode.
     Wrap,
-    /// How many places are lent for segments.
+    /// How many places are lent for segments, or for code points.
     Room,
     Segments,
     Start,
@@ -107,6 +107,18 @@ fn wrapped(k: &Case) -> Outcome {
     outcome(answer, |count| Outcome::Segments(count, room))
 }
 
+/// The answer of a call whose refusal may have a place.
+fn placed<T>(answer: Result<T, (u32, u32)>, of: impl FnOnce(T) -> Outcome) -> Outcome {
+    answer.map_or_else(|(number, place)| Outcome::refused_at(number, place), of)
+}
+
+fn plain(k: &Case) -> Outcome {
+    outcome(plus::without_plus(&k.list, k.room as usize), |left| {
+        let (count, rest) = (left.len(), vec![FILLER; k.room as usize - left.len()]);
+        Outcome::Written(count as u32, [left, rest].concat())
+    })
+}
+
 fn words(k: &Case) -> Words<'_> {
     Words { folds: &k.folds, list: &k.list, big: k.big }
 }
@@ -138,7 +150,7 @@ macro_rules! columns {
 }
 
 /// Every public call.
-pub static CALLS: [Call; 52] = [
+pub static CALLS: [Call; 55] = [
     call!(content_row_count [Text] |k| outcome(calls::content_row_count(&k.text), |n| Outcome::Number(n.into()))),
     counted!(move_left),
     counted!(move_right_in_line),
@@ -209,6 +221,9 @@ pub static CALLS: [Call; 52] = [
     call!(width [Character] |k| outcome(calls::width(k.character), |n| Outcome::Number(n.into()))),
     call!(inner_pair [Text, Kind, Place]
         |k| outcome(pairs::inner_pair(&k.text, k.kind, k.caret.row, k.caret.col), Outcome::Ranges)),
+    call!(enter [List] |k| placed(plus::enter(&k.list), |n| Outcome::Number(n.into()))),
+    call!(enter_matches [List, Character] |k| placed(plus::enter_matches(&k.list, k.character), Outcome::Truth)),
+    call!(without_plus [List, Room] plain),
 ];
 
 pub fn call(name: &str) -> Result<&'static Call, String> {
@@ -452,6 +467,7 @@ impl fmt::Display for Outcome {
         };
         match self {
             Outcome::Refused(number) => write!(f, "refused {number}"),
+            Outcome::RefusedAt(number, place) => write!(f, "refused {number} at {place}"),
             Outcome::Moved(k) => write!(f, "moved {}", caret(k)),
             Outcome::Told(truth, k) => write!(f, "told {} {}", u8::from(*truth), caret(k)),
             Outcome::Place(None) => f.write_str("none"),
@@ -461,6 +477,7 @@ impl fmt::Display for Outcome {
             Outcome::Number(n) => write!(f, "number {n}"),
             Outcome::Truth(truth) => write!(f, "truth {}", u8::from(*truth)),
             Outcome::Segments(count, room) => write!(f, "segments {count} {}", write_hexes(room)),
+            Outcome::Written(count, room) => write!(f, "written {count} {}", write_hexes(room)),
             Outcome::Outside => f.write_str("outside"),
         }
     }

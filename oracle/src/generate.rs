@@ -170,6 +170,27 @@ fn list(dice: &mut Dice) -> Vec<u32> {
     list
 }
 
+/// Calls for which plus signs are retired.
+fn retires(call: &Call) -> bool {
+    matches!(call.name, "enter" | "enter_matches" | "without_plus")
+}
+
+/// Now and then a plus sign where a number may begin, and anywhere; and a token more.
+fn signed(dice: &mut Dice, list: &[u32]) -> Vec<u32> {
+    let mut all = Vec::new();
+    for (at, &x) in list.iter().enumerate() {
+        let begins = at == 0 || matches!(list[at - 1], 0x2C | 0x2D | 0x20);
+        if dice.once_in(if begins { 6 } else { 40 }) {
+            all.push(0x2B);
+        }
+        all.push(x);
+    }
+    if dice.once_in(3) {
+        all.extend(points(dice.pick(&[",+5", ", +48-+57 ", ",5-+4294967295", ",+4294967296-5", ",++4", ",+-5", ",5-+", ",+"])));
+    }
+    all
+}
+
 fn viewport(dice: &mut Dice, text: &[u32]) -> Viewport {
     let rows = text.iter().filter(|&&x| x == 10).count() + 1;
     Viewport {
@@ -251,6 +272,10 @@ pub fn random(call: &'static Call, dice: &mut Dice) -> Case {
             }
         }
     }
+    if retires(call) {
+        case.list = signed(dice, &case.list);
+        case.room = (case.list.len() as u32 + 1).saturating_sub(dice.pick(&[0, 0, 1, 1, 2, 3]));
+    }
     case
 }
 
@@ -321,17 +346,20 @@ fn families(call: &Call) -> Vec<Family> {
 
 const ROW: &str = "a \t\u{3000}\u{3042}\u{301}\u{1}";
 
-/// Every list of up to six code points over these.
+/// Every list of up to six code points over these, and where plus signs are retired of up to seven over those.
 const LIST: &str = "@,-+049a_ \u{3000}";
+const SIGNED: &str = "+-,4@ ";
 
 /// Every case of a call with a small text and small numbers; `most` caps the length of texts and lists.
 pub fn small(call: &'static Call, most: usize, mut visit: impl FnMut(&Case)) {
     let takes = |input| call.takes.contains(&input);
     if takes(Input::List) && !takes(Input::Text) {
         let tested: &[u32] = &[0, 3, 4, 5, 8, 9, 10, 0x20, 0x2B, 0x2C, 0x2D, 0x30, 0x34, 0x39, 0x40, 0x5F, 0x61, 0x3000];
-        for list in texts(&points(LIST), most.min(6)) {
+        let (alphabet, longest) = if retires(call) { (SIGNED, 7) } else { (LIST, 6) };
+        for list in texts(&points(alphabet), most.min(longest)) {
             let case = Case { list, ..Case::new(call) };
             let cases = if takes(Input::Character) { each(vec![case], tested, |k, x| k.character = x) } else { vec![case] };
+            let cases = if takes(Input::Room) { cases.into_iter().flat_map(with_places).collect() } else { cases };
             cases.iter().for_each(&mut visit);
         }
         return;
@@ -429,6 +457,15 @@ fn with_rooms(case: Case) -> Vec<Case> {
     rooms.into_iter().map(|room| Case { room, ..ample.clone() }).collect()
 }
 
+/// Places for a list that is written: none, one short, exactly enough, one over.
+fn with_places(case: Case) -> Vec<Case> {
+    let ample = Case { room: case.list.len() as u32, ..case };
+    let crate::Outcome::Written(exact, _) = ample.answer() else { return vec![ample] };
+    let mut rooms = vec![0, exact.saturating_sub(1), exact, exact + 1];
+    rooms.dedup();
+    rooms.into_iter().map(|room| Case { room, ..ample.clone() }).collect()
+}
+
 /// The limits of document 01, at each and one past it, for a call that takes the input.
 pub fn limits(call: &'static Call) -> Vec<Case> {
     let mut all = Vec::new();
@@ -438,6 +475,7 @@ pub fn limits(call: &'static Call) -> Vec<Case> {
         case.text = points("a b\nc");
         case.line = points("a b");
         case.count = 1;
+        case.room = if retires(call) { 64 } else { 0 };
         put(&mut case);
         all.push(case);
     };
@@ -528,6 +566,31 @@ pub fn limits(call: &'static Call) -> Vec<Case> {
         for n in [1024, 1025] {
             add(&|k| k.list = vec![0x20; n]);
         }
+    }
+    if retires(call) {
+        let tokens = |token: &str, n: usize| vec![token; n].join(",");
+        let lists = [
+            tokens("4", 128),
+            tokens("4", 129),
+            tokens("4", 128) + ",+4",
+            tokens("4", 129) + ",+4",
+            tokens("+4", 130),
+            tokens("++4", 130),
+            " ".repeat(1_022) + "+4",
+            " ".repeat(1_023) + "+4",
+            "+".repeat(1_024),
+            "0".repeat(1_023) + "4",
+            "+".to_string() + &"0".repeat(1_022) + "4",
+        ];
+        let numbers = ["4294967295", "4294967296", "04294967295", "42949672950"];
+        let around = numbers.iter().flat_map(|n| [format!("+{n}"), format!("1-+{n}"), format!("+{n}-+1"), format!("++{n}")]);
+        for list in lists.into_iter().chain(around).map(|list| points(&list)) {
+            for less in 0..4 {
+                add(&|k| (k.list, k.room) = (list.clone(), (list.len() as u32 + 1).saturating_sub(less)));
+            }
+        }
+        add(&|k| (k.list, k.character) = (vec![0xD800, 0x2B, 0x34], 0xD800));
+        add(&|k| (k.list, k.character) = (points("+4"), 0xD800));
     }
     if takes(Input::Segments) {
         for n in 0..4 {

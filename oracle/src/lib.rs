@@ -1,15 +1,16 @@
 //! What the given Rust answers, on plain values: the judge of the port's answers.
 //!
 //! `calls` has one function per public call, `refusals` the refusal table of document 01, written
-//! apart from it, `pairs` document 02's `inner_pair` from its words, `case` a call with its inputs as
-//! one line of text, `generate` cases from a seed
-//! and small families, `replay` the list that the program `replay` runs, `session` document 01's
+//! apart from it, `pairs` and `plus` what document 02 adds on pairs and on plus signs, from its words,
+//! `case` a call with its inputs as one line of text, `generate` cases from a seed and small families,
+//! `replay` the list that the program `replay` runs, `session` document 01's
 //! session over the given motions, `utf8` RFC 3629's tables and `std::str`.
 
 pub mod calls;
 pub mod case;
 pub mod generate;
 pub mod pairs;
+pub mod plus;
 pub mod refusals;
 pub mod replay;
 pub mod session;
@@ -44,6 +45,8 @@ pub struct Viewport {
 #[derive(Clone, Debug, PartialEq, Eq)]
 pub enum Outcome {
     Refused(u32),
+    /// A refusal that has a place, and the place.
+    RefusedAt(u32, u32),
     Moved(Caret),
     /// The truth that the call tells, and the caret.
     Told(bool, Caret),
@@ -54,8 +57,17 @@ pub enum Outcome {
     Truth(bool),
     /// The number of segments written, and the lent slice afterwards.
     Segments(u32, Vec<u32>),
+    /// The number of code points written, and the lent slice afterwards.
+    Written(u32, Vec<u32>),
     /// No answer to compare with: the u16 sum of `wrap_segments` passes 65,535.
     Outside,
+}
+
+impl Outcome {
+    /// A refusal with its place: 0 where it has none, but for 21.
+    pub fn refused_at(number: u32, place: u32) -> Outcome {
+        if number == 21 || place > 0 { Outcome::RefusedAt(number, place) } else { Outcome::Refused(number) }
+    }
 }
 
 /// Code points of a string.

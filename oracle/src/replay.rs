@@ -2,10 +2,11 @@
 //!
 //! A row is the call's group and its operation there, eight numbers, how many numbers follow of a text or row, of folds and
 //! of a list (keywords, or segments), those, and the answer: 0 or the refusal's number, and what the places lent for the
-//! answer and for segments hold afterwards. A space ends each number but the last; `3*97` is 97 three times. UTF-8, which the
-//! given Rust has no call for, comes last, by RFC 3629's tables: groups 14 and 15, with a byte as a number.
+//! answer and for what is written hold afterwards. A space ends each number but the last; `3*97` is 97 three times. A call
+//! whose refusal may have a place has the place, or 0, behind the number. UTF-8, which the given Rust has no call for, comes
+//! last, by RFC 3629's tables: groups 14 and 15, with a byte as a number.
 
-use crate::case::{CALLS, Call, Case, FILLER};
+use crate::case::{CALLS, Call, Case, FILLER, Input};
 use crate::generate::{self, Dice};
 use crate::{Outcome, Wrap, utf8};
 
@@ -15,7 +16,7 @@ const SEED: u64 = 9;
 const CASES: usize = 80;
 const LONGEST: usize = 40;
 
-/// A longer row is left out, and so are calls of `wrap_segments` with more places.
+/// A longer row is left out, and so are calls that are lent more places to write into.
 const WIDEST: usize = 2_000;
 const MOST_PLACES: u32 = 64;
 
@@ -67,7 +68,7 @@ fn asked(k: &Case) -> Asked<'_> {
     head.resize(10, 0);
     let (text, folds, list): (&[u32], &[u32], &[u32]) = match group {
         0 => (&[], &[], &[]),
-        1 => (&[], &[], &k.list),
+        1 | 16 | 17 => (&[], &[], &k.list),
         2 | 3 | 5 => (&k.line, &[], &[]),
         4 => (&[], &[], &k.segments),
         10 if op == 4 => (&k.text, &[], &k.list),
@@ -110,6 +111,9 @@ fn numbers(k: &Case) -> (u32, u32, Vec<u32>) {
         "content_row_count" => (6, 0, vec![]),
         "matching_bracket_pos" => (7, 0, vec![row, col]),
         "inner_pair" => (13, k.kind as u32, vec![row, col]),
+        "enter" => (16, 0, vec![0]),
+        "enter_matches" => (16, 1, vec![x]),
+        "without_plus" => (17, 0, vec![k.room]),
         "match_bracket" => (9, 0, caret(&[0])),
         "find_char_on_line" => {
             (9, 1 + u32::from(k.forward) + 2 * u32::from(k.till) + 4 * u32::from(k.skip), caret(&[x]))
@@ -140,9 +144,9 @@ fn mode(wrap: Wrap) -> u32 {
 /// The number and the places afterwards; nothing where there is no answer to compare with.
 fn answer(k: &Case, places: usize, outcome: &Outcome) -> Option<Vec<u32>> {
     let held = |c: &crate::Caret| [c.row, c.col, c.sticky.is_some().into(), c.sticky.unwrap_or(0)];
-    Some(match outcome {
-        Outcome::Refused(number) => {
-            let lent = if k.call.name == "wrap_segments" { k.room as usize } else { 0 };
+    let mut all = match outcome {
+        Outcome::Refused(number) | Outcome::RefusedAt(number, _) => {
+            let lent = if k.takes(Input::Room) { k.room as usize } else { 0 };
             [vec![*number], vec![FILLER; places + lent]].concat()
         }
         Outcome::Moved(caret) => [&[0][..], &held(caret)].concat(),
@@ -153,9 +157,13 @@ fn answer(k: &Case, places: usize, outcome: &Outcome) -> Option<Vec<u32>> {
         Outcome::Ranges(Some(places)) => [&[0, 1], &places[..]].concat(),
         Outcome::Number(n) => vec![0, u32::try_from(*n).expect("an answer that a u32 holds")],
         Outcome::Truth(truth) => vec![0, u32::from(*truth)],
-        Outcome::Segments(count, room) => [&[0, *count], &room[..]].concat(),
+        Outcome::Segments(count, room) | Outcome::Written(count, room) => [&[0, *count], &room[..]].concat(),
         Outcome::Outside => return None,
-    })
+    };
+    if matches!(k.call.name, "enter" | "enter_matches") {
+        all.insert(1, if let Outcome::RefusedAt(_, place) = outcome { *place } else { 0 });
+    }
+    Some(all)
 }
 
 /// A case of the list: its numbers, and the case and its answer in words.
@@ -168,7 +176,7 @@ pub struct Row {
 
 /// The row of a case; nothing where the list leaves it out.
 fn row(k: &Case) -> Option<Row> {
-    if k.call.name == "wrap_segments" && k.room > MOST_PLACES {
+    if k.takes(Input::Room) && k.room > MOST_PLACES {
         return None;
     }
     let Asked { head, places, text, folds, list } = asked(k);

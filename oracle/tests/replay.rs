@@ -4,11 +4,11 @@ use oracle::case::{CALLS, Case, Input};
 use oracle::{Outcome, replay};
 use std::collections::BTreeSet;
 
-/// The refusals that a call has, by what it takes (document 01, "Refusal numbers").
+/// The refusals that a call has, by what it takes (document 01, "Refusal numbers"; document 02, #112).
 fn refusals(case: &Case) -> BTreeSet<u32> {
-    let parsed = case.takes(Input::List) && case.call.name != "is_keyword_char";
+    let parsed = case.takes(Input::List) && !matches!(case.call.name, "is_keyword_char" | "without_plus");
     let tested = case.takes(Input::Character) && case.call.name != "is_scalar";
-    let by_input: [(bool, &[u32]); 9] = [
+    let by_input: [(bool, &[u32]); 12] = [
         (case.takes(Input::Text), &[1, 2, 3]),
         (case.takes(Input::Line), &[1, 2]),
         (tested, &[2]),
@@ -17,13 +17,12 @@ fn refusals(case: &Case) -> BTreeSet<u32> {
         (case.takes(Input::Tabstop), &[6]),
         (case.takes(Input::List), &[7]),
         (parsed, &[8]),
+        (case.call.name == "wrap_segments", &[9]),
         (case.takes(Input::Segments), &[10]),
+        (case.call.name == "without_plus", &[14]),
+        (matches!(case.call.name, "enter" | "enter_matches"), &[21]),
     ];
-    let mut all: BTreeSet<u32> = by_input.iter().filter(|(takes, _)| *takes).flat_map(|(_, n)| *n).copied().collect();
-    if case.takes(Input::Room) {
-        all.insert(9);
-    }
-    all
+    by_input.iter().filter(|(takes, _)| *takes).flat_map(|(_, n)| *n).copied().collect()
 }
 
 #[test]
@@ -41,7 +40,7 @@ fn the_stored_list_is_current() {
         let (mut answered, mut refused) = (0, BTreeSet::new());
         for row in list.iter().filter(|row| row.call == call.name) {
             match row.outcome {
-                Outcome::Refused(number) => _ = refused.insert(number),
+                Outcome::Refused(number) | Outcome::RefusedAt(number, _) => _ = refused.insert(number),
                 _ => answered += 1,
             }
         }

@@ -7,7 +7,7 @@
 //   102  too little room for the code points
 //   103  an answer that no u32 holds
 // 101 comes first, then 102, then 100, then document 01's; 103 stands in an answer's place, and of
-// UTF-8 that has more bytes than a u32 counts before everything. A refusal with a place (13) is
+// UTF-8 that has more bytes than a u32 counts before everything. A refusal with a place (13, 21) is
 // answered in 64 bits, the number in the low half and the place in the high half.
 // A call on bytes decodes into the lent room; its `_u32` form takes code points as they are. The
 // code points stay at the start of the room, also where the call is refused, but for 101 and 102.
@@ -20,6 +20,7 @@ mod pairs;
 mod rows;
 mod runs;
 mod seeks;
+mod signs;
 mod tabs;
 mod terms;
 mod upright;

@@ -17,6 +17,9 @@ use Rattle.call_texts.specs.Seeks.{seeks}
 use Rattle.call_rows.specs.Tabs.{tabColumns}
 use Rattle.call_rows.specs.Wraps.{segmented, segmentsLeft}
 use Rattle.call_folds.specs.Terms.{words}
+use Rattle.list_signs.specs.Plain.{plainIn}
+use Rattle.call_signs.specs.Entry.{placedReply, entering}
+use Rattle.call_signs.specs.Plain.{plainTold}
 
 -- brackets: a partner, the innermost pair of a kind, and the % key
 abbrev pub pair : String → ℕ → ℕ → Reply
@@ -62,6 +65,16 @@ word big = words 0 big 1 (caretOf 1 0 0 0) (codes "a\n\n\nb") [] (codes "@,48-57
 -- whether a keyword list holds a code
 abbrev pub holds : String → ℕ → Reply
 holds list c = keywords 2 c (codes list)
+
+-- a keyword list entered, and asked of a code; and written without its retired signs into six places that hold 9s
+abbrev pub entered : String → Reply
+entered list = placedReply (entering 0 0 (codes list))
+
+abbrev pub enteredHolds : String → ℕ → Reply
+enteredHolds list c = placedReply (entering 1 c (codes list))
+
+abbrev pub plainly : String → Reply
+plainly list = counted (plainTold (replicate 6 9) (codes list)) (plainIn (codes list) (replicate 6 9))
 
 -- a partner, none; a caret; a search that found, and its caret
 abbrev pub with : ℕ → ℕ → List ℕ

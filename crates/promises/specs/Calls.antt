@@ -2,7 +2,7 @@
 -- rules out. Definitions only; `proofs/Examples.antt` and `proofs/Runs.antt` compute them. Assumes nothing.
 use Prim.Native.Nat.{ℕ, _+_, _*_}
 use Prim.Native.String.{String}
-use mathlib.Core.List.{List, [], _∷_}
+use mathlib.Core.List.{List, [], _∷_, _++_}
 use mathlib.Core.Bool.{Bool, true, false}
 use lib.Dec.{eqb}
 use Rattle.call_bytes.specs.Reply.{Reply, answer, refused, told}
@@ -21,7 +21,7 @@ use Rattle.utf8.specs.Encoding.{utf8}
 use Rattle.session.specs.Session.{sessionOf}
 use Rattle.lists.specs.Lists.{isSame}
 use Rattle.lists.specs.Codes.{codes}
-use Rattle.promises.specs.Asking.{pair, inside, key, till, byWord, with, none, spans, alone, at, found, yes, no}
+use Rattle.promises.specs.Asking.{pair, inside, key, till, byWord, entered, enteredHolds, plainly, with, none, spans, alone, at, found, yes, no}
 
 pub record Case : Type 0 where
   pub call : String
@@ -152,6 +152,22 @@ codings =
     case "utf8_decode" (decodes (0xed ∷ 0xa0 ∷ 0x80 ∷ []) []) (refused (13 + 4294967296 * 1)) (refused 13) (refused 14) ∷
     case "utf8_encode" (encodes (0x2192 ∷ []) (9 ∷ 9 ∷ 9 ∷ [])) (value 3) (value 1) (refused 14) ∷
     case "utf8_encode" (encodes (0xd800 ∷ []) []) (refused 2) (value 3) (refused 14) ∷
+    []
+
+-- keyword lists where plus signs are retired: a sign in the second part, what is kept and dropped with its plus, a sign in a range that falls; the list
+-- written out with its white space and what is dropped, and a place short
+unfoldable pub entries : List Case
+entries =
+    case "enter" (entered "5,+48") (refused (21 + 4294967296 * 2)) (refused 21) (value 2) ∷
+    case "enter" (entered "++4,+, 5") (value 2) (value 3) (refused 21) ∷
+    case "enter" (enteredHolds "57-+48" 50) (refused (21 + 4294967296 * 3)) (answer no) (refused 21) ∷
+    case "enter" (enteredHolds "+" 43) (answer yes) (answer no) (refused 21) ∷
+    case "enter" (enteredHolds "+4" 0xd800) (refused 2) (refused 21) (answer no) ∷
+    case "without_plus" (plainly " +4-+5") (answer (4 ∷ (codes " 4-5" ++ (9 ∷ 9 ∷ [])))) (answer (3 ∷ (codes "4-5" ++ (9 ∷ 9 ∷ 9 ∷ []))))
+    (answer (5 ∷ (codes " 4-+5" ++ (9 ∷ [])))) ∷
+    case "without_plus" (plainly "++4,+") (answer (5 ∷ (codes "++4,+" ++ (9 ∷ [])))) (answer (2 ∷ (codes "4," ++ (9 ∷ 9 ∷ 9 ∷ 9 ∷ []))))
+    (answer (4 ∷ (codes "++4," ++ (9 ∷ 9 ∷ [])))) ∷
+    case "without_plus" (plainly "+444444,") (refused 14) (answer (6 ∷ codes "444444")) (answer (7 ∷ codes "444444")) ∷
     []
 
 -- document 01's printed session: what it prints, that with `j` left out, and what a refused input prints. Document 02's #104: after `$`, `j` goes

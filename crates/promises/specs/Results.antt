@@ -15,7 +15,7 @@ abbrev pub One : {A : Type 0} → (A → Type 0) → Type 0
 One {A = A} allows = (x y : A) → allows x → allows y → x ≡ y
 
 pub record OneResult : Type 1 where
-  -- `r ≡ definition`: every method of `Caret`; the calls of `chars`, `letters`, `keywords`, `row_tabs`, `row_columns`, `row_offsets`, `text`, `brackets` and `bracket_inner`
+  -- `r ≡ definition`: every method of `Caret`; the calls of `chars`, `letters`, `keywords`, `list_signs`, `row_tabs`, `row_columns`, `row_offsets`, `text`, `brackets` and `bracket_inner`
   pub equal : {A : Type 0} (v : A) → One (λ (r : A). r ≡ v)
   -- `wrap_segments`: the answer, and the slice lent for segments
   pub wraps : (mode : Wrap) (width : ℕ) (row out : List ℕ) → One (λ (x : Segments × List ℕ). Wraps mode width row out (x .0) (x .1))
@@ -25,8 +25,8 @@ pub record OneResult : Type 1 where
   pub answered : (s room out : List ℕ) (m : Reply) → One (λ (x : ℕ × List ℕ × List ℕ). Answered s room out m (x .0) (x .1) (x .2))
   -- an export on several byte strings, which share the room
   pub answered-all : (l : List (List ℕ)) (room out : List ℕ) (m : Reply) → One (λ (x : ℕ × List ℕ × List ℕ). AnsweredAll l room out m (x .0) (x .1) (x .2))
-  -- `wrap_segments` and UTF-8 for hosts, on code points and on bytes: another clause says what is left in the slice lent for segments, code points
-  -- or bytes
+  -- `wrap_segments`, UTF-8 and `without_plus` for hosts, on code points and on bytes: another clause says what is left in the slice lent for segments,
+  -- code points or bytes
   pub replied-leaving : (m : Reply) (out left : List ℕ) → One (λ (x : ℕ × List ℕ × List ℕ). Replied m out (x .0) (x .1) × (x .2 ≡ left))
   pub answered-leaving : (s room out : List ℕ) (m : Reply) (left : List ℕ) →
       One (λ (x : ℕ × List ℕ × List ℕ × List ℕ). Answered s room out m (x .0) (x .1) (x .2) × (x .3 ≡ left))

@@ -10,6 +10,7 @@ use Rattle.replay_verdicts.specs.declared.Verdict.the-variants.{Malformed}
 use Rattle.replay_verdicts.specs.Answers.{compared}
 use Rattle.replay_rows.specs.Cases.{headOf, foldsAt, listAt, storedAt, part}
 use Rattle.replay_codings.specs.Codings.{decodeVerdict, encodeVerdict}
+use Rattle.replay_signs.specs.Signs.{enteredOf, plainVerdict}
 use Rattle.replay.specs.Calls.{characterOf, keywordsOf, columnsOf, offsetsOf, segmentForColOf, wrapVerdict}
 use Rattle.replay.specs.Calls.{contentRowCountOf, matchingBracketPosOf, innerPairOf, motionOf, seekOf, wordOf, verticalVerdict, viewportVerdict}
 
@@ -32,7 +33,9 @@ byGroup group k text folds list stored =
     (cond (eqb group 13) (compared (innerPairOf k text) stored)
     (cond (eqb group 14) (decodeVerdict k text stored)
     (cond (eqb group 15) (encodeVerdict k text stored)
-    Malformed)))))))))))))))
+    (cond (eqb group 16) (compared (enteredOf k list) stored)
+    (cond (eqb group 17) (plainVerdict k list stored)
+    Malformed)))))))))))))))))
 
 -- the verdict of a case
 unfoldable pub verdictOf : List ℕ → Verdict

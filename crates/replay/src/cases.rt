@@ -35,6 +35,8 @@ fn by_group(
         13 => calls::inner_pair(k, text, stored),
         14 => replay_codings::utf8_decode(k, text, stored),
         15 => replay_codings::utf8_encode(k, text, stored),
+        16 => replay_signs::enter(k, list, stored),
+        17 => replay_signs::without_plus(k, list, stored),
         _ => Verdict::Malformed,
     }
 }

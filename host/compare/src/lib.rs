@@ -2,7 +2,7 @@
 
 use oracle::Outcome;
 use oracle::case::{Case, FILLER};
-use tsivareza::{self as lib, Columns, Keywords, Offsets, Room, Seek, Steps, Vertical, Viewport, Word, Words, bytes};
+use tsivareza::{self as lib, Columns, Enter, Keywords, Offsets, Room, Seek, Steps, Vertical, Viewport, Word, Words, bytes};
 
 /// The answer on code points, which the one on bytes must equal where it was asked for.
 fn both<T: PartialEq + std::fmt::Debug>(case: &Case, on_points: T, on_bytes: Option<T>) -> T {
@@ -22,6 +22,11 @@ fn number(n: Result<u32, u32>) -> Outcome {
 
 fn truth(n: Result<u32, u32>) -> Outcome {
     n.map_or_else(Outcome::Refused, |n| Outcome::Truth(n == 1))
+}
+
+/// A number, or a refusal with its place.
+fn placed(n: Result<u32, (u32, u32)>, of: fn(u32) -> Outcome) -> Outcome {
+    n.map_or_else(|(number, place)| Outcome::refused_at(number, place), of)
 }
 
 fn caret(k: lib::Caret) -> oracle::Caret {
@@ -70,6 +75,15 @@ pub fn port(case: &Case, mut room: Option<&mut Room>) -> Outcome {
         "parse" => return number(keywords(Keywords::Parse)),
         "matches" => return truth(keywords(Keywords::Matches(x))),
         "is_keyword_char" => return truth(keywords(Keywords::IsKeywordChar(x))),
+        _ => {}
+    }
+    let mut entered = |asked| {
+        let on_bytes = room.as_mut().map(|room| room.enter(asked, &bytes(list)));
+        both(case, lib::enter(asked, list), on_bytes)
+    };
+    match case.call.name {
+        "enter" => return placed(entered(Enter::Count), |n| Outcome::Number(n.into())),
+        "enter_matches" => return placed(entered(Enter::Matches(x)), |n| Outcome::Truth(n == 1)),
         _ => {}
     }
     let mut columns = |asked| {
@@ -124,6 +138,7 @@ pub fn port(case: &Case, mut room: Option<&mut Room>) -> Outcome {
             number(both(case, lib::content_row_count(text), on_bytes))
         }
         "wrap_segments" => wrapped(case, room),
+        "without_plus" => plain(case, room),
         name => panic!("no call `{name}`"),
     }
 }
@@ -181,4 +196,19 @@ fn wrapped(case: &Case, room: Option<&mut Room>) -> Outcome {
         assert!(segments.iter().all(|&x| x == FILLER), "a refusal wrote segments on: {case}");
     }
     on_points.map_or_else(Outcome::Refused, |count| Outcome::Segments(count, segments))
+}
+
+/// `without_plus`, the places lent for the list watched.
+fn plain(case: &Case, room: Option<&mut Room>) -> Outcome {
+    let mut written = vec![FILLER; case.room as usize];
+    let on_points = lib::without_plus(&case.list, &mut written);
+    if let Some(room) = room {
+        let mut again = vec![FILLER; case.room as usize];
+        let on_bytes = room.without_plus(&bytes(&case.list), &mut again);
+        let _ = both(case, (on_points, &written), Some((on_bytes, &again)));
+    }
+    if on_points.is_err() {
+        assert!(written.iter().all(|&x| x == FILLER), "a refusal wrote a list on: {case}");
+    }
+    on_points.map_or_else(Outcome::Refused, |count| Outcome::Written(count, written))
 }

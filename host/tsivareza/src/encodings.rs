@@ -1,6 +1,6 @@
 //! UTF-8: code points from bytes and back, over lent slices.
 
-use crate::{Room, UNTOUCHED, number, raw};
+use crate::{Room, number, placed, raw};
 
 /// Puts the code points of `bytes` at the start of `points`, and answers how many there are. What is
 /// refused is told with its number and its place: 13 and where the first byte stands that RFC 3629
@@ -15,15 +15,9 @@ use crate::{Room, UNTOUCHED, number, raw};
 /// assert_eq!(tsivareza::utf8_decode(b"abcde", &mut points), Err((14, 0)));
 /// ```
 pub fn utf8_decode(bytes: &[u8], points: &mut [u32]) -> Result<u32, (u32, u32)> {
-    let mut out = [UNTOUCHED; 1];
-    let told = unsafe {
-        raw::tsivareza_utf8_decode(bytes.as_ptr(), bytes.len(), points.as_mut_ptr(), points.len(), &mut out)
-    };
-    if told == 0 {
-        return Ok(out[0]);
-    }
-    assert_eq!(out, [UNTOUCHED], "a refusal wrote into its answer");
-    Err((told as u32, (told >> 32) as u32))
+    placed(|out| unsafe {
+        raw::tsivareza_utf8_decode(bytes.as_ptr(), bytes.len(), points.as_mut_ptr(), points.len(), out)
+    })
 }
 
 /// Puts the encoding of `points` at the start of `bytes`, and answers how many bytes it has; 1, 2 and

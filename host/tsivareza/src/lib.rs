@@ -18,16 +18,19 @@
 mod encodings;
 mod inner;
 mod raw;
+mod signs;
 mod upright;
 
 // The examples of the papers are tests.
 #[cfg(doctest)]
 #[doc = include_str!("../../../README.md")]
 #[doc = include_str!("../../../docs/TUTORIAL.md")]
+#[doc = include_str!("../../../docs/LISTS.md")]
 struct Papers;
 
 pub use encodings::{utf8_decode, utf8_encode};
 pub use inner::{Kind, Range, Ranges, inner_pair};
+pub use signs::{Enter, enter, without_plus};
 pub use upright::{Steps, Vertical, Viewport, vertical, viewport};
 
 /// What the places for an answer hold before a call; a refusal leaves them so.
@@ -47,6 +50,18 @@ fn answer<const N: usize>(call: impl FnOnce(*mut [u32; N]) -> u32) -> Result<[u3
 
 fn number(call: impl FnOnce(*mut [u32; 1]) -> u32) -> Result<u32, u32> {
     answer(call).map(|[n]| n)
+}
+
+/// The same of a call whose refusal has a place, in the high half: its number, and the place.
+fn placed(call: impl FnOnce(*mut [u32; 1]) -> u64) -> Result<u32, (u32, u32)> {
+    let mut out = [UNTOUCHED; 1];
+    match call(&mut out) {
+        0 => Ok(out[0]),
+        told => {
+            assert_eq!(out, [UNTOUCHED], "a refusal wrote into its answer");
+            Err((told as u32, (told >> 32) as u32))
+        }
+    }
 }
 
 /// Code points as bytes.

@@ -24,6 +24,34 @@ unsafe extern "C" {
     ) -> u32;
     pub fn tsivareza_keywords_u32(op: u32, list: *const u32, list_len: usize, x: u32, out: *mut [u32; 1]) -> u32;
 
+    pub fn tsivareza_enter(
+        op: u32,
+        list: *const u8,
+        list_len: usize,
+        room: *mut u32,
+        room_len: usize,
+        x: u32,
+        out: *mut [u32; 1],
+    ) -> u64;
+    pub fn tsivareza_enter_u32(op: u32, list: *const u32, list_len: usize, x: u32, out: *mut [u32; 1]) -> u64;
+
+    pub fn tsivareza_without_plus(
+        list: *const u8,
+        list_len: usize,
+        room: *mut u32,
+        room_len: usize,
+        written: *mut u32,
+        written_len: usize,
+        out: *mut [u32; 1],
+    ) -> u32;
+    pub fn tsivareza_without_plus_u32(
+        list: *const u32,
+        list_len: usize,
+        written: *mut u32,
+        written_len: usize,
+        out: *mut [u32; 1],
+    ) -> u32;
+
     pub fn tsivareza_columns(
         op: u32,
         row: *const u8,

@@ -1,7 +1,7 @@
 //! What the boundary itself refuses, and what it leaves in the lent room.
 
 use tsivareza::{
-    Caret, Columns, Keywords, Kind, Motion, Offsets, Room, Seek, Steps, Vertical, Viewport, Word, Words, Wrap, bytes, content_row_count,
+    Caret, Columns, Enter, Keywords, Kind, Motion, Offsets, Room, Seek, Steps, Vertical, Viewport, Word, Words, Wrap, bytes, content_row_count,
 };
 
 /// What a room holds that no text of these tests has.
@@ -139,4 +139,25 @@ fn utf_8_refuses_before_it_writes() {
     assert_eq!(bytes, [9; 4]);
     assert_eq!(tsivareza::utf8_encode(&[0x2192], &mut bytes), Ok(3));
     assert_eq!(bytes, [0xE2, 0x86, 0x92, 9]);
+}
+
+#[test]
+fn a_list_with_a_retired_sign_leaves_what_is_lent() {
+    let (list, mut written) = ([0x35, 0x2C, 0x2B, 0x34], [BEFORE; 4]);
+    let mut room = used(5);
+    assert_eq!(room.enter(Enter::Count, &bytes(&list)), Err((21, 2)));
+    assert_eq!(room.points(), [0x35, 0x2C, 0x2B, 0x34, BEFORE]);
+    let mut room = used(3);
+    assert_eq!(room.enter(Enter::Matches(0xD800), &bytes(&list)[..15]), Err((101, 0)));
+    assert_eq!(room.enter(Enter::Matches(0xD800), &bytes(&list)), Err((102, 0)));
+    assert_eq!(room.without_plus(&bytes(&list)[..15], &mut written), Err(101));
+    assert_eq!(room.without_plus(&bytes(&list), &mut written), Err(102));
+    assert_eq!(room.points(), [BEFORE; 3]);
+    assert_eq!(tsivareza::enter(Enter::Matches(0xD800), &list), Err((2, 0)));
+    assert_eq!(tsivareza::without_plus(&[0xD800, 0x2B, 0x34], &mut written), Err(7));
+    assert_eq!(tsivareza::without_plus(&list, &mut written[..2]), Err(14));
+    assert_eq!(written, [BEFORE; 4]);
+    assert_eq!(tsivareza::without_plus(&list, &mut written), Ok(3));
+    assert_eq!(written, [0x35, 0x2C, 0x34, BEFORE]);
+    assert_eq!(tsivareza::enter(Enter::Matches(4), &written[..3]), Ok(1));
 }

@@ -11,7 +11,7 @@ const HELP: &str = "\
 ./compare [--cases N] [--seed S] [--small MOST] [--scalars] [CALL..]
     N random cases of each call from the seed S (20000 from 1), and the limits of document 01;
     --small MOST: also every case of a call with a text or list of up to MOST code points over a
-    small alphabet (its families end at 4 to 6); --scalars: also every code point;
+    small alphabet (its families end at 4 to 7); --scalars: also every code point;
     CALL..: these calls alone
 ./compare --case WORDS..
     one case, as a difference is shown";

@@ -5,27 +5,29 @@ use Rattle.replay.specs.Cases.{byGroup}
 use Rattle.replay.proofs.cases.by_group.Statement.{statement}
 use Rattle.replay.proofs.cases.by_group.Tie as tie
 
-returns-17 : tie.Need-returns-17
+returns-19 : tie.Need-returns-19
 unfolding byGroup
-returns-17 c =
+returns-19 c =
     let m = c .match .rest in
     rw (
-      ne-eqb _ 0 (m .0 .0 .0 .0 .0 .0 .0 .0 .0 .0 .0 .0 .0 .0 .0 .1),
-      ne-eqb _ 1 (m .0 .0 .0 .0 .0 .0 .0 .0 .0 .0 .0 .0 .0 .0 .1),
-      ne-eqb _ 2 (m .0 .0 .0 .0 .0 .0 .0 .0 .0 .0 .0 .0 .0 .1),
-      ne-eqb _ 3 (m .0 .0 .0 .0 .0 .0 .0 .0 .0 .0 .0 .0 .1),
-      ne-eqb _ 4 (m .0 .0 .0 .0 .0 .0 .0 .0 .0 .0 .0 .1),
-      ne-eqb _ 5 (m .0 .0 .0 .0 .0 .0 .0 .0 .0 .0 .1),
-      ne-eqb _ 6 (m .0 .0 .0 .0 .0 .0 .0 .0 .0 .1),
-      ne-eqb _ 7 (m .0 .0 .0 .0 .0 .0 .0 .0 .1),
-      ne-eqb _ 8 (m .0 .0 .0 .0 .0 .0 .0 .1),
-      ne-eqb _ 9 (m .0 .0 .0 .0 .0 .0 .1),
-      ne-eqb _ 10 (m .0 .0 .0 .0 .0 .1),
-      ne-eqb _ 11 (m .0 .0 .0 .0 .1),
-      ne-eqb _ 12 (m .0 .0 .0 .1),
-      ne-eqb _ 13 (m .0 .0 .1),
-      ne-eqb _ 14 (m .0 .1),
-      ne-eqb _ 15 (m .1),
+      ne-eqb _ 0 (m .0 .0 .0 .0 .0 .0 .0 .0 .0 .0 .0 .0 .0 .0 .0 .0 .0 .1),
+      ne-eqb _ 1 (m .0 .0 .0 .0 .0 .0 .0 .0 .0 .0 .0 .0 .0 .0 .0 .0 .1),
+      ne-eqb _ 2 (m .0 .0 .0 .0 .0 .0 .0 .0 .0 .0 .0 .0 .0 .0 .0 .1),
+      ne-eqb _ 3 (m .0 .0 .0 .0 .0 .0 .0 .0 .0 .0 .0 .0 .0 .0 .1),
+      ne-eqb _ 4 (m .0 .0 .0 .0 .0 .0 .0 .0 .0 .0 .0 .0 .0 .1),
+      ne-eqb _ 5 (m .0 .0 .0 .0 .0 .0 .0 .0 .0 .0 .0 .0 .1),
+      ne-eqb _ 6 (m .0 .0 .0 .0 .0 .0 .0 .0 .0 .0 .0 .1),
+      ne-eqb _ 7 (m .0 .0 .0 .0 .0 .0 .0 .0 .0 .0 .1),
+      ne-eqb _ 8 (m .0 .0 .0 .0 .0 .0 .0 .0 .0 .1),
+      ne-eqb _ 9 (m .0 .0 .0 .0 .0 .0 .0 .0 .1),
+      ne-eqb _ 10 (m .0 .0 .0 .0 .0 .0 .0 .1),
+      ne-eqb _ 11 (m .0 .0 .0 .0 .0 .0 .1),
+      ne-eqb _ 12 (m .0 .0 .0 .0 .0 .1),
+      ne-eqb _ 13 (m .0 .0 .0 .0 .1),
+      ne-eqb _ 14 (m .0 .0 .0 .1),
+      ne-eqb _ 15 (m .0 .0 .1),
+      ne-eqb _ 16 (m .0 .1),
+      ne-eqb _ 17 (m .1),
     )
 
 pub by-group-spec : {M : Type 1} → statement M
@@ -35,7 +37,7 @@ by-group-spec =
     (tie.spec
     (λ c κs. search needs) (λ c κs. search needs) (λ c κs. search needs) (λ c κs. search needs) (λ c κs. search needs) (λ c κs. search needs)
     (λ c κs. search needs) (λ c κs. search needs) (λ c κs. search needs) (λ c κs. search needs) (λ c κs. search needs) (λ c κs. search needs)
-    (λ c κs. search needs) (λ c κs. search needs) (λ c κs. search needs) (λ c κs. search needs)
+    (λ c κs. search needs) (λ c κs. search needs) (λ c κs. search needs) (λ c κs. search needs) (λ c κs. search needs) (λ c κs. search needs)
     (λ c. rw (c .before .match .keys1) (c .character .ensures))
     (λ c. rw (c .before .match .keys2) (c .keywords .ensures))
     (λ c. rw (c .before .match .keys3) (c .columns .ensures))
@@ -51,4 +53,6 @@ by-group-spec =
     (λ c. rw (c .before .match .keys13) (c .viewport .ensures))
     (λ c. rw (c .before .match .keys14) (c .inner-pair .ensures))
     (λ c. rw (c .before .match .keys15) (c .utf8-decode .ensures))
-    (λ c. rw (c .before .match .keys16) (c .utf8-encode .ensures)) returns-17)
+    (λ c. rw (c .before .match .keys16) (c .utf8-encode .ensures))
+    (λ c. rw (c .before .match .keys17) (c .enter .ensures))
+    (λ c. rw (c .before .match .keys18) (c .without-plus .ensures)) returns-19)

@@ -1,0 +1,13 @@
+-- `plain::without_plus` meets its contract: it hands on what the call answers. Assumes nothing.
+use borrow.Author.Needs.{needs}
+use Rattle.call_bytes.proofs.Replies.{replied-as}
+use Rattle.call_signs.proofs.plain.without_plus.Statement.{statement}
+use Rattle.call_signs.proofs.plain.without_plus.Tie as tie
+
+returns : tie.Need-returns
+returns c =
+    let s = c .before .before .before .before .plain-told .ensures in
+    (replied-as (s .0) (c .reply .ensures), s .1)
+
+pub without-plus-spec : {M : Type 1} → statement M
+without-plus-spec = tie.close (tie.spec (λ c κs. search needs) (λ c κs. search needs) (λ c. search needs) returns)

@@ -1,0 +1,17 @@
+pub mod Answers
+pub mod Bares
+pub mod Converted
+pub mod DigitLaws
+pub mod Joins
+pub mod ListLaws
+pub mod MarkLaws
+pub mod Marking
+pub mod PartLaws
+pub mod PartMarks
+pub mod PartPlaces
+pub mod PlusLaws
+pub mod RangeLaws
+pub mod SameLaws
+pub mod TrimLaws
+pub mod WhiteLaws
+pub mod WithoutLaws

@@ -1,0 +1,115 @@
+-- Laws of marks by their places: those that the code sets in a part are those of `partSigns`. Assumes nothing.
+use mathlib.Core.Path.{_≡_, refl, ap, sym, _∙_}
+use mathlib.Core.List.{List, [], _∷_, _++_}
+use mathlib.Core.Bool.{Bool, true, false, cond, _&&_, and-true, and-false, true≢false}
+use Prim.Native.Nat.{ℕ, suc, _+_, _<_}
+use native.Mathlib.Nat.{add-zero}
+use native.Mathlib.Decide.{decLt}
+use native.Mathlib.Omega.{arith}
+use lib.Dec.{eqb}
+use lib.ListN.{length, getD, take, drop, set, replicate, length-append, length-replicate, length-drop, length-set, replicate-append-replicate}
+use lib.Seq.{length-take-le, getD-take, getD-drop, set-append-left}
+use Rattle.lists.specs.Lists.{upTo}
+use Rattle.list_parts.specs.Numbers.{numberOf}
+use Rattle.list_tokens.specs.Grammar.{isToken, rangeOf}
+use Rattle.list_signs.specs.Signs.{none, leading, isValue, keptSigns}
+use Rattle.list_signs.specs.Marks.{leads, seconds, marked}
+use Rattle.list_signs.proofs.RangeLaws.{no-range, both-range}
+use Rattle.list_signs.proofs.WhiteLaws.{and-split}
+
+pub length-marked : (b : Bool) (k : ℕ) (ms : List Bool) → length (marked b k ms) ≡ length ms
+length-marked true k ms = length-set ms k true
+length-marked false k ms = refl
+
+-- a mark in the second of two lists, and in the first
+marked-right : (b : Bool) (a r : List Bool) (k : ℕ) → marked b (length a + k) (a ++ r) ≡ a ++ marked b k r
+marked-right false a r k = refl
+marked-right true [] r k = let z : 0 + k ≡ k = omega arith in rw z
+marked-right true (x ∷ a) r k =
+    let z : suc (length a) + k ≡ suc (length a + k) = omega arith in
+    rw z (ap (λ (q : List Bool). x ∷ q) (marked-right true a r k))
+
+pub marked-past : (b : Bool) (a r : List Bool) (d k : ℕ) → length a ≡ d → marked b (d + k) (a ++ r) ≡ a ++ marked b k r
+marked-past b a r d k e = ap (λ (n : ℕ). marked b (n + k) (a ++ r)) (sym e) ∙ marked-right b a r k
+
+pub marked-left : (b : Bool) (a r : List Bool) (k : ℕ) → (b ≡ true → k < length a) → marked b k (a ++ r) ≡ marked b k a ++ r
+marked-left false a r k h = refl
+marked-left true a r k h = set-append-left a r k true (h refl)
+
+-- only where it is made does the place of a mark matter
+pub marked-at : (b : Bool) (k m : ℕ) (ms : List Bool) → (b ≡ true → k ≡ m) → marked b k ms ≡ marked b m ms
+marked-at false k m ms h = refl
+marked-at true k m ms h = ap (λ (n : ℕ). set ms n true) (h refl)
+
+leading-marked : (p : List ℕ) → leading p ≡ marked (eqb (getD p 0 0) 43) 0 (none p)
+leading-marked [] = refl
+leading-marked (x ∷ p) = go (eqb x 43)
+  where
+    go : (b : Bool) → b ∷ none p ≡ cond b (true ∷ none p) (false ∷ none p)
+    go true = refl
+    go false = refl
+
+pub none-append : (p q : List ℕ) → none (p ++ q) ≡ none p ++ none q
+none-append p q = ap (λ (n : ℕ). replicate n false) (length-append p q) ∙ sym (replicate-append-replicate (length p) (length q) false)
+
+range-value : (p : List ℕ) → isValue (numberOf p) ≡ true → 0 < length p
+range-value [] e = absurd (true≢false (sym e))
+range-value (x ∷ p) e = omega arith
+
+-- of a range: where its `-` stands
+pub range-inside : (p : List ℕ) → isToken (rangeOf p) ≡ true → (0 < upTo 45 p) × (upTo 45 p < length p)
+range-inside p e = go (decLt (upTo 45 p) (length p))
+  where
+    at : upTo 45 p ≡ 0 + upTo 45 (drop 0 p)
+    at = omega arith
+
+    go : Dec (upTo 45 p < length p) → (0 < upTo 45 p) × (upTo 45 p < length p)
+    go (no n) = absurd (true≢false (sym e ∙ no-range p (upTo 45 p) at (omega arith)))
+    go (yes h) =
+        let first = and-split _ _ (sym (both-range p (upTo 45 p) at h) ∙ e) .0 in
+        let some = range-value (take (upTo 45 p) p) first in
+        (omega (arith, some, length-take-le (upTo 45 p) p (omega arith)), h)
+
+-- the signs of a range, and those of any other part
+kept-range : (p : List ℕ) → isToken (rangeOf p) ≡ true → marked (seconds p) (upTo 45 p + 1) (marked (leads p) 0 (none p)) ≡ keptSigns p
+kept-range p e =
+    let d = upTo 45 p in
+    let i = range-inside p e in
+    let a = take d p in
+    let b = drop (d + 1) p in
+    let x = eqb (getD p 0 0) 43 in
+    let y = eqb (getD p (d + 1) 0) 43 in
+    let m : length a ≡ d = length-take-le d p (omega (arith, i .1)) in
+    let n : length p ≡ length a + suc (length b) = omega (arith, m, i .1, length-drop (d + 1) p) in
+    let parts : none p ≡ none a ++ (false ∷ none b) =
+    ap (λ (k : ℕ). replicate k false) n ∙ sym (replicate-append-replicate (length a) (suc (length b)) false) in
+    let first : leading a ≡ marked x 0 (none a) = rw (leading-marked a, getD-take d p 0 0 (i .0)) in
+    let next : getD b 0 0 ≡ getD p (d + 1) 0 = getD-drop (d + 1) p 0 0 ∙ ap (λ (k : ℕ). getD p k 0) (add-zero (d + 1)) in
+    let second : leading b ≡ marked y 0 (none b) = rw (leading-marked b, next) in
+    let size : length (marked x 0 (none a)) ≡ d = length-marked x 0 (none a) ∙ length-replicate (length a) false ∙ m in
+    rw (e, and-true x, and-true y, parts, first, second)
+    (ap (marked y (d + 1)) (marked-left x (none a) (false ∷ none b) 0 (λ _. omega (arith, i .0, m, length-replicate (length a) false)))
+    ∙ marked-past y (marked x 0 (none a)) (false ∷ none b) d 1 size
+    ∙ ap (λ (r : List Bool). marked x 0 (none a) ++ r) (marked-right y (false ∷ []) (none b) 0))
+
+kept-other : (p : List ℕ) → isToken (rangeOf p) ≡ false → marked (seconds p) (upTo 45 p + 1) (marked (leads p) 0 (none p)) ≡ keptSigns p
+kept-other p e = rw (e, and-false) (go (isValue (numberOf p)))
+  where
+    go : (v : Bool) → marked (eqb (getD p 0 0) 43 && v) 0 (none p) ≡ cond v (leading p) (none p)
+    go true = rw and-true (sym (leading-marked p))
+    go false = rw and-false
+
+pub kept-signs : (p : List ℕ) → marked (seconds p) (upTo 45 p + 1) (marked (leads p) 0 (none p)) ≡ keptSigns p
+kept-signs p = go (isToken (rangeOf p)) refl
+  where
+    go : (b : Bool) → isToken (rangeOf p) ≡ b → marked (seconds p) (upTo 45 p + 1) (marked (leads p) 0 (none p)) ≡ keptSigns p
+    go true e = kept-range p e
+    go false e = kept-other p e
+
+-- a mark for each code point
+pub kept-length : (p : List ℕ) → length (keptSigns p) ≡ length p
+kept-length p =
+    ap length (sym (kept-signs p))
+    ∙ length-marked (seconds p) (upTo 45 p + 1) (marked (leads p) 0 (none p))
+    ∙ length-marked (leads p) 0 (none p)
+    ∙ length-replicate (length p) false

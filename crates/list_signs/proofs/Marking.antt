@@ -1,0 +1,71 @@
+-- The loop of `marks_of`: part by part, the marks of a list are its signs. Assumes nothing.
+use mathlib.Core.Path.{_≡_, refl, ap, sym, _∙_}
+use mathlib.Core.List.{List, [], _∷_, _++_, append-assoc, append-nil}
+use mathlib.Core.Bool.{Bool, false}
+use Prim.Native.Nat.{ℕ, suc, _+_, _-_, _≤_}
+use native.Mathlib.Omega.{arith}
+use lib.ListN.{length, take, drop, replicate, length-append, length-replicate, length-drop, replicate-append-replicate}
+use lib.Seq.{length-take-le}
+use Rattle.lists.specs.Lists.{upTo}
+use Rattle.lists.proofs.Splits.{splitFrom, split-from-start, split-from-end, split-from-step, next-most}
+use Rattle.list_parts.specs.Parts.{trim}
+use Rattle.list_signs.specs.Signs.{none, partSigns, signsIn, signs}
+use Rattle.list_signs.specs.Marks.{leads, seconds, marked, partMarked}
+use Rattle.list_signs.proofs.MarkLaws.{marked-past}
+use Rattle.list_signs.proofs.PartMarks.{part-signs, part-length}
+
+n′ : (i k : ℕ) → i + k - i ≡ k
+n′ i k = omega arith
+
+-- the loop of `marks_of`: the marks of the parts before i, and none from there on
+pub record Marking (l : List ℕ) (ms : List Bool) (i : ℕ) : Type 0 where
+  pub done : List Bool
+  pub size : length done ≡ i
+  pub rest : signs l ≡ done ++ signsIn (splitFrom 44 l i)
+  pub is : ms ≡ done ++ replicate (1026 - i) false
+
+pub marking-start : (l : List ℕ) → Marking l (replicate 1026 false) 0
+marking-start l = record { done = []; size = refl; rest = ap signsIn (sym (split-from-start 44 l)); is = refl }
+
+pub marking-length : (l : List ℕ) (ms : List Bool) (i : ℕ) → Marking l ms i → i ≤ 1026 → length ms ≡ 1026
+marking-length l ms i m h =
+    ap length (m .is) ∙ length-append (m .done) (replicate (1026 - i) false) ∙ omega (arith, m .size, length-replicate (1026 - i) false)
+
+pub marking-end : (l : List ℕ) (ms : List Bool) (i : ℕ) → Marking l ms i → i ≡ length l + 1 → ms ≡ signs l ++ replicate (1025 - length l) false
+unfolding signsIn
+marking-end l ms i m h =
+    let none-left : signs l ≡ m .done =
+    m .rest ∙ ap (λ (ps : List (List ℕ)). m .done ++ signsIn ps) (split-from-end 44 l i (omega arith)) ∙ append-nil (m .done) in
+    let k : 1026 - i ≡ 1025 - length l = omega arith in
+    rw (none-left, ← k) (m .is)
+
+pub marking-step :
+    (l : List ℕ) (ms ms₁ : List Bool) (i e : ℕ) → i ≤ length l → length l ≤ 1024 → e ≡ i + upTo 44 (drop i l) → Marking l ms i →
+    ms₁ ≡ partMarked (take (e - i) (drop i l)) i ms → Marking l ms₁ (e + 1)
+unfolding signsIn
+marking-step l ms ms₁ i e h k w m s =
+    let n : e - i ≡ upTo 44 (drop i l) = omega arith in
+    let p = take (e - i) (drop i l) in
+    let most : e ≤ length l = omega (arith, next-most 44 l i h) in
+    let size-p : length p ≡ e - i = length-take-le (e - i) (drop i l) (omega (arith, length-drop i l)) in
+    let r = replicate (1026 - (e + 1)) false in
+    let more : 1026 - i ≡ length p + suc (1026 - (e + 1)) = omega arith in
+    let free : replicate (1026 - i) false ≡ none p ++ (false ∷ r) =
+    ap (λ (j : ℕ). replicate j false) more ∙ sym (replicate-append-replicate (length p) (suc (1026 - (e + 1))) false) in
+    let one : i + upTo 45 p + 1 ≡ i + (upTo 45 p + 1) = omega arith in
+    let left : ms₁ ≡ m .done ++ (partSigns p ++ (false ∷ r)) =
+    s
+    ∙ ap (partMarked p i) (m .is ∙ ap (λ (q : List Bool). m .done ++ q) free)
+    ∙ ap (marked (seconds (trim p)) (i + upTo 45 p + 1)) (marked-past (leads (trim p)) (m .done) (none p ++ (false ∷ r)) i (upTo 43 p) (m .size))
+    ∙ ap (λ (j : ℕ). marked (seconds (trim p)) j (m .done ++ marked (leads (trim p)) (upTo 43 p) (none p ++ (false ∷ r)))) one
+    ∙ marked-past (seconds (trim p)) (m .done) (marked (leads (trim p)) (upTo 43 p) (none p ++ (false ∷ r))) i (upTo 45 p + 1) (m .size)
+    ∙ ap (λ (q : List Bool). m .done ++ q) (part-signs p (false ∷ r)) in
+    let step : splitFrom 44 l i ≡ p ∷ splitFrom 44 l (e + 1) = rw (w, n′ i (upTo 44 (drop i l))) (split-from-step 44 l i h) in
+    let joined : (q : List Bool) → (m .done ++ (partSigns p ++ (false ∷ []))) ++ q ≡ m .done ++ (partSigns p ++ (false ∷ q)) =
+    λ q. append-assoc (m .done) (partSigns p ++ (false ∷ [])) q ∙ ap (λ (z : List Bool). m .done ++ z) (append-assoc (partSigns p) (false ∷ []) q) in
+    record {
+      done = m .done ++ (partSigns p ++ (false ∷ []));
+      size = length-append (m .done) _ ∙ omega (arith, m .size, length-append (partSigns p) (false ∷ []), part-length p, size-p);
+      rest = m .rest ∙ ap (λ (ps : List (List ℕ)). m .done ++ signsIn ps) step ∙ sym (joined (signsIn (splitFrom 44 l (e + 1))));
+      is = left ∙ sym (joined r);
+    }

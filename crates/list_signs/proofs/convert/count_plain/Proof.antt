@@ -1,0 +1,53 @@
+-- `list_signs::convert::count_plain` meets its contract. The invariant of its loop: n are those before i. The measure is the list's length less
+-- i. Assumes nothing.
+use Prim.Native.Nat.{_+_, _-_, _≤_}
+use mathlib.Core.Path.{_≡_, ap}
+use native.Mathlib.Omega.{arith}
+use borrow.Author.Needs.{needs}
+use lib.ListN.{length, drop}
+use Rattle.list_signs.specs.Plain.{without}
+use Rattle.list_signs.proofs.ListLaws.{without-skip, without-keep, without-end}
+use Rattle.list_signs.proofs.convert.count_plain.Statement.{statement}
+use Rattle.list_signs.proofs.convert.count_plain.Tie as tie
+
+abbrev Inv-loop : tie.InvT-loop
+Inv-loop list marks n₀ i₀ n i = (i ≤ length list) × (n ≤ i) × (length (without list marks) ≡ n + length (without (drop i list) (drop i marks)))
+
+abbrev μ-loop : tie.MeasureT-loop
+μ-loop list marks n₀ i₀ n i = length list - i
+
+loop-again : tie.Need-loop-again Inv-loop μ-loop
+loop-again c =
+    let at-loop = c .before .before .before in
+    let a = at-loop .before .args in
+    let on = without-skip a.list.now a.marks.now (at-loop .loop .i) (omega arith) (omega arith) (c .if1 .taken) in
+    (omega arith, omega arith, omega (arith, at-loop .loop .inv .2, ap length on))
+
+loop-again-2 : tie.Need-loop-again-2 Inv-loop μ-loop
+loop-again-2 c =
+    let at-loop = c .before .before .before in
+    let a = at-loop .before .args in
+    let on = without-keep a.list.now a.marks.now (at-loop .loop .i) (omega arith) (omega arith) (c .if1 .left) in
+    (omega arith, omega arith, omega (arith, at-loop .loop .inv .2, ap length on))
+
+returns : tie.Need-returns Inv-loop μ-loop
+returns c =
+    let a = c .before .before .args in
+    omega (arith, c .before .loop .inv .2, ap length (without-end a.list.now a.marks.now (c .before .loop .i) (c .loop-test .left)))
+
+pub count-plain-spec : {M : Type 1} → statement M
+count-plain-spec =
+    tie.close
+    (tie.spec
+    Inv-loop
+    μ-loop
+    (λ c. search needs)
+    (λ c. search needs)
+    (λ c. search needs)
+    (λ c. search needs)
+    loop-again
+    (λ c. search needs)
+    (λ c. search needs)
+    (λ c. search needs)
+    loop-again-2
+    returns)

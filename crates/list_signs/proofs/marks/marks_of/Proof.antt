@@ -1,0 +1,93 @@
+-- `list_signs::marks::marks_of` meets its contract. The invariant of its loop: the marks of the parts before `from` are made, and there are none
+-- from there on. The measure is how far `from` is from past the list's end. Assumes nothing.
+use Prim.Native.Nat.{_+_, _-_, _≤_}
+use mathlib.Core.Path.{_≡_, ap, sym}
+use native.Mathlib.Omega.{arith}
+use borrow.Author.Needs.{needs}
+use lib.ListN.{length, drop, length-drop}
+use lib.Seq.{length-take-le}
+use Rattle.lists.proofs.Splits.{next-most}
+use Rattle.list_signs.proofs.Marking.{Marking, marking-start, marking-length, marking-step, marking-end}
+use Rattle.list_signs.proofs.marks.marks_of.Statement.{statement}
+use Rattle.list_signs.proofs.marks.marks_of.Tie as tie
+
+abbrev Inv-loop : tie.InvT-loop
+Inv-loop list marks₀ from₀ marks from = (from ≤ length list + 1) × Marking list marks from
+
+abbrev μ-loop : tie.MeasureT-loop
+μ-loop list marks₀ from₀ marks from = length list + 1 - from
+
+loop-holds : tie.Need-loop-holds Inv-loop μ-loop
+loop-holds c = (omega arith, marking-start _)
+
+part-mark-part-end : tie.Need-part-mark-part-end Inv-loop μ-loop
+part-mark-part-end c =
+    let at-loop = c .before .before in
+    let m = next-most 44 (at-loop .before .before .args .list .now) (at-loop .loop .from) (c .before .loop-test .taken) in
+    search needs
+
+slice-aggregate-mark-part : tie.Need-slice-aggregate-mark-part Inv-loop μ-loop
+slice-aggregate-mark-part c =
+    let at-loop = c .before .before .before .before in
+    sym (marking-length _ _ _ (at-loop .loop .inv .1) (omega (arith, at-loop .before .before .pre)))
+
+mark-part-requires : tie.Need-mark-part-requires Inv-loop μ-loop
+mark-part-requires c κs =
+    let at-find = c .before .before in
+    let at-loop = at-find .before .before in
+    let a = at-loop .before .before in
+    let most = next-most 44 (a .args .list .now) (at-loop .loop .from) (at-find .before .loop-test .taken) in
+    let size = marking-length _ _ _ (at-loop .loop .inv .1) (omega (arith, a .pre)) in
+    let part = length-take-le (at-find .find .result - at-loop .loop .from) (drop (at-loop .loop .from) (a .args .list .now))
+    (omega (arith, most, at-find .find .ensures, length-drop (at-loop .loop .from) (a .args .list .now))) in
+    omega (arith, most, at-find .find .ensures, size, part, a .pre)
+
+add-from : tie.Need-add-from Inv-loop μ-loop
+add-from c =
+    let at-find = c .before .before .before .before in
+    let at-loop = at-find .before .before in
+    let a = at-loop .before .before in
+    omega (arith, at-find .find .ensures, next-most 44 (a .args .list .now) (at-loop .loop .from) (at-find .before .loop-test .taken), a .pre)
+
+loop-less : tie.Need-loop-less Inv-loop μ-loop
+loop-less c =
+    let at-find = c .before .before .before .before in
+    let at-loop = at-find .before .before in
+    let a = at-loop .before .before in
+    omega (arith, at-find .find .ensures, next-most 44 (a .args .list .now) (at-loop .loop .from) (at-find .before .loop-test .taken), a .pre)
+
+loop-again : tie.Need-loop-again Inv-loop μ-loop
+loop-again c =
+    let at-find = c .before .before .before .before in
+    let at-loop = at-find .before .before in
+    let a = at-loop .before .before in
+    let l = a .args .list .now in
+    let inside = at-find .before .loop-test .taken in (
+      omega (arith, at-find .find .ensures, next-most 44 l (at-loop .loop .from) inside),
+      marking-step l _ _ (at-loop .loop .from) (at-find .find .result) inside (a .pre) (at-find .find .ensures) (at-loop .loop .inv .1)
+          (c .before .mark-part .ensures),
+    )
+
+returns : tie.Need-returns Inv-loop μ-loop
+returns c =
+    let l = c .before .before .before .args .list .now in
+    marking-end l _ _ (c .before .loop .inv .1) (omega (arith, c .loop-test .left))
+
+pub marks-of-spec : {M : Type 1} → statement M
+marks-of-spec =
+    tie.close
+    (tie.spec
+    Inv-loop
+    μ-loop
+    loop-holds
+    (λ c κs. search needs)
+    (λ c. search needs)
+    (λ c. search needs)
+    (λ c. search needs)
+    part-mark-part-end
+    slice-aggregate-mark-part
+    mark-part-requires
+    add-from
+    loop-less
+    loop-again
+    returns)

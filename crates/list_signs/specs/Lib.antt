@@ -1,0 +1,4 @@
+pub mod Converted
+pub mod Marks
+pub mod Plain
+pub mod Signs
