@@ -58,6 +58,12 @@ int main(void) {
     SAYS("move_down", tsivareza_vertical_u32(TSIVAREZA_MOVE_DOWN, branch, 10, none, 0, 0, 7, 0, 0, 0, 0, 1, 8, out), 1, 0, 1, 7);
     SAYS("move_screen_down",
          tsivareza_vertical_u32(TSIVAREZA_MOVE_SCREEN_DOWN, branch, 10, none, 0, 0, 1, 0, 0, TSIVAREZA_WRAP_CHAR, 4, 1, 8, out), 0, 5, 1, 1);
+    SAYS("move_screen_down_kept",
+         tsivareza_screen_kept_u32(TSIVAREZA_MOVE_SCREEN_DOWN_KEPT, words, 5, none, 0, 0, 2, 1, 1, 1, 1, TSIVAREZA_WRAP_WORD, 2, 1, 8, out),
+         0, 4, 1, 1, 1, 1);
+    SAYS("move_screen_up_kept on bytes",
+         tsivareza_screen_kept(TSIVAREZA_MOVE_SCREEN_UP_KEPT, bytes, 16, nothing, 0, room, 4, 0, 4, 0, 0, 0, 0, TSIVAREZA_WRAP_CHAR, 2, 1, 8, out),
+         0, 1, 1, 4, 1, 2);
     SAYS("move_viewport_bottom", tsivareza_viewport_u32(TSIVAREZA_MOVE_VIEWPORT_BOTTOM, branch, 10, 0, 0, 0, 0, 0, 9, 0, out), 1, 0, 0, 0);
     SAYS("match_bracket", tsivareza_seek_u32(TSIVAREZA_MATCH_BRACKET, branch, 10, 0, 4, 0, 0, 0, out), 1, 0, 3, 0, 0);
     SAYS("find till", tsivareza_seek_u32(TSIVAREZA_FIND + TSIVAREZA_FIND_FORWARD + TSIVAREZA_FIND_TILL, branch, 10, 0, 0, 0, 0, '{', out),
@@ -72,6 +78,8 @@ int main(void) {
     REFUSES("inner_pair past the row's end", tsivareza_inner_pair_u32(TSIVAREZA_CURLY, branch, 10, 0, 9, out), 4);
     REFUSES("no such kind", tsivareza_inner_pair_u32(4, branch, 10, 9, 9, out), 100);
     REFUSES("no such motion", tsivareza_motion_u32(99, branch, 10, 0, 0, 0, 0, 0, out), 100);
+    REFUSES("no such move that remembers",
+            tsivareza_screen_kept_u32(2, branch, 10, none, 0, 9, 0, 0, 0, 1, 3, TSIVAREZA_WRAP_CHAR, 2, 1, 8, out), 100);
     REFUSES("no such mode of down", tsivareza_vertical_u32(TSIVAREZA_MOVE_DOWN, branch, 10, none, 0, 9, 0, 0, 0, 3, 0, 1, 8, out), 100);
 
     /* UTF-8 both ways; 13 has its place in the high half, and leaves everything. */

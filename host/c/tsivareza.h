@@ -196,6 +196,23 @@ uint32_t tsivareza_vertical(uint32_t op, const uint8_t *text, size_t text_len, c
                             uint32_t col, uint32_t held, uint32_t sticky, uint32_t mode, uint16_t width,
                             uint32_t count, uint32_t tabstop, uint32_t out[4]);
 
+/* The screen moves that remember: a caret of six numbers, in and out. `kept` is 0 where the caret keeps
+ * no offset within a segment, and `offset` is that; out is row, column, held, sticky, kept and offset.
+ * With mode NONE or width 0 they move as up and down do, and keep no offset. Nor does the caret that any
+ * other motion answers with, moved or not: hand kept 0 on after one. A refusal leaves it. */
+enum { TSIVAREZA_MOVE_SCREEN_UP_KEPT, TSIVAREZA_MOVE_SCREEN_DOWN_KEPT };
+
+uint32_t tsivareza_screen_kept_u32(uint32_t op, const uint32_t *text, size_t text_len,
+                                   const uint32_t *folds, size_t folds_len, uint32_t row, uint32_t col,
+                                   uint32_t held, uint32_t sticky, uint32_t kept, uint32_t offset,
+                                   uint32_t mode, uint16_t width, uint32_t count, uint32_t tabstop,
+                                   uint32_t out[6]);
+uint32_t tsivareza_screen_kept(uint32_t op, const uint8_t *text, size_t text_len, const uint8_t *folds,
+                               size_t folds_len, uint32_t *room, size_t room_len, uint32_t row,
+                               uint32_t col, uint32_t held, uint32_t sticky, uint32_t kept,
+                               uint32_t offset, uint32_t mode, uint16_t width, uint32_t count,
+                               uint32_t tabstop, uint32_t out[6]);
+
 /* The viewport: `offset` rows from its edge. TOP takes no height, MIDDLE no offset. */
 enum { TSIVAREZA_MOVE_VIEWPORT_TOP, TSIVAREZA_MOVE_VIEWPORT_MIDDLE, TSIVAREZA_MOVE_VIEWPORT_BOTTOM };
 

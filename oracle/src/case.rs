@@ -1,4 +1,4 @@
-//! A call with its inputs, as a value and as one line of text, and what the given Rust answers, or `pairs` and `plus` for
+//! A call with its inputs, as a value and as one line of text, and what the given Rust answers, or `pairs`, `plus` and `kept` for
 //! calls that it does not have.
 //!
 //! A line is the call's name and its inputs, each `name=value` and each once:
@@ -7,7 +7,7 @@
 //! numbers are decimal, and a list of them has commas.
 
 use crate::calls::{self, Words};
-use crate::{Outcome, pairs, plus};
+use crate::{Outcome, kept, pairs, plus};
 use std::fmt;
 
 /// An input that a call takes.
@@ -17,6 +17,8 @@ pub enum Input {
     /// One row of code points.
     Line,
     Caret,
+    /// The caret's offset within a segment.
+    Offset,
     /// A row and a column, anywhere.
     Place,
     /// A kind of bracket.
@@ -50,6 +52,7 @@ pub struct Case {
     pub text: Vec<u32>,
     pub line: Vec<u32>,
     pub caret: crate::Caret,
+    pub offset: Option<u32>,
     /// Its place in `KINDS`.
     pub kind: usize,
     pub folds: Vec<u32>,
@@ -119,6 +122,11 @@ fn plain(k: &Case) -> Outcome {
     })
 }
 
+fn remembered(k: &Case, down: bool) -> Outcome {
+    let answer = kept::screen_kept(&k.text, k.caret, k.offset, &k.folds, k.view, k.tabstop, k.count, down);
+    outcome(answer, |(caret, offset)| Outcome::Kept(caret, offset))
+}
+
 fn words(k: &Case) -> Words<'_> {
     Words { folds: &k.folds, list: &k.list, big: k.big }
 }
@@ -150,7 +158,7 @@ macro_rules! columns {
 }
 
 /// Every public call.
-pub static CALLS: [Call; 55] = [
+pub static CALLS: [Call; 57] = [
     call!(content_row_count [Text] |k| outcome(calls::content_row_count(&k.text), |n| Outcome::Number(n.into()))),
     counted!(move_left),
     counted!(move_right_in_line),
@@ -224,6 +232,8 @@ pub static CALLS: [Call; 55] = [
     call!(enter [List] |k| placed(plus::enter(&k.list), |n| Outcome::Number(n.into()))),
     call!(enter_matches [List, Character] |k| placed(plus::enter_matches(&k.list, k.character), Outcome::Truth)),
     call!(without_plus [List, Room] plain),
+    call!(move_screen_up_kept [Text, Caret, Offset, Folds, Viewport, Tabstop, Count] |k| remembered(k, false)),
+    call!(move_screen_down_kept [Text, Caret, Offset, Folds, Viewport, Tabstop, Count] |k| remembered(k, true)),
 ];
 
 pub fn call(name: &str) -> Result<&'static Call, String> {
@@ -237,6 +247,7 @@ impl Case {
             text: Vec::new(),
             line: Vec::new(),
             caret: crate::Caret::at(0, 0),
+            offset: None,
             kind: 0,
             folds: Vec::new(),
             tabstop: 8,
@@ -287,6 +298,7 @@ impl Case {
                 self.kind = at.ok_or_else(|| format!("`{value}` is no kind: {}", KIND_NAMES.join(", ")))?;
             }
             "sticky" => self.caret.sticky = if value == "none" { None } else { Some(number(value)?) },
+            "offset" => self.offset = if value == "none" { None } else { Some(number(value)?) },
             "folds" => self.folds = numbers(value)?,
             "tabstop" => self.tabstop = number(value)?,
             "list" => self.list = hexes(value)?,
@@ -327,6 +339,7 @@ impl Case {
             "col" => self.caret.col.to_string(),
             "kind" => KIND_NAMES[self.kind].into(),
             "sticky" => self.caret.sticky.map_or("none".into(), |s| s.to_string()),
+            "offset" => self.offset.map_or("none".into(), |x| x.to_string()),
             "folds" => write_numbers(&self.folds),
             "tabstop" => self.tabstop.to_string(),
             "list" => write_hexes(&self.list),
@@ -360,6 +373,7 @@ fn names(input: Input) -> &'static [&'static str] {
         Text => &["text"],
         Line => &["line"],
         Caret => &["row", "col", "sticky"],
+        Offset => &["offset"],
         Place => &["row", "col"],
         Kind => &["kind"],
         Folds => &["folds"],
@@ -469,6 +483,9 @@ impl fmt::Display for Outcome {
             Outcome::Refused(number) => write!(f, "refused {number}"),
             Outcome::RefusedAt(number, place) => write!(f, "refused {number} at {place}"),
             Outcome::Moved(k) => write!(f, "moved {}", caret(k)),
+            Outcome::Kept(k, offset) => {
+                write!(f, "moved {}, offset {}", caret(k), offset.map_or("none".into(), |x| x.to_string()))
+            }
             Outcome::Told(truth, k) => write!(f, "told {} {}", u8::from(*truth), caret(k)),
             Outcome::Place(None) => f.write_str("none"),
             Outcome::Place(Some((row, col))) => write!(f, "place {row} {col}"),

@@ -262,6 +262,9 @@ pub fn random(call: &'static Call, dice: &mut Dice) -> Case {
     if case.takes(Input::Room) && dice.coin() {
         case.room = 2 * size as u32 + 2;
     }
+    if case.takes(Input::Offset) && dice.coin() {
+        case.offset = Some(near(dice, 6));
+    }
     if case.takes(Input::Kind) {
         case.kind = dice.below(KINDS.len());
         // mostly nests of the kind, others among them
@@ -310,6 +313,12 @@ fn fold_lists(rows: u32) -> Vec<Vec<u32>> {
     std::iter::once(vec![]).chain(every.map(|f| f.to_vec())).chain(pairs).collect()
 }
 
+/// Every set of hidden rows, by a fold for each row that is hidden.
+fn hidden_sets(rows: u32) -> Vec<Vec<u32>> {
+    let folds = |set: u32| (1..rows).filter(move |row| set >> (row - 1) & 1 == 1).flat_map(|row| [row - 1, row, 1]);
+    (0..1 << (rows - 1)).map(|set| folds(set).collect()).collect()
+}
+
 /// Puts each value into each case.
 fn each<T: Clone>(cases: Vec<Case>, values: &[T], put: impl Fn(&mut Case, T)) -> Vec<Case> {
     let mut all = Vec::with_capacity(cases.len() * values.len());
@@ -333,6 +342,7 @@ fn families(call: &Call) -> Vec<Family> {
         "matching_bracket_pos" | "match_bracket" => vec![("()<>\n", 6, false), ("()[]a", 6, false)],
         "inner_pair" => ["()[]a\n", "[]{}a\n", "{}<>a\n", "<>()a\n"].map(|alphabet| (alphabet, 6, false)).to_vec(),
         "find_char_on_line" => vec![("axb\n", 5, false)],
+        _ if takes(Input::Offset) => vec![("a \u{3042}\n", 5, true)],
         _ if takes(Input::End) => vec![(ROW, 4, false)],
         _ if takes(Input::Line) => vec![(ROW, 5, false)],
         _ if takes(Input::Big) && takes(Input::Folds) => vec![("a. \n\u{A0}", 5, false), ("a. \n\u{A0}", 4, true)],
@@ -367,7 +377,11 @@ pub fn small(call: &'static Call, most: usize, mut visit: impl FnMut(&Case)) {
     for (alphabet, longest, folded) in families(call) {
         for text in texts(&points(alphabet), most.min(longest)) {
             let rows = text.iter().filter(|&&x| x == 10).count() as u32 + 1;
-            let lists = if folded { fold_lists(rows).split_off(1) } else { vec![vec![]] };
+            let lists = match folded {
+                true if takes(Input::Offset) => hidden_sets(rows),
+                true => fold_lists(rows).split_off(1),
+                false => vec![vec![]],
+            };
             for folds in &lists {
                 small_on(call, &text, folds).iter().for_each(&mut visit);
             }
@@ -393,7 +407,10 @@ fn small_on(call: &'static Call, text: &[u32], folds: &[u32]) -> Vec<Case> {
     if takes(Input::Kind) {
         cases = each(cases, &[0, 1, 2, 3], |k, kind| k.kind = kind);
     }
-    if takes(Input::Tabstop) && takes(Input::Caret) {
+    if takes(Input::Offset) {
+        cases = each(cases, &[None, Some(0), Some(1), Some(2), Some(MOST)], |k, x| k.offset = x);
+        cases = each(cases, &[None, Some(3)], |k, s| k.caret.sticky = s);
+    } else if takes(Input::Tabstop) && takes(Input::Caret) {
         cases = each(cases, &[None, Some(0), Some(3), Some(MOST)], |k, s| k.caret.sticky = s);
         cases = each(cases, &[0, 1, 8], |k, n| k.tabstop = n);
     } else if takes(Input::Tabstop) {
@@ -408,7 +425,7 @@ fn small_on(call: &'static Call, text: &[u32], folds: &[u32]) -> Vec<Case> {
         cases = each(cases, &[0, 1, 2, 3, 4, 5, 6, 7, 65_535], |k, height| k.view.height = height);
     }
     if takes(Input::Count) {
-        let counts: &[u32] = if takes(Input::Tabstop) { &[0, 1, 2, 3, MOST] } else { &[0, 1, 2, 3, 4, MOST] };
+        let counts: &[u32] = if takes(Input::Offset) { &[0, 2, MOST] } else if takes(Input::Tabstop) { &[0, 1, 2, 3, MOST] } else { &[0, 1, 2, 3, 4, MOST] };
         cases = each(cases, counts, |k, n| k.count = n);
     }
     if takes(Input::Big) {

@@ -1,14 +1,15 @@
 //! What the given Rust answers, on plain values: the judge of the port's answers.
 //!
 //! `calls` has one function per public call, `refusals` the refusal table of document 01, written
-//! apart from it, `pairs` and `plus` what document 02 adds on pairs and on plus signs, from its words,
-//! `case` a call with its inputs as one line of text, `generate` cases from a seed and small families,
+//! apart from it, `pairs`, `plus` and `kept` what document 02 adds on pairs, on plus signs and on screen moves that remember,
+//! from its words, `case` a call with its inputs as one line of text, `generate` cases from a seed and small families,
 //! `replay` the list that the program `replay` runs, `session` document 01's
 //! session over the given motions, `utf8` RFC 3629's tables and `std::str`.
 
 pub mod calls;
 pub mod case;
 pub mod generate;
+pub mod kept;
 pub mod pairs;
 pub mod plus;
 pub mod refusals;
@@ -48,6 +49,8 @@ pub enum Outcome {
     /// A refusal that has a place, and the place.
     RefusedAt(u32, u32),
     Moved(Caret),
+    /// The caret, and its offset within a segment.
+    Kept(Caret, Option<u32>),
     /// The truth that the call tells, and the caret.
     Told(bool, Caret),
     Place(Option<(u32, u32)>),

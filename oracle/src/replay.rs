@@ -4,7 +4,8 @@
 //! of a list (keywords, or segments), those, and the answer: 0 or the refusal's number, and what the places lent for the
 //! answer and for what is written hold afterwards. A space ends each number but the last; `3*97` is 97 three times. A call
 //! whose refusal may have a place has the place, or 0, behind the number. UTF-8, which the given Rust has no call for, comes
-//! last, by RFC 3629's tables: groups 14 and 15, with a byte as a number.
+//! last, by RFC 3629's tables: groups 14 and 15, with a byte as a number. A screen move
+//! that remembers, group 18, has in its list whether an offset is kept, and that.
 
 use crate::case::{CALLS, Call, Case, FILLER, Input};
 use crate::generate::{self, Dice};
@@ -51,7 +52,7 @@ struct Asked<'a> {
     places: usize,
     text: &'a [u32],
     folds: &'a [u32],
-    list: &'a [u32],
+    list: Vec<u32>,
 }
 
 fn asked(k: &Case) -> Asked<'_> {
@@ -61,6 +62,7 @@ fn asked(k: &Case) -> Asked<'_> {
         8 | 10..=12 => 4,
         9 => 5,
         13 => 9,
+        18 => 6,
         _ => 1,
     };
     let mut head = vec![group, op];
@@ -73,10 +75,11 @@ fn asked(k: &Case) -> Asked<'_> {
         4 => (&[], &[], &k.segments),
         10 if op == 4 => (&k.text, &[], &k.list),
         10 => (&k.text, &k.folds, &k.list),
-        11 => (&k.text, &k.folds, &[]),
+        11 | 18 => (&k.text, &k.folds, &[]),
         _ => (&k.text, &[], &[]),
     };
-    Asked { head, places, text, folds, list }
+    let own = [k.offset.is_some().into(), k.offset.unwrap_or(0)];
+    Asked { head, places, text, folds, list: if group == 18 { own.to_vec() } else { list.to_vec() } }
 }
 
 /// Group, operation, and the numbers that it takes, in the order of the exports.
@@ -91,6 +94,7 @@ fn numbers(k: &Case) -> (u32, u32, Vec<u32>) {
     let word = |op| (10, op, caret(&[count, k.big.into()]));
     let (top, height, width, wrap) = (k.view.top, k.view.height.into(), k.view.width.into(), mode(k.view.wrap));
     let upright = |op| (11, op, caret(&[count, tab, wrap, width]));
+    let kept = |op| (18, op, caret(&[count, tab, wrap, width]));
     let edge = |op, offset| (12, op, caret(&[offset, top, height]));
     match k.call.name {
         "is_scalar" => (0, 0, vec![x]),
@@ -126,6 +130,8 @@ fn numbers(k: &Case) -> (u32, u32, Vec<u32>) {
         "move_down" => upright(1),
         "move_screen_up" => upright(2),
         "move_screen_down" => upright(3),
+        "move_screen_up_kept" => kept(0),
+        "move_screen_down_kept" => kept(1),
         "move_viewport_top" => edge(0, count),
         "move_viewport_middle" => edge(1, 0),
         "move_viewport_bottom" => edge(2, count),
@@ -150,6 +156,7 @@ fn answer(k: &Case, places: usize, outcome: &Outcome) -> Option<Vec<u32>> {
             [vec![*number], vec![FILLER; places + lent]].concat()
         }
         Outcome::Moved(caret) => [&[0][..], &held(caret)].concat(),
+        Outcome::Kept(caret, offset) => [&[0][..], &held(caret), &[offset.is_some().into(), offset.unwrap_or(0)]].concat(),
         Outcome::Told(truth, caret) => [&[0, u32::from(*truth)][..], &held(caret)].concat(),
         Outcome::Place(None) => vec![0, 0, 0, 0],
         Outcome::Place(Some((row, col))) => vec![0, 1, *row, *col],
@@ -180,8 +187,8 @@ fn row(k: &Case) -> Option<Row> {
         return None;
     }
     let Asked { head, places, text, folds, list } = asked(k);
-    let counts = [text, folds, list].map(|part| part.len() as u32);
-    let given = written(&[&head, &counts, text, folds, list]);
+    let counts = [text, folds, &list[..]].map(|part| part.len() as u32);
+    let given = written(&[&head, &counts, text, folds, &list]);
     if given.len() > WIDEST {
         return None;
     }

@@ -7,10 +7,11 @@ use Rattle.row_wrap.specs.declared.Wrap.{Wrap}
 use Rattle.word_rounds.specs.declared.Motion.the-variants.{Fwd, Back, End, EndBack}
 use Rattle.motions.specs.declared.Caret.{Caret}
 use Rattle.motions.specs.WordMoves.{moveWord}
-use Rattle.motions.specs.UpDown.{moveRows, moveScreenRows}
+use Rattle.motions.specs.UpDown.{moveRows, moveScreenRows, moveScreenRowsKept}
 use Rattle.call_texts.specs.Asks.{moveAs}
 use Rattle.call_folds.specs.Terms.{wordOf, word}
 use Rattle.call_folds.specs.Upright.{uprightOf, upright}
+use Rattle.call_folds.specs.Kept.{keptOf, remembered}
 
 pub record Words (t folds list : List ℕ) (big : Bool) (n : ℕ) (k : Caret) : Type 0 where
   pub w0 : word 0 big n k t folds list ≡ moveWord t folds list big Fwd false n k
@@ -32,3 +33,11 @@ pub record Uprights (t folds : List ℕ) (mode : Wrap) (width n tabstop : ℕ) (
 pub upright-numbers : (t folds : List ℕ) (mode : Wrap) (width n tabstop : ℕ) (k : Caret) → Uprights t folds mode width n tabstop k
 unfolding upright uprightOf moveAs
 upright-numbers t folds mode width n tabstop k = record { u0 = refl; u1 = refl; u2 = refl; u3 = refl }
+
+pub record Remembered (t folds : List ℕ) (mode : Wrap) (width n tabstop : ℕ) (k : Caret) : Type 0 where
+  pub r0 : remembered 0 mode width n tabstop k t folds ≡ moveScreenRowsKept t folds tabstop mode width false n k
+  pub r1 : remembered 1 mode width n tabstop k t folds ≡ moveScreenRowsKept t folds tabstop mode width true n k
+
+pub kept-numbers : (t folds : List ℕ) (mode : Wrap) (width n tabstop : ℕ) (k : Caret) → Remembered t folds mode width n tabstop k
+unfolding remembered keptOf moveAs
+kept-numbers t folds mode width n tabstop k = record { r0 = refl; r1 = refl }

@@ -15,7 +15,7 @@ ghost use Rattle.call_folds.specs.Upright.{uprightOf, verticals};
 ghost use Rattle.call_folds.specs.Upright.{vertical as Upright·vertical};
 
 // The modes by their numbers: 0 None, 1 Char, 2 Word.
-fn mode_of(mode: u32) -> Wrap
+pub(crate) fn mode_of(mode: u32) -> Wrap
     ensures { λ r. ⌜ r ≡ modeOf mode ⌝ }
 {
     match mode {

@@ -1,8 +1,10 @@
 // The calls for hosts on a text, by numbers: each puts its answer into `out` and answers 0, or
-// answers the number of a refusal and leaves `out` as it was. A caret is four numbers.
+// answers the number of a refusal and leaves `out` as it was. A caret is four numbers, or six where
+// a call takes the offset within a segment.
 use motions::Move;
 
 mod asks;
+mod carets;
 mod inners;
 mod moves;
 mod pairs;
@@ -11,6 +13,8 @@ mod seeks;
 mod viewports;
 
 pub use asks::move_as;
+pub use carets::caret_six;
+pub use carets::place_six;
 pub use inners::inner_pair;
 pub use moves::caret_of;
 pub use moves::motion;

@@ -16,14 +16,10 @@ pub fn caret_of(row: u32, col: u32, held: u32, sticky: u32) -> Caret
     ensures { λ r. ⌜ r ≡ caretOf row col held sticky ⌝ }
 {
     let s = sticky_of(held, sticky);
-    Caret {
-        row: row,
-        col: col,
-        sticky: s,
-    }
+    Caret::at(row, col, s)
 }
 
-fn sticky_of(held: u32, sticky: u32) -> Sticky
+pub(crate) fn sticky_of(held: u32, sticky: u32) -> Sticky
     ensures { λ r. ⌜ r ≡ stickyOf held sticky ⌝ }
 {
     if held == 0 {

@@ -14,6 +14,7 @@
 mod characters;
 mod encodings;
 mod inners;
+mod kept;
 mod lists;
 mod moves;
 mod pairs;

@@ -17,7 +17,7 @@ use Rattle.positions.proofs.Checks.{entry-clear, entered}
 use Rattle.positions.proofs.Entered.{sought-none, folds-none, folds-number}
 use Rattle.motions.specs.declared.Caret.{Caret}
 use Rattle.motions.specs.declared.Move.{Move}
-use Rattle.motions.specs.declared.Move.the-variants.{By, Word, Rows, Screen, Viewport, Bracket, Find}
+use Rattle.motions.specs.declared.Move.the-variants.{By, Word, Rows, Screen, ScreenKept, Viewport, Bracket, Find}
 use Rattle.motions.specs.Carets.{here, caretRefusal, entryOf}
 use Rattle.motions.specs.WordMoves.{foldsOf}
 use Rattle.motions.specs.UpDown.{stopRefusal, verticalRefusal}
@@ -62,6 +62,7 @@ module _ (t folds : List ℕ) (tabstop : ℕ) (k : Caret) (e : Entry) (is : e �
       ready (Word m big stop) (right .0) (right .1)
   checked-ready (Rows down) z = by-stop (Rows down) z (λ h. h)
   checked-ready (Screen mode width down) z = by-stop (Screen mode width down) z (λ h. h)
+  checked-ready (ScreenKept mode width down) z = by-stop (ScreenKept mode width down) z (λ h. h)
   checked-ready (Viewport edge top height offset) z = ready (Viewport edge top height offset) z tt
   checked-ready Bracket z = ready Bracket z tt
   checked-ready (Find x forward till skip) z = ready (Find x forward till skip) (sought-none (e .refusal) (isScalar x) z) tt

@@ -16,7 +16,7 @@ use Rattle.positions.proofs.Checks.{entry-number}
 use Rattle.positions.proofs.Entered.{sought-number, folds-number}
 use Rattle.motions.specs.declared.Caret.{Caret}
 use Rattle.motions.specs.declared.Move.{Move}
-use Rattle.motions.specs.declared.Move.the-variants.{By, Word, Rows, Screen, Viewport, Bracket, Find}
+use Rattle.motions.specs.declared.Move.the-variants.{By, Word, Rows, Screen, ScreenKept, Viewport, Bracket, Find}
 use Rattle.motions.specs.declared.Moved.{Moved}
 use Rattle.motions.specs.declared.Moved.the-variants.{To, Refused}
 use Rattle.motions.specs.declared.Sought.{Sought}
@@ -66,6 +66,7 @@ module _ (t folds list : List ℕ) (tabstop : ℕ) (n : ℕ) (k : Caret) (e : En
   goes-by (Word m big stop) = found-moving _ _ ∙ listed (foldsOf m folds) (Found (wordCaret t (foldsOf m folds) (inList list) big m stop n k))
   goes-by (Rows down) = found-moving _ _ ∙ numbered _ (stop-number t folds tabstop k e is)
   goes-by (Screen mode width down) = found-moving _ _ ∙ numbered _ (stop-number t folds tabstop k e is)
+  goes-by (ScreenKept mode width down) = found-moving _ _ ∙ numbered _ (stop-number t folds tabstop k e is)
   goes-by (Viewport edge top height offset) = found-moving _ _ ∙ numbered _ (entry-number t (here k) e is)
   goes-by Bracket = numbered _ (entry-number t (here k) e is)
   goes-by (Find x forward till skip) = numbered _ (sought-number t (here k) e is x)
@@ -76,6 +77,7 @@ module _ (t folds list : List ℕ) (tabstop : ℕ) (n : ℕ) (k : Caret) where
   landed-goes (Word motion big stop) = landed-found _
   landed-goes (Rows down) = landed-found _
   landed-goes (Screen mode width down) = landed-found _
+  landed-goes (ScreenKept mode width down) = landed-found _
   landed-goes (Viewport edge top height offset) = landed-found _
   landed-goes Bracket = refl
   landed-goes (Find x forward till skip) = refl

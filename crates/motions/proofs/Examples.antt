@@ -12,12 +12,12 @@ use Rattle.positions.specs.Positions.{positionRefusal, lowest}
 use Rattle.motions.specs.declared.Caret.{Caret}
 use Rattle.vertical.specs.declared.Sticky.the-variants.{Absent}
 use Rattle.motions.specs.declared.Moved.the-variants.{To, Refused}
-use Rattle.motions.specs.Carets.{moving}
+use Rattle.motions.specs.Carets.{moving, caretAt}
 use Rattle.motions.specs.Lines.{moveFirstNonBlankLine}
 
--- a caret with no sticky column
+-- a caret with no sticky column and no offset
 abbrev pub at : ℕ → ℕ → Caret
-at r c = record { row = r; col = c; sticky = Absent }
+at r c = caretAt r c Absent
 
 -- `a` and a separator: `_` from the last empty row goes up; one row further the caret is refused
 pub line-from-last : moveFirstNonBlankLine (97 ∷ 10 ∷ []) 1 (at 1 0) ≡ To (at 0 0)

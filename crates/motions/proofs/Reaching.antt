@@ -12,11 +12,11 @@ use Rattle.visible_rows.specs.Visible.{deltaOf}
 use Rattle.vertical.proofs.Inside.{rows-inside}
 use Rattle.vertical.proofs.Edges.{viewport-within}
 use Rattle.vertical.specs.declared.Edge.{Edge}
-use Rattle.screen.proofs.Inside.{move-inside}
+use Rattle.screen.proofs.Inside.{kept-inside, move-inside}
 use Rattle.text_moves.proofs.Staying.{row-in}
 use Rattle.motions.specs.declared.Caret.{Caret}
 use Rattle.motions.specs.Carets.{refusalOf, Inside}
-use Rattle.motions.specs.UpDown.{stopRefusal, verticalRefusal, moveRows, moveScreenRows}
+use Rattle.motions.specs.UpDown.{stopRefusal, verticalRefusal, moveRows, moveScreenRows, moveScreenRowsKept}
 use Rattle.motions.specs.ViewportMoves.{moveViewport}
 use Rattle.motions.proofs.Landing.{Lands, moving-lands, caret-in}
 
@@ -36,6 +36,14 @@ module _ (t folds : List ℕ) (tabstop : ℕ) (k : Caret) where
       moving-lands t (verticalRefusal t folds tabstop k) _ (λ z.
       let i = own z in
       let r = move-inside widthOf t folds tabstop (k .row) (k .col) (k .sticky) mode width down count
+      (record { in-row = i .in-row; in-col = i .in-col }) in
+      record { in-row = r .in-row; in-col = r .in-col })
+
+  pub kept-lands : (mode : Wrap) (width : ℕ) (down : Bool) (count : ℕ) → Lands t (moveScreenRowsKept t folds tabstop mode width down count k)
+  kept-lands mode width down count =
+      moving-lands t (verticalRefusal t folds tabstop k) _ (λ z.
+      let i = own z in
+      let r = kept-inside widthOf t folds tabstop (k .row) (k .col) (k .sticky) (k .offset) mode width down count
       (record { in-row = i .in-row; in-col = i .in-col }) in
       record { in-row = r .in-row; in-col = r .in-col })
 

@@ -9,11 +9,12 @@ use Rattle.text.specs.Text.{rowCount}
 use Rattle.text.proofs.Parts.{count-le, row-fits}
 use Rattle.folds.specs.Folds.{foldRefusal}
 use Rattle.row_wrap.specs.declared.Wrap.{Wrap}
-use Rattle.vertical.specs.declared.Target.{Target}
 use Rattle.vertical.specs.Moves
 use Rattle.vertical.proofs.Inside.{Inside}
-use Rattle.screen.specs.Screen.{moveScreen}
-use Rattle.screen.proofs.Inside.{move-inside}
+use Rattle.screen.specs.declared.Kept.{Kept}
+use Rattle.screen.specs.declared.Offset.{Offset}
+use Rattle.screen.specs.Keeping.{moveScreenKept}
+use Rattle.screen.proofs.Inside.{kept-inside}
 use Rattle.positions.specs.declared.Entry.{Entry}
 use Rattle.positions.specs.Positions.{Accepted}
 use Rattle.motions.specs.declared.Caret.{Caret}
@@ -35,14 +36,15 @@ upright-ready t folds tabstop k e a good h =
 
 -- the target is in the text, so that its numbers fit a u32
 pub target-fits : {t folds : List ℕ} {tabstop start : ℕ} (k : Caret) → Upright t folds tabstop k start →
-    (mode : Wrap) (width : ℕ) (down : Bool) (count : ℕ) (p : Target) →
-    p ≡ moveScreen widthOf t folds tabstop mode width down count (k .row) (k .col) (k .sticky) → (p .row < 2 ^ 32) × (p .col < 2 ^ 32)
-target-fits {t} {folds} {tabstop} {start} k h mode width down count p e =
+    (mode : Wrap) (width : ℕ) (down : Bool) (count : ℕ) (offset : Offset) (p : Kept) →
+    p ≡ moveScreenKept widthOf t folds tabstop mode width down count (k .row) (k .col) (k .sticky) offset →
+    (p .target .row < 2 ^ 32) × (p .target .col < 2 ^ 32)
+target-fits {t} {folds} {tabstop} {start} k h mode width down count offset p e =
     let own : Inside t (k .row) (k .col) = record { in-row = h .here .in-row; in-col = omega (arith, h .here .in-col) } in
-    let q = moveScreen widthOf t folds tabstop mode width down count (k .row) (k .col) (k .sticky) in
-    let i = move-inside widthOf t folds tabstop (k .row) (k .col) (k .sticky) mode width down count own in
-    let row = ap (λ (x : Target). x .row) e in
-    let col = ap (λ (x : Target). x .col) e in (
+    let q = moveScreenKept widthOf t folds tabstop mode width down count (k .row) (k .col) (k .sticky) offset .target in
+    let i = kept-inside widthOf t folds tabstop (k .row) (k .col) (k .sticky) offset mode width down count own in
+    let row = ap (λ (x : Kept). x .target .row) e in
+    let col = ap (λ (x : Kept). x .target .col) e in (
       omega (arith, row, i .in-row, count-le t, h .row-good .brief),
       omega (arith, col, i .in-col, row-fits t (q .row) (i .in-row), h .row-good .brief),
     )

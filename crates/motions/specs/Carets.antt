@@ -10,6 +10,8 @@ use Rattle.positions.specs.declared.Entry.{Entry}
 use Rattle.positions.specs.Positions
 use Rattle.positions.specs.Positions.{positionRefusal, refusalAt}
 use Rattle.vertical.specs.declared.Sticky.{Sticky}
+use Rattle.screen.specs.declared.Offset.{Offset}
+use Rattle.screen.specs.declared.Offset.the-variants.{Absent}
 use Rattle.motions.specs.declared.Caret.{Caret}
 use Rattle.motions.specs.declared.Moved.{Moved}
 use Rattle.motions.specs.declared.Moved.the-variants.{To, Refused}
@@ -41,13 +43,21 @@ abbrev pub caretAfter : Caret → Moved → Caret
 caretAfter old (To k) = k
 caretAfter old (Refused f) = old
 
--- a caret by its parts: every caret that a motion answers with
-abbrev pub caretAt : ℕ → ℕ → Sticky → Caret
-caretAt r c s = record { row = r; col = c; sticky = s }
+-- a caret by its parts
+abbrev pub caretWith : ℕ → ℕ → Sticky → Offset → Caret
+caretWith r c s o = record { row = r; col = c; sticky = s; offset = o }
 
--- a caret at another row and column: all else is kept
+-- one that keeps no offset: every caret that a motion answers with, but for the screen moves that remember
+abbrev pub caretAt : ℕ → ℕ → Sticky → Caret
+caretAt r c s = caretWith r c s Absent
+
+-- a caret at another row and column: the sticky column is kept
 abbrev pub placed : Caret → ℕ → ℕ → Caret
 placed k r c = caretAt r c (k .sticky)
+
+-- a caret where it was
+abbrev pub cleared : Caret → Caret
+cleared k = placed k (k .row) (k .col)
 
 abbrev pub put : Caret → Position → Caret
 put k p = placed k (p .row) (p .col)

@@ -13,7 +13,7 @@ use Rattle.positions.specs.declared.Entry.{Entry}
 use Rattle.positions.specs.Positions.{orSought, orFolds, Accepted}
 use Rattle.motions.specs.declared.Caret.{Caret}
 use Rattle.motions.specs.declared.Move.{Move}
-use Rattle.motions.specs.declared.Move.the-variants.{By, Word, Rows, Screen, Viewport, Bracket, Find}
+use Rattle.motions.specs.declared.Move.the-variants.{By, Word, Rows, Screen, ScreenKept, Viewport, Bracket, Find}
 use Rattle.motions.specs.Carets.{here}
 use Rattle.motions.specs.WordMoves.{foldsOf}
 use Rattle.motions.specs.UpDown.{stopRefusal}
@@ -28,6 +28,7 @@ checked e folds tabstop (By w) = e .refusal
 checked e folds tabstop (Word m big stop) = orFolds e (foldsOf m folds)
 checked e folds tabstop (Rows down) = orStop (orFolds e folds) tabstop
 checked e folds tabstop (Screen mode width down) = orStop (orFolds e folds) tabstop
+checked e folds tabstop (ScreenKept mode width down) = orStop (orFolds e folds) tabstop
 checked e folds tabstop (Viewport edge top height offset) = e .refusal
 checked e folds tabstop Bracket = e .refusal
 checked e folds tabstop (Find x forward till skip) = orSought (e .refusal) (isScalar x)
@@ -38,6 +39,7 @@ Takes t folds tabstop (By w) = Unit
 Takes t folds tabstop (Word m big stop) = foldRefusal (foldsOf m folds) (rowCount t) ≡ 0
 Takes t folds tabstop (Rows down) = (foldRefusal folds (rowCount t) ≡ 0) × (tabstop ≤ 1000)
 Takes t folds tabstop (Screen mode width down) = (foldRefusal folds (rowCount t) ≡ 0) × (tabstop ≤ 1000)
+Takes t folds tabstop (ScreenKept mode width down) = (foldRefusal folds (rowCount t) ≡ 0) × (tabstop ≤ 1000)
 Takes t folds tabstop (Viewport edge top height offset) = Unit
 Takes t folds tabstop Bracket = Unit
 Takes t folds tabstop (Find x forward till skip) = Unit

@@ -15,12 +15,12 @@ use Rattle.positions.specs.Positions.{refusalWith}
 use Rattle.motions.specs.declared.Caret.{Caret}
 use Rattle.motions.specs.declared.Sought.{Sought}
 use Rattle.motions.specs.declared.Sought.the-variants.{Found as Sought·Found, Missing, Refused}
-use Rattle.motions.specs.Carets.{here, refusalOf, placed}
+use Rattle.motions.specs.Carets.{here, refusalOf, placed, cleared}
 
--- the caret at the partner, or as it was
+-- the caret at the partner, or where it was
 unfoldable pub partnerTo : Caret → Partner → Sought
 partnerTo k (There p) = Sought·Found (placed k (p .row) (p .col))
-partnerTo k None = Missing k
+partnerTo k None = Missing (cleared k)
 partnerTo k (Partner·Refused f) = Refused f
 
 -- the answer of a search, or the number that the call is refused with
@@ -31,10 +31,10 @@ seeking f m = cond (eqb f 0) m (Refused f)
 abbrev pub matchBracket : List ℕ → Caret → Sought
 matchBracket t k = seeking (refusalOf t k) (partnerTo k (keyFrom t (k .row) (k .col)))
 
--- the caret at a column that was found in its row, or as it was
+-- the caret at a column that was found in its row, or where it was
 unfoldable pub landsOn : Caret → Found → Sought
 landsOn k (At i) = Sought·Found (placed k (k .row) i)
-landsOn k Nothing = Missing k
+landsOn k Nothing = Missing (cleared k)
 
 -- `f`, `F`, `t`, `T`; a character sought that is no scalar value is 2, after 1 and before all else
 abbrev pub findCharOnLine : List ℕ → ℕ → Bool → Bool → Bool → Caret → Sought

@@ -13,14 +13,14 @@ use Rattle.brackets.specs.Find.{keyFrom}
 use Rattle.text_moves.specs.Ways.{gone}
 use Rattle.motions.specs.declared.Caret.{Caret}
 use Rattle.motions.specs.declared.Move.{Move}
-use Rattle.motions.specs.declared.Move.the-variants.{By, Word, Rows, Screen, Viewport, Bracket, Find}
+use Rattle.motions.specs.declared.Move.the-variants.{By, Word, Rows, Screen, ScreenKept, Viewport, Bracket, Find}
 use Rattle.motions.specs.declared.Moved.{Moved}
 use Rattle.motions.specs.declared.Moved.the-variants.{To, Refused}
 use Rattle.motions.specs.declared.Sought.{Sought}
 use Rattle.motions.specs.declared.Sought.the-variants.{Found, Missing, Refused as Sought·Refused}
 use Rattle.motions.specs.Carets.{here, put, leads}
 use Rattle.motions.specs.WordMoves.{foldsOf, wordCaret, moveWord}
-use Rattle.motions.specs.UpDown.{screenCaret, moveRows, moveScreenRows}
+use Rattle.motions.specs.UpDown.{screenCaret, moveRows, moveScreenRows, keptCaret, moveScreenRowsKept}
 use Rattle.motions.specs.ViewportMoves.{viewportCaret, moveViewport}
 use Rattle.motions.specs.Finds.{partnerTo, landsOn, seeking, matchBracket, findCharOnLine}
 
@@ -29,7 +29,7 @@ abbrev pub found : Moved → Sought
 found (To k) = Found k
 found (Refused f) = Sought·Refused f
 
--- the caret that a search leaves: where it found what it sought, or as it was
+-- the caret that a search leaves: where it found what it sought, or where it was
 abbrev pub landed : Sought → Moved
 landed (Found k) = To k
 landed (Missing k) = To k
@@ -41,6 +41,7 @@ movedBy t folds list tabstop (By w) n k = leads t k (gone t w n (here k))
 movedBy t folds list tabstop (Word m big stop) n k = moveWord t (foldsOf m folds) list big m stop n k
 movedBy t folds list tabstop (Rows down) n k = moveRows t folds tabstop down n k
 movedBy t folds list tabstop (Screen mode width down) n k = moveScreenRows t folds tabstop mode width down n k
+movedBy t folds list tabstop (ScreenKept mode width down) n k = moveScreenRowsKept t folds tabstop mode width down n k
 movedBy t folds list tabstop (Viewport edge top height offset) n k = moveViewport t edge top height offset k
 movedBy t folds list tabstop Bracket n k = landed (matchBracket t k)
 movedBy t folds list tabstop (Find x forward till skip) n k = landed (findCharOnLine t x forward till skip k)
@@ -55,6 +56,7 @@ goes t folds list tabstop (By w) n k = found (movedBy t folds list tabstop (By w
 goes t folds list tabstop (Word m big stop) n k = found (movedBy t folds list tabstop (Word m big stop) n k)
 goes t folds list tabstop (Rows down) n k = found (movedBy t folds list tabstop (Rows down) n k)
 goes t folds list tabstop (Screen mode width down) n k = found (movedBy t folds list tabstop (Screen mode width down) n k)
+goes t folds list tabstop (ScreenKept mode width down) n k = found (movedBy t folds list tabstop (ScreenKept mode width down) n k)
 goes t folds list tabstop (Viewport edge top height offset) n k = found (movedBy t folds list tabstop (Viewport edge top height offset) n k)
 goes t folds list tabstop Bracket n k = matchBracket t k
 goes t folds list tabstop (Find x forward till skip) n k = findCharOnLine t x forward till skip k
@@ -65,6 +67,7 @@ walks t folds list tabstop (By w) n k = Found (put k (gone t w n (here k)))
 walks t folds list tabstop (Word m big stop) n k = wordBy t (foldsOf m folds) list big m stop n k
 walks t folds list tabstop (Rows down) n k = Found (screenCaret t folds tabstop None 0 down n k)
 walks t folds list tabstop (Screen mode width down) n k = Found (screenCaret t folds tabstop mode width down n k)
+walks t folds list tabstop (ScreenKept mode width down) n k = Found (keptCaret t folds tabstop mode width down n k)
 walks t folds list tabstop (Viewport edge top height offset) n k = Found (viewportCaret t edge top height offset k)
 walks t folds list tabstop Bracket n k = partnerTo k (keyFrom t (k .row) (k .col))
 walks t folds list tabstop (Find x forward till skip) n k = landsOn k (findOnRow (rowAt t (k .row)) (k .col) x forward till skip)

@@ -13,11 +13,13 @@ use Rattle.vertical.specs.declared.Sticky.the-variants.{At}
 use Rattle.vertical.specs.declared.Target.{Target}
 use Rattle.visible_rows.specs.Visible.{deltaOf}
 use Rattle.vertical.specs.Moves.{moveVertical}
+use Rattle.screen.specs.declared.Kept.{Kept}
 use Rattle.screen.specs.Screen.{moveScreen}
+use Rattle.screen.specs.Keeping.{moveScreenKept}
 use Rattle.positions.specs.Positions.{lowest}
 use Rattle.motions.specs.declared.Caret.{Caret}
 use Rattle.motions.specs.declared.Moved.{Moved}
-use Rattle.motions.specs.Carets.{caretRefusal, moving, caretAt}
+use Rattle.motions.specs.Carets.{caretRefusal, moving, caretWith, caretAt}
 
 -- 6: a tabstop above 1,000
 abbrev pub stopRefusal : ℕ → ℕ
@@ -42,3 +44,15 @@ screenCaret t folds tabstop mode width down count k = atTarget (moveScreen width
 
 abbrev pub moveScreenRows : List ℕ → List ℕ → ℕ → Wrap → ℕ → Bool → ℕ → Caret → Moved
 moveScreenRows t folds tabstop mode width down count k = moving (verticalRefusal t folds tabstop k) (screenCaret t folds tabstop mode width down count k)
+
+-- `gj` and `gk` that remember: the caret's own offset goes in, and the one that was kept is the caret's from then on
+abbrev pub atKept : Kept → Caret
+atKept p = caretWith (p .target .row) (p .target .col) (At (p .target .want)) (p .offset)
+
+abbrev pub keptCaret : List ℕ → List ℕ → ℕ → Wrap → ℕ → Bool → ℕ → Caret → Caret
+keptCaret t folds tabstop mode width down count k =
+    atKept (moveScreenKept widthOf t folds tabstop mode width down count (k .row) (k .col) (k .sticky) (k .offset))
+
+abbrev pub moveScreenRowsKept : List ℕ → List ℕ → ℕ → Wrap → ℕ → Bool → ℕ → Caret → Moved
+moveScreenRowsKept t folds tabstop mode width down count k =
+    moving (verticalRefusal t folds tabstop k) (keptCaret t folds tabstop mode width down count k)

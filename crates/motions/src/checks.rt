@@ -58,6 +58,11 @@ pub(crate) fn checks(e: Entry, folds: &[u32], tabstop: u32, m: Move) -> u32
             width: _,
             down: _,
         } => { or_stop(or_folds(e, folds), tabstop) }
+        Move::ScreenKept {
+            mode: _,
+            width: _,
+            down: _,
+        } => { or_stop(or_folds(e, folds), tabstop) }
         Move::Viewport {
             edge: _,
             top: _,

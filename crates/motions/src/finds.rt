@@ -28,7 +28,7 @@ impl Caret {
         };
         match brackets::matching::match_bracket_from(t, l, self.col as usize) {
             Partner::There(q) => Sought::Found(self.placed(q.row, q.col)),
-            Partner::None => Sought::Missing(self),
+            Partner::None => Sought::Missing(self.cleared()),
             Partner::Refused(f) => Sought::Refused(f),
         }
     }
@@ -55,7 +55,7 @@ impl Caret {
         let col = self.col as usize;
         match row_search::find_on_row(row, col, x, forward, till, skip) {
             Found::At(i) => Sought::Found(self.placed(self.row as usize, i)),
-            Found::Nothing => Sought::Missing(self),
+            Found::Nothing => Sought::Missing(self.cleared()),
         }
     }
 

@@ -17,7 +17,7 @@ ghost use Rattle.motions.specs.Going.{walks, goes, movedBy};
 ghost use Rattle.motions.specs.Going.{landed as Going·landed};
 
 impl Sought {
-    // The caret that a search leaves: where it found what it sought, or as it was.
+    // The caret that a search leaves: where it found what it sought, or where it was.
     pub fn landed(self) -> Moved
         ensures { λ r. ⌜ r ≡ Going·landed self ⌝ }
     {
@@ -70,6 +70,9 @@ impl Caret {
             Move::Screen { mode, width, down } => {
                 Sought::Found(self.to_row(t, folds, tabstop, e, mode, width, down, count))
             }
+            Move::ScreenKept { mode, width, down } => {
+                Sought::Found(self.to_row_kept(t, folds, tabstop, e, mode, width, down, count))
+            }
             Move::Viewport {
                 edge,
                 top,
@@ -108,7 +111,7 @@ impl Caret {
         self.walk(t, folds, list, tabstop, e, m, count)
     }
 
-    // The caret after any motion: a search that finds nothing leaves it as it was.
+    // The caret after any motion: a search that finds nothing leaves it where it was.
     pub fn moved_by(
         self,
         t: &[u32],

@@ -4,6 +4,7 @@
 // where a call is refused. Every motion is a `Move`, and goes by `Caret::go`.
 use positions::Entry;
 use row_wrap::Wrap;
+use screen::Offset;
 use text::Position;
 use text_moves::Way;
 use vertical::Edge;
@@ -11,7 +12,8 @@ use vertical::Sticky;
 use word_rounds::Motion;
 ghost use mathlib.Core.Path.{_≡_};
 ghost use Prim.Native.Nat.{_<_, _^_};
-ghost use Rattle.motions.specs.Carets.{caretAt, placed, entryOf};
+ghost use Rattle.motions.specs.Carets.{caretWith, caretAt, placed, entryOf};
+ghost use Rattle.motions.specs.Carets.{cleared as Carets·cleared};
 
 mod checks;
 mod finds;
@@ -22,11 +24,14 @@ mod viewport_moves;
 mod within;
 mod word_moves;
 
-// A row, a column in it, which may be the row's character count, and the sticky column.
+// A row, a column in it, which may be the row's character count, the sticky column, and the offset
+// within a segment that the screen moves which remember keep. Every other motion that is not refused
+// leaves no offset, moved or not.
 pub struct Caret {
     pub row: u32,
     pub col: u32,
     pub sticky: Sticky,
+    pub offset: Offset,
 }
 
 // Where a motion has led to, or the number that the call is refused with.
@@ -35,15 +40,16 @@ pub enum Moved {
     Refused(u32),
 }
 
-// What a search answers: found, and the caret then; missing, and the caret as it was; or the number
-// that the call is refused with. The Rust's true and false are found and missing.
+// What a search answers: found, and the caret then; missing, and the caret where it was; or the
+// number that the call is refused with. The Rust's true and false are found and missing.
 pub enum Sought {
     Found(Caret),
     Missing(Caret),
     Refused(u32),
 }
 
-// Every motion of motions.rs, with what it takes beside text, caret and count.
+// Every motion of motions.rs, and the screen moves that remember, with what each takes beside text,
+// caret and count.
 pub enum Move {
     // On the text alone.
     By(Way),
@@ -59,6 +65,12 @@ pub enum Move {
         down: bool,
     },
     Screen {
+        mode: Wrap,
+        width: u16,
+        down: bool,
+    },
+    // By segments with the caret's offset, which is kept.
+    ScreenKept {
         mode: Wrap,
         width: u16,
         down: bool,
@@ -80,19 +92,35 @@ pub enum Move {
     },
 }
 
-// Every caret that a motion answers with is made here.
+// Every caret that a motion answers with is made here, but for those of the screen moves that
+// remember.
 pub(crate) fn caret_at(row: usize, col: usize, sticky: Sticky) -> Caret
     requires { ⌜ (row < 2 ^ 32) × (col < 2 ^ 32) ⌝ }
     ensures { λ r. ⌜ r ≡ caretAt row col sticky ⌝ }
 {
-    Caret {
-        row: row as u32,
-        col: col as u32,
-        sticky: sticky,
-    }
+    Caret::at(row as u32, col as u32, sticky)
 }
 
 impl Caret {
+    // A caret by its parts.
+    pub fn with(row: u32, col: u32, sticky: Sticky, offset: Offset) -> Caret
+        ensures { λ r. ⌜ r ≡ caretWith row col sticky offset ⌝ }
+    {
+        Caret {
+            row: row,
+            col: col,
+            sticky: sticky,
+            offset: offset,
+        }
+    }
+
+    // A caret that keeps no offset within a segment.
+    pub fn at(row: u32, col: u32, sticky: Sticky) -> Caret
+        ensures { λ r. ⌜ r ≡ caretAt row col sticky ⌝ }
+    {
+        Caret::with(row, col, sticky, Offset::Absent)
+    }
+
     // The checks that every motion begins with: the text (1, 2, 3), then the caret (4).
     pub fn enter(self, t: &[u32]) -> Entry
         ensures { λ r. ⌜ r ≡ entryOf (now (t .entry)) self ⌝ }
@@ -111,5 +139,13 @@ impl Caret {
     {
         let s = self.sticky;
         caret_at(row, col, s)
+    }
+
+    // The caret where a search that finds nothing leaves it.
+    pub(crate) fn cleared(self) -> Caret
+        ensures { λ r. ⌜ r ≡ Carets·cleared self ⌝ }
+    {
+        let s = self.sticky;
+        Caret::at(self.row, self.col, s)
     }
 }

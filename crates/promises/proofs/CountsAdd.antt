@@ -16,19 +16,21 @@ use Rattle.word_rounds.proofs.Adding.{word-counts-add}
 use Rattle.visible_rows.specs.Visible.{deltaOf}
 use Rattle.vertical.specs.Moves.{moveVertical}
 use Rattle.vertical.proofs.Adding.{vertical-adds}
+use Rattle.row_wrap.specs.declared.Wrap.{Wrap}
+use Rattle.screen.proofs.Keeping.{kept-adds}
 use Rattle.positions.proofs.Lowest.{lowest-none}
 use Rattle.text_moves.specs.declared.Way.{Way}
 use Rattle.text_moves.specs.declared.Way.the-variants as way
 use Rattle.text_moves.specs.Ways.{gone}
 use Rattle.text_moves.proofs.Adding as Ways
 use Rattle.motions.specs.declared.Caret.{Caret}
-use Rattle.motions.specs.declared.Move.the-variants.{By, Word, Rows, Screen, Viewport, Bracket, Find}
+use Rattle.motions.specs.declared.Move.the-variants.{By, Word, Rows, Screen, ScreenKept, Viewport, Bracket, Find}
 use Rattle.motions.specs.Carets.{here, caretRefusal, refusalOf, moving, put}
 use Rattle.motions.specs.WordMoves.{foldsOf, wordRefusal, wordCaret, atPlace, moveWord}
-use Rattle.motions.specs.UpDown.{stopRefusal, verticalRefusal, atTarget, moveRows}
+use Rattle.motions.specs.UpDown.{stopRefusal, verticalRefusal, atTarget, moveRows, atKept, keptCaret, moveScreenRowsKept}
 use Rattle.motions.proofs.Landing.{way-lands}
 use Rattle.motions.proofs.WordLanding.{word-lands}
-use Rattle.motions.proofs.Reaching.{rows-lands}
+use Rattle.motions.proofs.Reaching.{rows-lands, kept-lands}
 use Rattle.promises.specs.Adding.{WayAdds}
 use Rattle.promises.specs.CountsAdd.{Sums, CountsAdd}
 use Rattle.promises.proofs.Sums.{moving-yes, moving-sums, taken}
@@ -93,11 +95,24 @@ module _ (t folds list : List ℕ) (tabstop m n : ℕ) (h : 0 < m) (l : 0 < n) (
         ap atTarget (vertical-adds widthOf t folds tabstop down m n (k .row) (k .col) (k .sticky) h l),
       ))
 
+  kept-sums : (mode : Wrap) (width : ℕ) (down : Bool) →
+      Sums (moveScreenRowsKept t folds tabstop mode width down m k) (λ c. moveScreenRowsKept t folds tabstop mode width down n c)
+      (moveScreenRowsKept t folds tabstop mode width down (m + n) k)
+  kept-sums mode width down =
+      let refusal = verticalRefusal t folds tabstop in
+      let first = keptCaret t folds tabstop mode width down m k in
+      moving-sums (refusal k) first (keptCaret t folds tabstop mode width down (m + n) k) refusal (keptCaret t folds tabstop mode width down n) (λ z. (
+        taken t k first (foldRefusal folds (rowCount t) ∷ stopRefusal tabstop ∷ []) z
+            (kept-lands t folds tabstop k mode width down m first (moving-yes (refusal k) first z)),
+        ap atKept (kept-adds widthOf t folds tabstop mode width down m n (k .row) (k .col) (k .sticky) (k .offset) h l),
+      ))
+
 pub counts-add : CountsAdd
 counts-add t folds list tabstop (By w) a m n h l s k = way-sums t folds list tabstop m n h l k w a
 counts-add t folds list tabstop (Word motion big stop) a m n h l s k = word-sums t folds list tabstop m n h l k (foldsOf motion folds) big motion stop
 counts-add t folds list tabstop (Rows down) a m n h l s k = rows-sums t folds list tabstop m n h l k down
 counts-add t folds list tabstop (Screen mode width down) a m n h l s k = absurd a
+counts-add t folds list tabstop (ScreenKept mode width down) a m n h l s k = kept-sums t folds list tabstop m n h l k mode width down
 counts-add t folds list tabstop (Viewport edge top height offset) a m n h l s k = absurd a
 counts-add t folds list tabstop Bracket a m n h l s k = absurd a
 counts-add t folds list tabstop (Find x forward till skip) a m n h l s k = absurd a

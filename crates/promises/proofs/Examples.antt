@@ -48,7 +48,7 @@ use Rattle.steps.specs.Steps.{spaceFwd, backspaceBack}
 use Rattle.motions.specs.Carets.{moving}
 use Rattle.margins.specs.Margins.{indentOf, solidOf}
 use Rattle.motions.specs.Finds.{partnerTo, seeking, landsOn}
-use Rattle.call_texts.specs.Carets.{moved}
+use Rattle.call_texts.specs.Carets.{moved, movedSix}
 use Rattle.call_rows.specs.Characters.{fact}
 use Rattle.call_rows.specs.Lists.{tokenCount, byTable, inTable, keyword}
 use Rattle.call_texts.specs.Asks.{moveAs, seekAs}
@@ -60,6 +60,7 @@ use Rattle.call_rows.specs.Tabs.{toldColumn, tabColumn}
 use Rattle.call_folds.specs.Terms.{wordOf, word}
 use Rattle.call_texts.specs.Viewports.{edgeOf, viewport}
 use Rattle.call_folds.specs.Upright.{uprightOf, upright, vertical}
+use Rattle.call_folds.specs.Kept.{keptOf, remembered, screenKept}
 use Rattle.call_rows.specs.Wraps.{toldSegment, toldSegments, offset, modeOf, segmented, segmentsLeft}
 use Rattle.promises.specs.Table.{table, given, asked, Examples}
 use Rattle.promises.specs.Calls.{calls, judged, good}
@@ -90,6 +91,6 @@ unfolding calls
     nextWordStart prevWordStart nextWordEnd prevWordEnd atWordEnd roundOf counted wordMotion
     positionRefusal lowest moving indentOf solidOf spaceFwd backspaceBack partnerTo seeking landsOn orSought
     fact moved tokenCount byTable inTable keyword moveAs seekAs wayOf motion partnered sought seekOf seek toldColumn tabColumn wordOf word
-    uprightOf upright vertical edgeOf viewport
+    uprightOf upright vertical keptOf remembered screenKept movedSix edgeOf viewport
     toldSegment toldSegments offset modeOf segmented segmentsLeft
 right-alone = refl

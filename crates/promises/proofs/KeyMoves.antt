@@ -17,7 +17,7 @@ use Rattle.text.specs.declared.Position.{Position}
 use Rattle.positions.proofs.Lowest.{lowest-none}
 use Rattle.motions.specs.declared.Caret.{Caret}
 use Rattle.motions.specs.declared.Sought.the-variants.{Found, Missing, Refused}
-use Rattle.motions.specs.Carets.{here, caretRefusal, refusalOf, placed}
+use Rattle.motions.specs.Carets.{here, caretRefusal, refusalOf, placed, cleared}
 use Rattle.motions.specs.Finds.{matchBracket, seeking, partnerTo}
 use Rattle.promises.specs.KeyMoves.{OnPartner, AsItWas, RefusedWith, Key}
 
@@ -46,7 +46,7 @@ goesTo t k = keyFrom t (k .row) (k .col)
 -- the answer by its cases
 data Answer (t : List ℕ) (k : Caret) : Type 0 where
   there : refusalOf t k ≡ 0 → (q : Position) → goesTo t k ≡ There q → matchBracket t k ≡ Found (placed k (q .row) (q .col)) → Answer t k
-  none : refusalOf t k ≡ 0 → goesTo t k ≡ None → matchBracket t k ≡ Missing k → Answer t k
+  none : refusalOf t k ≡ 0 → goesTo t k ≡ None → matchBracket t k ≡ Missing (cleared k) → Answer t k
   number : (refusalOf t k ≡ 0 → ⊥) → matchBracket t k ≡ Refused (refusalOf t k) → Answer t k
 
 module _ (t : List ℕ) (k : Caret) where
@@ -83,7 +83,7 @@ module _ (t : List ℕ) (k : Caret) where
       on : Answer t k → OnPartner t k k′
       on (there z q f g) =
           let to : OnPartner t k (placed k (q .row) (q .col)) =
-          record { accepted = z; partner = goes z .lands (k .row) (k .col) q f; sticky-kept = refl } in
+          record { accepted = z; partner = goes z .lands (k .row) (k .col) q f; sticky-kept = refl; offset-cleared = refl } in
           subst (OnPartner t k) (found-once (sym g ∙ e)) to
       on (none z f g) = absurd (found-missing (sym e ∙ g))
       on (number n g) = absurd (found-refused (sym e ∙ g))
@@ -95,7 +95,7 @@ module _ (t : List ℕ) (k : Caret) where
   unfolding partnerTo
   lands-only k′ a =
       accepted-is (a .accepted) ∙ ap (partnerTo k) (goes-to k′ a) ∙
-      (λ i. Found (record { row = k′ .row; col = k′ .col; sticky = sym (a .sticky-kept) i }))
+      (λ i. Found (record { row = k′ .row; col = k′ .col; sticky = sym (a .sticky-kept) i; offset = sym (a .offset-cleared) i }))
 
   moves : (k′ : Caret) → matchBracket t k ≡ Found k′ → here k′ ≡ here k → ⊥
   moves k′ e h =

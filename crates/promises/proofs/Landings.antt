@@ -4,20 +4,22 @@ use mathlib.Core.List.{List, []}
 use mathlib.Core.Bool.{Bool, true, false, cond}
 use Prim.Native.Nat.{ℕ}
 use native.Mathlib.Omega.{arith}
-use lib.Dec.{eqb}
+use lib.Dec.{eqb, leb}
 use Rattle.text_moves.specs.declared.Way.{Way}
 use Rattle.text_moves.specs.declared.Way.the-variants as way
 use Rattle.motions.specs.declared.Caret.{Caret}
 use Rattle.motions.specs.declared.Move.the-variants.{By}
 use Rattle.motions.specs.declared.Moved.the-variants.{Refused}
 use Rattle.motions.proofs.Landing.{Lands, way-lands}
-use Rattle.motions.proofs.Reaching.{viewport-lands}
+use Rattle.motions.proofs.Reaching.{kept-lands, viewport-lands}
 use Rattle.vertical.specs.declared.Edge.the-variants.{Top, Middle, Bottom}
 use Rattle.call_texts.specs.declared.Asked.{Asked}
 use Rattle.call_texts.specs.declared.Asked.the-variants.{For}
 use Rattle.call_texts.specs.Asks.{moveAs}
 use Rattle.call_texts.specs.Moves.{wayOf, motion}
 use Rattle.call_texts.specs.Viewports.{edgeOf, viewport}
+use Rattle.call_rows.specs.Wraps.{modeOf}
+use Rattle.call_folds.specs.Kept.{keptOf, remembered, screenKept}
 
 -- one of two answers
 pub either : {A : Type 0} (P : A → Type 0) (b : Bool) (x y : A) → P x → P y → P (cond b x y)
@@ -63,3 +65,12 @@ module _ (t : List ℕ) where
       either P (eqb op 0) _ _ (viewport-lands t k Top top 0 offset)
       (either P (eqb op 1) _ _ (viewport-lands t k Middle top height 0)
       (either P (eqb op 2) _ _ (viewport-lands t k Bottom top height offset) (none-lands 100)))
+
+  pub kept-numbers-land : (op mode width n tabstop : ℕ) (folds : List ℕ) (k : Caret) → Lands t (screenKept op mode width n tabstop k t folds)
+  unfolding screenKept remembered keptOf moveAs
+  kept-numbers-land op mode width n tabstop folds k =
+      let P : Asked → Type 0 = λ a. Lands t (moveAs a n k t folds [] tabstop) in
+      either (Lands t) (leb mode 2) _ _
+      (either P (eqb op 0) _ _ (kept-lands t folds tabstop k (modeOf mode) width false n)
+      (either P (eqb op 1) _ _ (kept-lands t folds tabstop k (modeOf mode) width true n) (none-lands 100)))
+      (none-lands 100)

@@ -15,3 +15,4 @@ pub mod Sums
 pub mod CountsAdd
 pub mod Methods
 pub mod Apart
+pub mod Remembering

@@ -26,4 +26,6 @@ methods t folds list tabstop n k big stop =
       word-end-back = refl;
       up = refl;
       down = refl;
+      screen-up-kept = λ mode width. refl;
+      screen-down-kept = λ mode width. refl;
     }

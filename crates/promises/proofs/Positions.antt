@@ -13,11 +13,13 @@ use Rattle.call_texts.specs.Seeks.{seek}
 use Rattle.call_texts.specs.Viewports.{viewport}
 use Rattle.call_folds.specs.Terms.{word}
 use Rattle.call_folds.specs.Upright.{vertical}
-use Rattle.promises.specs.Positions.{plain, by-word, upright, edge, search, partner, inSought, inPartner, positions}
+use Rattle.call_folds.specs.Kept.{screenKept}
+use Rattle.promises.specs.Positions.{plain, by-word, upright, edge, search, partner, standing, inSought, inPartner, positions}
+use Rattle.promises.specs.Positions.{kept as remembers}
 use Rattle.promises.specs.Writes.{byRow, plainWrites, termWrites, uprightWrites, written, ends, lastOf, EveryPositionInside}
-use Rattle.promises.proofs.Landings.{edge-lands}
+use Rattle.promises.proofs.Landings.{edge-lands, kept-numbers-land}
 use Rattle.promises.proofs.Searches.{seek-sits, pair-sits}
-use Rattle.promises.proofs.Writing.{kept, by-row, plain-keeps, term-keeps}
+use Rattle.promises.proofs.Writing.{kept, once, by-row, plain-keeps, term-keeps}
 use Rattle.promises.proofs.Uprights.{vertical-keeps}
 
 -- an answer with one position at most
@@ -44,6 +46,10 @@ every-inside (by-word op big n folds list) k t =
 every-inside (upright op mode width n tabstop folds) k t =
     let w = kept t (vertical op mode width n tabstop k t folds) (uprightWrites op (modeOf mode) width n k t folds)
     (vertical-keeps t k n folds tabstop op mode width) in
+    record { inside = w .0; last = w .1 }
+every-inside (remembers op mode width n tabstop folds) k t =
+    let w = kept t (screenKept op mode width n tabstop k t folds) standing
+    (record { fits = λ c e. once t c (kept-numbers-land t op mode width n tabstop folds k c e) }) in
     record { inside = w .0; last = w .1 }
 every-inside (edge op top height offset) k t =
     let w = kept t (viewport op top height offset k t) byRow

@@ -30,7 +30,7 @@ use Rattle.motions.specs.declared.Caret.{Caret}
 use Rattle.motions.specs.declared.Moved.the-variants.{To}
 use Rattle.motions.specs.declared.Sought.{Sought}
 use Rattle.motions.specs.declared.Sought.the-variants.{Found, Missing, Refused as Sought·Refused}
-use Rattle.motions.specs.Carets.{here, Inside, refusalOf}
+use Rattle.motions.specs.Carets.{here, Inside, refusalOf, cleared}
 use Rattle.motions.specs.Finds.{matchBracket, findCharOnLine, seeking, landsOn}
 use Rattle.call_texts.specs.declared.Asked.{Asked}
 use Rattle.call_texts.specs.Asks.{seekAs}
@@ -67,7 +67,7 @@ module _ (t : List ℕ) where
             (record { in-row = p .in-row; in-col = omega (arith, p .in-col) }, tt)
         go (Missing c) e =
             let a = key t k .missing c e in
-            subst (λ (x : Caret). Sits (Missing x)) (sym (a .same)) (stands k (inside t (here k) (a .accepted)))
+            subst (λ (x : Caret). Sits (Missing x)) (sym (a .same)) (stands (cleared k) (inside t (here k) (a .accepted)))
         go (Sought·Refused f) e = tt
 
     -- at a column of the row, or where the caret was

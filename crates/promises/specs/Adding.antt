@@ -1,11 +1,11 @@
--- The moves whose counts add, document 02's #109, and the move and the caret of the second call. Cited by `specs/CountsAdd.antt`. Definitions only. Assumes nothing.
+-- The moves whose counts add, document 02's #109 and #110, and the move and the caret of the second call. Cited by `specs/CountsAdd.antt`. Definitions only. Assumes nothing.
 use mathlib.Core.Bool.{false}
 use Rattle.vertical.specs.declared.Sticky.the-variants.{Absent}
 use Rattle.text_moves.specs.declared.Way.{Way}
 use Rattle.text_moves.specs.declared.Way.the-variants as way
 use Rattle.motions.specs.declared.Caret.{Caret}
 use Rattle.motions.specs.declared.Move.{Move}
-use Rattle.motions.specs.declared.Move.the-variants.{By, Word, Rows, Screen, Viewport, Bracket, Find}
+use Rattle.motions.specs.declared.Move.the-variants.{By, Word, Rows, Screen, ScreenKept, Viewport, Bracket, Find}
 use Rattle.motions.specs.Carets.{caretAt}
 
 -- the ways that are named; of the others nothing is said
@@ -32,12 +32,13 @@ WayAdds way.ThisLine = ⊥
 WayAdds way.Top = ⊥
 WayAdds way.Bottom = ⊥
 
--- the moves: those ways, the word motions, small and big, up and down
+-- the moves: those ways, the word motions, small and big, up and down, and the screen moves that remember
 abbrev pub Adds : Move → Type 0
 Adds (By w) = WayAdds w
 Adds (Word m big stop) = Unit
 Adds (Rows down) = Unit
 Adds (Screen mode width down) = ⊥
+Adds (ScreenKept mode width down) = Unit
 Adds (Viewport edge top height offset) = ⊥
 Adds Bracket = ⊥
 Adds (Find x forward till skip) = ⊥
@@ -48,11 +49,12 @@ goingOn (By w) = By w
 goingOn (Word m big stop) = Word m big false
 goingOn (Rows down) = Rows down
 goingOn (Screen mode width down) = Screen mode width down
+goingOn (ScreenKept mode width down) = ScreenKept mode width down
 goingOn (Viewport edge top height offset) = Viewport edge top height offset
 goingOn Bracket = Bracket
 goingOn (Find x forward till skip) = Find x forward till skip
 
--- the caret of the second call: the one that the first returned, as it is; and without its sticky column, for examples
+-- the caret of the second call: the one that the first returned, as it is; and without its sticky column and offset, for examples
 abbrev pub whole : Caret → Caret
 whole k = k
 

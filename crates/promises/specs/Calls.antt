@@ -6,7 +6,7 @@ use mathlib.Core.List.{List, [], _∷_, _++_}
 use mathlib.Core.Bool.{Bool, true, false}
 use lib.Dec.{eqb}
 use Rattle.call_bytes.specs.Reply.{Reply, answer, refused, told}
-use Rattle.call_texts.specs.Carets.{caretOf}
+use Rattle.call_texts.specs.Carets.{caretOf, caretSix}
 use Rattle.call_rows.specs.Characters.{fact}
 use Rattle.call_rows.specs.Lists.{keywords}
 use Rattle.call_texts.specs.Moves.{motions}
@@ -15,6 +15,7 @@ use Rattle.call_rows.specs.Tabs.{tabColumns}
 use Rattle.call_folds.specs.Terms.{words}
 use Rattle.call_texts.specs.Viewports.{viewports}
 use Rattle.call_folds.specs.Upright.{verticals}
+use Rattle.call_folds.specs.Kept.{screensKept}
 use Rattle.call_rows.specs.Wraps.{offsets, segmentOf}
 use Rattle.call_utf8.specs.Utf8.{decodes, encodes}
 use Rattle.utf8.specs.Encoding.{utf8}
@@ -77,6 +78,13 @@ word op t r c = words op false 1 (caretOf r c 0 0) (codes t) [] (codes "@,48-57,
 abbrev pub upright : ℕ → ℕ → String → ℕ → ℕ → Reply
 upright op width t r c = verticals op 1 width 1 8 (caretOf r c 0 0) (codes t) []
 
+-- the screen moves that remember, from a caret with a sticky column and an offset or none (kept 0); mode 1 Char, 2 Word
+abbrev pub remembering : ℕ → ℕ → ℕ → List ℕ → String → ℕ → ℕ → ℕ → ℕ → Reply
+remembering op mode width folds t r c kept offset = screensKept op mode width 1 8 (caretSix r c 1 9 kept offset) (codes t) folds
+
+abbrev pub caretKept : ℕ → ℕ → ℕ → ℕ → Reply
+caretKept r c kept offset = answer (r ∷ c ∷ 1 ∷ 9 ∷ kept ∷ offset ∷ [])
+
 abbrev pub viewport : ℕ → ℕ → ℕ → Reply
 viewport op top height = viewports op top height 0 (caretOf 0 0 0 0) (codes "a\nb\nc")
 
@@ -133,6 +141,10 @@ calls =
     case "move_down" (upright 1 0 "a\n" 0 0) (caretTo 1 0 0) (caretTo 0 0 0) (caret 1 0) ∷
     case "move_screen_up" (upright 2 2 "abcd" 0 3) (caretTo 0 1 3) (caretTo 0 3 3) (caretTo 0 0 3) ∷
     case "move_screen_down" (upright 3 2 "abcd" 0 1) (caretTo 0 3 1) (caretTo 0 2 1) (caret 0 3) ∷
+    case "move_screen_up_kept" (remembering 0 1 2 [] "abcd" 0 4 0 0) (caretKept 0 1 1 2) (caretKept 0 1 1 1) (caretKept 0 1 0 0) ∷
+    case "move_screen_down_kept" (remembering 1 2 2 [] "aa aa" 0 2 1 1) (caretKept 0 4 1 1) (caretKept 0 3 1 1) (caretKept 0 3 1 0) ∷
+    case "move_screen_down_kept" (remembering 1 1 1 (1 ∷ 2 ∷ 1 ∷ []) "\n\na" 0 0 1 0) (caretKept 1 0 1 0) (caretKept 2 0 1 0) (caretKept 0 0 1 0) ∷
+    case "move_screen_down_kept" (remembering 1 0 2 [] "a" 0 0 1 5) (caretKept 0 0 0 0) (caretKept 0 0 1 5) (caretKept 0 0 1 0) ∷
     case "move_viewport_top" (viewport 0 1 2) (caret 1 0) (caret 0 0) (caret 2 0) ∷
     case "move_viewport_middle" (viewport 1 0 3) (caret 1 0) (caret 0 0) (caret 2 0) ∷
     case "move_viewport_bottom" (viewport 2 0 2) (caret 1 0) (caret 0 0) (caret 2 0) ∷

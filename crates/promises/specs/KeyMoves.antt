@@ -4,9 +4,10 @@ use Prim.Native.Nat.{ℕ}
 use mathlib.Core.Path.{_≡_}
 use mathlib.Core.List.{List}
 use Rattle.bracket_laws.specs.Jump.{posAt, Lands, Stays}
+use Rattle.screen.specs.declared.Offset.the-variants.{Absent}
 use Rattle.motions.specs.declared.Caret.{Caret}
 use Rattle.motions.specs.declared.Sought.the-variants.{Found, Missing, Refused}
-use Rattle.motions.specs.Carets.{here, refusalOf}
+use Rattle.motions.specs.Carets.{here, refusalOf, cleared}
 use Rattle.motions.specs.Finds.{matchBracket}
 
 -- no check refuses the call, and k′ stands on the partner of the first round, square or curly bracket at or after k in its row
@@ -14,12 +15,13 @@ pub record OnPartner (t : List ℕ) (k k′ : Caret) : Type 0 where
   pub accepted : refusalOf t k ≡ 0
   pub partner : Lands t (k .row) (k .col) (posAt (k′ .row) (k′ .col))
   pub sticky-kept : k′ .sticky ≡ k .sticky
+  pub offset-cleared : k′ .offset ≡ Absent
 
--- no check refuses the call, there is no such bracket or the first has no partner, and the caret is as it was
+-- no check refuses the call, there is no such bracket or the first has no partner, and the caret is as it was, but for its offset
 pub record AsItWas (t : List ℕ) (k k′ : Caret) : Type 0 where
   pub accepted : refusalOf t k ≡ 0
   pub no-partner : Stays t (k .row) (k .col)
-  pub same : k′ ≡ k
+  pub same : k′ ≡ cleared k
 
 -- the number f that the call is refused with
 pub record RefusedWith (t : List ℕ) (k : Caret) (f : ℕ) : Type 0 where

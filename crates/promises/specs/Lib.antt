@@ -10,3 +10,4 @@ pub mod Adding
 pub mod CountsAdd
 pub mod Methods
 pub mod Apart
+pub mod Remembering

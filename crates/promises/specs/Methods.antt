@@ -4,11 +4,12 @@ use Prim.Native.Nat.{ℕ}
 use mathlib.Core.Path.{_≡_}
 use mathlib.Core.List.{List, []}
 use mathlib.Core.Bool.{Bool, true, false}
+use Rattle.row_wrap.specs.declared.Wrap.{Wrap}
 use Rattle.word_rounds.specs.declared.Motion.the-variants.{Fwd, Back, End, EndBack}
 use Rattle.text_moves.specs.declared.Way.the-variants as way
 use Rattle.motions.specs.declared.Caret.{Caret}
 use Rattle.motions.specs.declared.Move.{Move}
-use Rattle.motions.specs.declared.Move.the-variants.{By, Word, Rows}
+use Rattle.motions.specs.declared.Move.the-variants.{By, Word, Rows, ScreenKept}
 use Rattle.motions.specs.declared.Moved.{Moved}
 use Rattle.motions.specs.Going.{movedBy}
 use Rattle.motions.specs.Columns.{moveLeft, moveRightInLine, moveRightToEnd}
@@ -16,7 +17,7 @@ use Rattle.motions.specs.Steps.{moveSpaceFwd, moveBackspaceBack}
 use Rattle.motions.specs.Sections.{moveSectionBackward, moveSectionForward, moveSectionEndBackward, moveSectionEndForward}
 use Rattle.motions.specs.Lines.{moveFirstNonBlankNextLine, moveFirstNonBlankPrevLine}
 use Rattle.motions.specs.WordMoves.{moveWord}
-use Rattle.motions.specs.UpDown.{moveRows}
+use Rattle.motions.specs.UpDown.{moveRows, moveScreenRowsKept}
 
 -- an answer is that of a move
 abbrev pub Of : List ℕ → List ℕ → List ℕ → ℕ → ℕ → Caret → Move → Moved → Type 0
@@ -40,3 +41,7 @@ pub record Methods (t folds list : List ℕ) (tabstop n : ℕ) (k : Caret) (big 
   pub word-end-back : Of t folds list tabstop n k (Word EndBack big false) (moveWord t [] list big EndBack false n k)
   pub up : Of t folds list tabstop n k (Rows false) (moveRows t folds tabstop false n k)
   pub down : Of t folds list tabstop n k (Rows true) (moveRows t folds tabstop true n k)
+  pub screen-up-kept : (mode : Wrap) (width : ℕ) →
+      Of t folds list tabstop n k (ScreenKept mode width false) (moveScreenRowsKept t folds tabstop mode width false n k)
+  pub screen-down-kept : (mode : Wrap) (width : ℕ) →
+      Of t folds list tabstop n k (ScreenKept mode width true) (moveScreenRowsKept t folds tabstop mode width true n k)

@@ -22,12 +22,14 @@ use Rattle.call_texts.specs.Seeks.{seek}
 use Rattle.call_folds.specs.Terms.{word}
 use Rattle.call_texts.specs.Viewports.{viewport}
 use Rattle.call_folds.specs.Upright.{vertical}
+use Rattle.call_folds.specs.Kept.{screenKept}
 
 -- the calls by their argument lists, with all but the text and the caret
 pub data Call : Type 0 where
   plain : (op count : ℕ) → Call
   by-word : (op : ℕ) (big : Bool) (count : ℕ) (folds list : List ℕ) → Call
   upright : (op mode width count tabstop : ℕ) (folds : List ℕ) → Call
+  kept : (op mode width count tabstop : ℕ) (folds : List ℕ) → Call
   edge : (op top height offset : ℕ) → Call
   search : (op x : ℕ) → Call
   partner : Call
@@ -59,6 +61,7 @@ unfoldable pub positions : Call → Caret → List ℕ → List Position
 positions (plain op count) k t = inMoved (motion op count k t)
 positions (by-word op big count folds list) k t = inMoved (word op big count k t folds list)
 positions (upright op mode width count tabstop folds) k t = inMoved (vertical op mode width count tabstop k t folds)
+positions (kept op mode width count tabstop folds) k t = inMoved (screenKept op mode width count tabstop k t folds)
 positions (edge op top height offset) k t = inMoved (viewport op top height offset k t)
 positions (search op x) k t = inSought (seek op x k t)
 positions partner k t = inPartner (matchingBracketPos t (k .row) (k .col))

@@ -27,7 +27,8 @@ use Rattle.call_texts.specs.Seeks.{seek}
 use Rattle.call_texts.specs.Viewports.{viewport}
 use Rattle.call_folds.specs.Terms.{word}
 use Rattle.call_folds.specs.Upright.{vertical}
-use Rattle.promises.specs.Positions.{Call, plain, by-word, upright, edge, search, partner, standing, inSought, inPartner, inInner, positions, AllIn}
+use Rattle.call_folds.specs.Kept.{screenKept}
+use Rattle.promises.specs.Positions.{Call, plain, by-word, upright, kept, edge, search, partner, standing, inSought, inPartner, inInner, positions, AllIn}
 use Rattle.promises.specs.Trails.{trail, wordWrites, screenWrites}
 
 -- of a call that is not refused, by the caret that it answers with
@@ -68,12 +69,14 @@ uprightWrites op mode width n k t folds c =
     (cond (eqb op 1) (standing c)
     (cond (eqb op 2) (screenMoves mode width false n k t folds c) (screenMoves mode width true n k t folds c)))
 
--- what a call writes: all of it in the order of the writes, and nothing where it is refused. `matching_bracket_pos` writes nothing: what it answers
+-- what a call writes: all of it in the order of the writes, and nothing where it is refused. `matching_bracket_pos` writes nothing: what it answers.
+-- The screen moves that remember, which the Rust does not have, write once
 unfoldable pub written : Call → Caret → List ℕ → List Position
 written (plain op n) k t = writing (motion op n k t) (plainWrites op n k t)
 written (by-word op big n folds list) k t = writing (word op big n k t folds list) (λ c. termWrites op big n k t folds (kindOf (inList list) big))
 written (upright op mode width n tabstop folds) k t =
     writing (vertical op mode width n tabstop k t folds) (uprightWrites op (modeOf mode) width n k t folds)
+written (kept op mode width n tabstop folds) k t = writing (screenKept op mode width n tabstop k t folds) standing
 written (edge op top height offset) k t = writing (viewport op top height offset k t) byRow
 written (search op x) k t = inSought (seek op x k t)
 written partner k t = inPartner (matchingBracketPos t (k .row) (k .col))

@@ -12,7 +12,7 @@ use Rattle.bracket_inner.specs.declared.Inner.the-variants.{Pair, None as Inner
 use Rattle.call_bytes.specs.Reply.{left}
 use Rattle.call_texts.specs.Partners.{partnered}
 use Rattle.call_texts.specs.Inners.{surrounded}
-use Rattle.call_texts.specs.Carets.{moved}
+use Rattle.call_texts.specs.Carets.{moved, movedSix}
 use Rattle.call_texts.specs.Seeks.{sought}
 use Rattle.replay_verdicts.specs.Answers.{filler}
 
@@ -32,6 +32,11 @@ pub moved-sized : (m : Moved) → length (left (moved m) (replicate 4 filler)) �
 unfolding moved
 moved-sized (To k) = refl
 moved-sized (Moved·Refused f) = refl
+
+pub six-sized : (m : Moved) → length (left (movedSix m) (replicate 6 filler)) ≡ 6
+unfolding movedSix
+six-sized (To k) = refl
+six-sized (Moved·Refused f) = refl
 
 pub sought-sized : (s : Sought) → length (left (sought s) (replicate 5 filler)) ≡ 5
 unfolding sought

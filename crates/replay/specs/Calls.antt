@@ -2,8 +2,8 @@
 use Prim.Native.Nat.{ℕ}
 use mathlib.Core.List.{List, [], _∷_, _++_}
 use mathlib.Core.Bool.{cond, _&&_}
-use lib.ListN.{replicate}
-use lib.Dec.{leb}
+use lib.ListN.{length, getD, replicate}
+use lib.Dec.{eqb, leb}
 use Rattle.call_bytes.specs.Reply.{number, left, told}
 use Rattle.call_rows.specs.Characters.{fact}
 use Rattle.call_rows.specs.Lists.{keywords}
@@ -12,12 +12,13 @@ use Rattle.call_rows.specs.Wraps.{offsets, segmentOf, segmented, segmentsLeft}
 use Rattle.call_texts.specs.Rows.{rowCount}
 use Rattle.call_texts.specs.Partners.{partner}
 use Rattle.call_texts.specs.Inners.{inner}
-use Rattle.call_texts.specs.Carets.{caretOf}
+use Rattle.call_texts.specs.Carets.{caretOf, caretSix}
 use Rattle.call_texts.specs.Moves.{motions}
 use Rattle.call_texts.specs.Seeks.{seeks}
 use Rattle.call_folds.specs.Terms.{words, isBig}
 use Rattle.call_texts.specs.Viewports.{viewports}
 use Rattle.call_folds.specs.Upright.{verticals}
+use Rattle.call_folds.specs.Kept.{screensKept}
 use Rattle.motions.specs.declared.Caret.{Caret}
 use Rattle.replay_rows.specs.declared.Head.{Head}
 use Rattle.replay_verdicts.specs.declared.Verdict.{Verdict}
@@ -87,6 +88,13 @@ wordOf k text folds list = shown 4 (words (k .op) (isBig (k .f)) (k .e) (caret k
 unfoldable pub verticalVerdict : Head → List ℕ → List ℕ → List ℕ → Verdict
 verticalVerdict k text folds stored =
     cond (leb (k .h) 65535) (compared (shown 4 (verticals (k .op) (k .g) (k .h) (k .e) (k .f) (caret k) text folds)) stored) Malformed
+
+-- the screen moves that remember, likewise; `own` is whether an offset is kept, and that
+unfoldable pub keptVerdict : Head → List ℕ → List ℕ → List ℕ → List ℕ → Verdict
+keptVerdict k text folds own stored =
+    cond (leb (k .h) 65535 && eqb (length own) 2)
+    (compared (shown 6 (screensKept (k .op) (k .g) (k .h) (k .e) (k .f) (caretSix (k .a) (k .b) (k .c) (k .d) (getD own 0 0) (getD own 1 0)) text folds)) stored)
+    Malformed
 
 -- an edge of the viewport with offset e, top row f and a height g below 65536
 unfoldable pub viewportVerdict : Head → List ℕ → List ℕ → Verdict

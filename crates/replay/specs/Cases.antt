@@ -12,7 +12,7 @@ use Rattle.replay_rows.specs.Cases.{headOf, foldsAt, listAt, storedAt, part}
 use Rattle.replay_codings.specs.Codings.{decodeVerdict, encodeVerdict}
 use Rattle.replay_signs.specs.Signs.{enteredOf, plainVerdict}
 use Rattle.replay.specs.Calls.{characterOf, keywordsOf, columnsOf, offsetsOf, segmentForColOf, wrapVerdict}
-use Rattle.replay.specs.Calls.{contentRowCountOf, matchingBracketPosOf, innerPairOf, motionOf, seekOf, wordOf, verticalVerdict, viewportVerdict}
+use Rattle.replay.specs.Calls.{contentRowCountOf, matchingBracketPosOf, innerPairOf, motionOf, seekOf, wordOf, verticalVerdict, viewportVerdict, keptVerdict}
 
 -- the verdict by the group of calls
 unfoldable pub byGroup : ℕ → Head → List ℕ → List ℕ → List ℕ → List ℕ → Verdict
@@ -35,7 +35,8 @@ byGroup group k text folds list stored =
     (cond (eqb group 15) (encodeVerdict k text stored)
     (cond (eqb group 16) (compared (enteredOf k list) stored)
     (cond (eqb group 17) (plainVerdict k list stored)
-    Malformed)))))))))))))))))
+    (cond (eqb group 18) (keptVerdict k text folds list stored)
+    Malformed))))))))))))))))))
 
 -- the verdict of a case
 unfoldable pub verdictOf : List ℕ → Verdict

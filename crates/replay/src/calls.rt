@@ -11,7 +11,7 @@ ghost use Rattle.replay.specs.Calls.{characterOf, keywordsOf, columnsOf,
 ghost use Rattle.replay.specs.Calls.{segmentForColOf, wrappedIn, wrapVerdict};
 ghost use Rattle.replay.specs.Calls.{contentRowCountOf, matchingBracketPosOf, innerPairOf};
 ghost use Rattle.replay.specs.Calls.{motionOf, seekOf, wordOf};
-ghost use Rattle.replay.specs.Calls.{verticalVerdict, viewportVerdict};
+ghost use Rattle.replay.specs.Calls.{verticalVerdict, keptVerdict, viewportVerdict};
 
 pub fn character(k: Head, stored: &[u32]) -> Verdict
     ensures { λ r. ⌜ r ≡ Answers·compared (characterOf k) (now (stored .entry)) ⌝ }
@@ -162,6 +162,46 @@ pub fn vertical(k: Head, text: &[u32], folds: &[u32], stored: &[u32]) -> Verdict
         k.b,
         k.c,
         k.d,
+        k.g,
+        width as u16,
+        k.e,
+        k.f,
+        &mut out,
+    );
+    compared(n, &out, stored)
+}
+
+// The same with the offset within a segment: whether one is kept, and that.
+pub fn screen_kept(
+    k: Head,
+    text: &[u32],
+    folds: &[u32],
+    own: &[u32],
+    stored: &[u32],
+) -> Verdict
+    ensures { λ r. ⌜ r ≡ keptVerdict k (now (text .entry)) (now (folds .entry))
+        (now (own .entry)) (now (stored .entry)) ⌝ }
+{
+    let width = k.h;
+    if width > 65535 {
+        return Verdict::Malformed;
+    }
+    if own.len() != 2 {
+        return Verdict::Malformed;
+    }
+    let kept = own[0];
+    let offset = own[1];
+    let mut out = [FILLER; 6];
+    let n = call_folds::screen_kept(
+        k.op,
+        text,
+        folds,
+        k.a,
+        k.b,
+        k.c,
+        k.d,
+        kept,
+        offset,
         k.g,
         width as u16,
         k.e,

@@ -37,6 +37,7 @@ fn by_group(
         15 => replay_codings::utf8_encode(k, text, stored),
         16 => replay_signs::enter(k, list, stored),
         17 => replay_signs::without_plus(k, list, stored),
+        18 => calls::screen_kept(k, text, folds, list, stored),
         _ => Verdict::Malformed,
     }
 }

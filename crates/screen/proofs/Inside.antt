@@ -1,5 +1,5 @@
 -- From a place in the text every screen motion leads to a place in the text. Assumes nothing.
-use mathlib.Core.Path.{_≡_, refl}
+use mathlib.Core.Path.{_≡_, refl, subst}
 use mathlib.Core.List.{List}
 use mathlib.Core.Bool.{Bool, true, false, cond, _||_}
 use Prim.Native.Nat.{ℕ, _+_, _≤_, _<_, max}
@@ -18,6 +18,7 @@ use Rattle.folds.specs.declared.Visible.{Visible}
 use Rattle.folds.specs.declared.Visible.the-variants.{Row, NoRow}
 use Rattle.text.proofs.Content.{content-near}
 use Rattle.vertical.specs.declared.Sticky.{Sticky}
+use Rattle.vertical.specs.declared.Target.{Target}
 use Rattle.visible_rows.specs.Visible.{toward, deltaOf, shift}
 use Rattle.vertical.specs.Moves.{moveVertical}
 use Rattle.visible_rows.proofs.Visible.{toward-within}
@@ -26,8 +27,12 @@ use Rattle.vertical.proofs.Inside.{Inside, rows-inside}
 use Rattle.text.specs.declared.Position.{Position}
 use Rattle.screen_segments.specs.Parts.{segmentCount, aheadOf}
 use Rattle.screen.specs.Screen.{seatOf, onSegment, entered, stepScreen, jumpedTo, outOf, jumped}
-use Rattle.screen.specs.Screen.{screenFrom, screenTarget, moveScreen}
+use Rattle.screen.specs.Screen.{moveScreen}
+use Rattle.screen.specs.declared.Offset.{Offset}
+use Rattle.screen.specs.declared.Offset.the-variants.{Absent, At}
+use Rattle.screen.specs.Keeping.{startsAt, unkept, screenKept, moveScreenKept}
 use Rattle.screen.proofs.Spans.{end-within}
+use Rattle.screen.proofs.Keeping.{absent-target}
 
 -- `gj` and `gk`, whatever the way that rows are broken
 module _ (t folds : List ℕ) (lay : List ℕ → List ℕ) (down : Bool) where
@@ -48,9 +53,6 @@ module _ (t folds : List ℕ) (lay : List ℕ → List ℕ) (down : Bool) where
       go true = segment-inside offset (p .row) (shift down (seatOf t lay p) 1) (i .in-row)
       go false = into (toward folds (rowCount t) down (p .row)) refl
 
-  pub screen-inside : (n : ℕ) (p : Position) → Inside t (p .row) (p .col) → Inside t (screenFrom t folds lay down n p .row) (screenFrom t folds lay down n p .col)
-  screen-inside n p i = rounds-keep (λ q. Inside t (q .row) (q .col)) _ (round-inside _) n p i
-
 pub jump-inside : (t folds : List ℕ) (down : Bool) (p : Position) → Inside t (p .row) (p .col) → Inside t (jumped t folds down p .row) (jumped t folds down p .col)
 jump-inside t folds down p i = go (closedFoldAt folds (rowCount t) (contentRows t) (p .row)) refl
   where
@@ -68,13 +70,25 @@ jump-inside t folds down p i = go (closedFoldAt folds (rowCount t) (contentRows 
         to row (end-within folds (rowCount t) (contentRows t) (omega (arith, near)) (omega (arith, near)) down (p .row) a b (i .in-row) e)
         (ℕ-discrete row (p .row))
 
--- a whole call
+-- a whole call, with an offset or without one
+pub kept-inside : (w : ℕ → ℕ) (t folds : List ℕ) (tabstop row col : ℕ) (sticky : Sticky) (offset : Offset) (mode : Wrap) (width : ℕ) (down : Bool) (count : ℕ) →
+    Inside t row col →
+    let p = moveScreenKept w t folds tabstop mode width down count row col sticky offset .target in Inside t (p .row) (p .col)
+kept-inside w t folds tabstop row col sticky offset mode width down count i = go (eqb width 0 || isNone mode)
+  where
+    starts : (o : Offset) → let q = startsAt t folds down o (record { row = row; col = col }) in Inside t (q .row) (q .col)
+    starts Absent = jump-inside t folds down (record { row = row; col = col }) i
+    starts (At x) = i
+
+    go : (b : Bool) → let p = cond b (unkept (moveVertical w t folds tabstop (deltaOf down count) row col sticky))
+        (screenKept w t folds tabstop (segmentsOf w isWhite mode width) down count row col sticky offset) .target in Inside t (p .row) (p .col)
+    go true = rows-inside w t folds tabstop row col sticky (deltaOf down count) i
+    go false = rounds-keep (λ q. Inside t (q .row) (q .col)) _ (round-inside t folds _ down _) (max count 1) _ (starts offset)
+
+-- and so of `gj` and `gk`
 pub move-inside : (w : ℕ → ℕ) (t folds : List ℕ) (tabstop row col : ℕ) (sticky : Sticky) (mode : Wrap) (width : ℕ) (down : Bool) (count : ℕ) →
     Inside t row col →
     let p = moveScreen w t folds tabstop mode width down count row col sticky in Inside t (p .row) (p .col)
-move-inside w t folds tabstop row col sticky mode width down count i = go (eqb width 0 || isNone mode)
-  where
-    go : (b : Bool) → let p = cond b (moveVertical w t folds tabstop (deltaOf down count) row col sticky)
-        (screenTarget w t folds tabstop (segmentsOf w isWhite mode width) down count row col sticky) in Inside t (p .row) (p .col)
-    go true = rows-inside w t folds tabstop row col sticky (deltaOf down count) i
-    go false = screen-inside t folds _ down (max count 1) _ (jump-inside t folds down (record { row = row; col = col }) i)
+move-inside w t folds tabstop row col sticky mode width down count i =
+    subst (λ (p : Target). Inside t (p .row) (p .col)) (absent-target w t folds tabstop mode width down count row col sticky)
+    (kept-inside w t folds tabstop row col sticky Absent mode width down count i)

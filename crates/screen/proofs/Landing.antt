@@ -2,9 +2,9 @@
 use mathlib.Core.Path.{_≡_, sym, ap, _∙_}
 use mathlib.Core.List.{List}
 use mathlib.Core.Bool.{Bool}
-use Prim.Native.Nat.{ℕ, _-_, _*_, _≤_, _<_, min}
+use Prim.Native.Nat.{ℕ, _-_, _≤_, _<_, min}
 use native.Mathlib.Omega.{arith}
-use lib.ListN.{length, getD}
+use lib.ListN.{length}
 use Rattle.row_cells.specs.Offsets.{segmentIndex}
 use Rattle.text.specs.Text.{rowCount, rowAt, rowLen}
 use Rattle.folds.specs.declared.Visible.the-variants.{Row, NoRow}
@@ -15,9 +15,11 @@ use Rattle.screen_segments.specs.Parts.{segmentCount, aheadOf, clampTo, modeOf,
 use Rattle.screen_segments.proofs.Seats.{Laid, laid, seat-last, seat-within, start-within}
 use Rattle.screen_segments.proofs.Finding.{few-segments}
 use Rattle.text.specs.declared.Position.{Position}
+use Rattle.screen.specs.declared.Offset.{Offset}
 use Rattle.screen.specs.declared.Seat.{Seat}
-use Rattle.screen.specs.Screen.{seatOf, stepScreen, screenFrom}
+use Rattle.screen.specs.Screen.{stepScreen}
 use Rattle.screen.specs.Walks.{placeAt, aheadAt, seatAt}
+use Rattle.screen.specs.Keeping.{orOwn, glided}
 use Rattle.screen.proofs.ScreenRounds.{ahead-within, ahead-in, same-on, same-off, stuck}
 
 module _ (w : ℕ → ℕ) (t : List ℕ) (word : Bool) (width : ℕ) (down : Bool) (r : ℕ) {line : List ℕ} (is : line ≡ rowAt t r) where
@@ -79,40 +81,41 @@ module _ (w : ℕ → ℕ) (t : List ℕ) (word : Bool) (width : ℕ) (down : Bo
         let z = q ∙ ap (λ (y : Part). col - y .start) seat-part in
         λ i. record { ahead = x i; offset = z i }
 
--- the rounds from a place are those from its spot, and where nothing lies ahead the place stays
-module _ (w : ℕ → ℕ) (t folds : List ℕ) (word : Bool) (width : ℕ) (down : Bool) (n : ℕ) (h : 0 < n) (p : Position) {s : Seat}
-    (e : s ≡ seatAt t (layOf w word width) down p) where
-  own-ahead : s .ahead ≡ aheadAt t (layOf w word width) down p
-  own-ahead = ap (λ (x : Seat). x .ahead) e
-
+-- the rounds from a place are those from its spot, whatever offset is kept, and where nothing lies ahead the place stays
+module _ (w : ℕ → ℕ) (t folds : List ℕ) (word : Bool) (width : ℕ) (down : Bool) (n : ℕ) (h : 0 < n) (p : Position) (offset : ℕ) {a : ℕ}
+    (e : a ≡ aheadAt t (layOf w word width) down p) where
   lays : (row : List ℕ) → Laid (length row) (layOf w word width row)
   lays row = laid w (modeOf word) width row
 
-  pub from-inside : s .ahead < segmentCount (layOf w word width (rowAt t (p .row)))
-  from-inside = rw own-ahead (ahead-in t folds (layOf w word width) down 0 lays p)
+  pub from-inside : a < segmentCount (layOf w word width (rowAt t (p .row)))
+  from-inside = rw e (ahead-in t folds (layOf w word width) down 0 lays p)
 
-  pub from-near : s .offset ≤ p .col
-  from-near = omega (arith, ap (λ (x : Seat). x .offset) e)
+  module _ {r : Position}
+      (g : r ≡ rounds (stepScreen t folds (layOf w word width) down offset) n (placeAt t (layOf w word width) down offset (p .row) a)) where
+    glides : r ≡ rounds (stepScreen t folds (layOf w word width) down offset) n
+        (placeAt t (layOf w word width) down offset (p .row) (aheadAt t (layOf w word width) down p))
+    glides =
+        g ∙ ap (λ (x : ℕ). rounds (stepScreen t folds (layOf w word width) down offset) n (placeAt t (layOf w word width) down offset (p .row) x)) e
 
-  kept : ℕ
-  kept = p .col - getD (layOf w word width (rowAt t (p .row))) (2 * seatOf t (layOf w word width) p) 0
+    pub from-on : 0 < a → r ≡ rounds (stepScreen t folds (layOf w word width) down offset) n p
+    from-on l = glides ∙ sym (same-on t folds (layOf w word width) down offset lays p n h (omega (arith, e)))
 
-  module _ {r : Position} (g : r ≡ rounds (stepScreen t folds (layOf w word width) down (s .offset)) n
-      (placeAt t (layOf w word width) down (s .offset) (p .row) (s .ahead))) where
-    glided : r ≡ rounds (stepScreen t folds (layOf w word width) down kept) n
-        (placeAt t (layOf w word width) down kept (p .row) (aheadAt t (layOf w word width) down p))
-    unfolding kept
-    glided =
-        g ∙ ap (λ (x : Seat). rounds (stepScreen t folds (layOf w word width) down (x .offset)) n
-        (placeAt t (layOf w word width) down (x .offset) (p .row) (x .ahead))) e
+    pub from-off : (x : ℕ) → a ≡ 0 → toward folds (rowCount t) down (p .row) ≡ Row x → r ≡ rounds (stepScreen t folds (layOf w word width) down offset) n p
+    from-off x z found = glides ∙ sym (same-off t folds (layOf w word width) down offset lays p n x h (sym e ∙ z) found)
 
-    pub from-on : 0 < s .ahead → r ≡ screenFrom t folds (layOf w word width) down n p
-    unfolding kept
-    from-on l = glided ∙ sym (same-on t folds (layOf w word width) down kept lays p n h (omega (arith, own-ahead)))
+  pub from-stuck : a ≡ 0 → toward folds (rowCount t) down (p .row) ≡ NoRow → p ≡ rounds (stepScreen t folds (layOf w word width) down offset) n p
+  from-stuck z none = sym (stuck t folds (layOf w word width) down offset n p (sym e ∙ z) none)
 
-    pub from-off : (x : ℕ) → s .ahead ≡ 0 → toward folds (rowCount t) down (p .row) ≡ Row x → r ≡ screenFrom t folds (layOf w word width) down n p
-    unfolding kept
-    from-off x z found = glided ∙ sym (same-off t folds (layOf w word width) down kept lays p n x h (sym own-ahead ∙ z) found)
+-- the seat of a place gives the segments ahead and its own offset
+module _ (t folds : List ℕ) (lay : List ℕ → List ℕ) (down : Bool) (p : Position) {s : Seat} (e : s ≡ seatAt t lay down p) where
+  pub seat-ahead : s .ahead ≡ aheadAt t lay down p
+  seat-ahead = ap (λ (x : Seat). x .ahead) e
 
-  pub from-stuck : s .ahead ≡ 0 → toward folds (rowCount t) down (p .row) ≡ NoRow → p ≡ screenFrom t folds (layOf w word width) down n p
-  from-stuck z none = sym (stuck t folds (layOf w word width) down _ n p (sym own-ahead ∙ z) none)
+  pub seat-near : s .offset ≤ p .col
+  seat-near = omega (arith, ap (λ (x : Seat). x .offset) e)
+
+  pub glided-made : (n : ℕ) (offset : Offset) {kept : ℕ} {q : Position} → kept ≡ orOwn offset (s .offset) →
+      q ≡ rounds (stepScreen t folds lay down kept) n p → record { place = q; offset = kept } ≡ glided t folds lay down n offset p
+  glided-made n offset {kept} {q} k g =
+      ap (λ (x : Position). record { place = x; offset = kept }) g ∙
+      ap (λ (x : ℕ). record { place = rounds (stepScreen t folds lay down x) n p; offset = x }) (k ∙ ap (λ (x : Seat). orOwn offset (x .offset)) e)

@@ -5,3 +5,4 @@ pub mod Landing
 pub mod Spans
 pub mod Inside
 pub mod Examples
+pub mod Keeping

@@ -18,7 +18,12 @@ use Rattle.text.proofs.Stands.{line-there}
 use Rattle.text.specs.declared.Position.{Position}
 use Rattle.vertical.specs.declared.Sticky.{Sticky}
 use Rattle.vertical.specs.Moves.{wantedCol}
-use Rattle.screen.specs.Screen.{jumpedTo, outOf, jumped, screenFrom, landedAt, screenTarget}
+use Rattle.screen.specs.declared.Glided.{Glided}
+use Rattle.screen.specs.declared.Kept.{Kept}
+use Rattle.screen.specs.declared.Offset.{Offset}
+use Rattle.screen.specs.declared.Offset.the-variants.{At}
+use Rattle.screen.specs.Screen.{jumpedTo, outOf, jumped, landedAt}
+use Rattle.screen.specs.Keeping.{startsAt, glided, screenKept}
 use Rattle.screen.specs.Walks.{JumpedTo}
 
 module _ (folds : List ℕ) (rows content : ℕ) (some : 0 < content) (most : content ≤ rows) where
@@ -70,13 +75,15 @@ module _ (t folds : List ℕ) (down : Bool) (p : Position) {rows content : ℕ} 
   pub jumped-not : s ≡ NoSpan → jumped t folds down p ≡ p
   jumped-not q = ap (outOf t down p) (sym read ∙ q)
 
--- the target, by what the calls find
+-- the target and the offset, by what the calls find
 pub target-made :
-    (w : ℕ → ℕ) (t folds : List ℕ) (tabstop : ℕ) (lay : List ℕ → List ℕ) (down : Bool) (count row col : ℕ) (sticky : Sticky) {want n : ℕ} {j p : Position} →
-    want ≡ wantedCol w t tabstop row col sticky → n ≡ max count 1 → j ≡ jumped t folds down (record { row = row; col = col }) →
-    p ≡ screenFrom t folds lay down n j →
-    landedAt want p ≡ screenTarget w t folds tabstop lay down count row col sticky
-target-made w t folds tabstop lay down count row col sticky {want} {n} {j} {p} a b c d =
-    ap (λ (x : ℕ). landedAt x p) a ∙
-    ap (landedAt (wantedCol w t tabstop row col sticky))
-    (d ∙ ap (λ (x : ℕ). screenFrom t folds lay down x j) b ∙ ap (screenFrom t folds lay down (max count 1)) c)
+    (w : ℕ → ℕ) (t folds : List ℕ) (tabstop : ℕ) (lay : List ℕ → List ℕ) (down : Bool) (count row col : ℕ) (sticky : Sticky) (offset : Offset)
+    {want n : ℕ} {j : Position} {g : Glided} →
+    want ≡ wantedCol w t tabstop row col sticky → n ≡ max count 1 → j ≡ startsAt t folds down offset (record { row = row; col = col }) →
+    g ≡ glided t folds lay down n offset j →
+    record { target = landedAt want (g .place); offset = At (g .offset) } ≡ screenKept w t folds tabstop lay down count row col sticky offset
+target-made w t folds tabstop lay down count row col sticky offset {want} {n} {j} {g} a b c d =
+    let kept : ℕ → Glided → Kept = λ x y. record { target = landedAt x (y .place); offset = At (y .offset) } in
+    ap (λ (x : ℕ). kept x g) a ∙
+    ap (kept (wantedCol w t tabstop row col sticky))
+    (d ∙ ap (λ (x : ℕ). glided t folds lay down x offset j) b ∙ ap (glided t folds lay down (max count 1) offset) c)

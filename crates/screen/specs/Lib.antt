@@ -1,2 +1,3 @@
 pub mod Screen
 pub mod Walks
+pub mod Keeping

@@ -1,6 +1,7 @@
 // Out of a closed fold, as `move_screen_vertical` of motions.rs does before its rounds: to the
 // fold's last row, or upwards to its first.
 use crate::Jump;
+use crate::Offset;
 use folds::Span;
 use text::Line;
 use text::least;
@@ -13,6 +14,7 @@ ghost use Rattle.text.specs.Offsets.{IsLine};
 ghost use Rattle.folds.specs.Folds.{foldRefusal};
 ghost use Rattle.screen.specs.Screen.{jumped, jumpedTo};
 ghost use Rattle.screen.specs.Walks.{JumpedTo};
+ghost use Rattle.screen.specs.Keeping.{startsAt};
 
 fn pick(down: bool, last: usize, first: usize) -> usize
     ensures { λ r. ⌜ r ≡ cond down last first ⌝ }
@@ -45,7 +47,7 @@ fn jump_to(t: &[u32], l: Line, col: usize, row: usize) -> Jump
 }
 
 // From a closed fold to its last row, or upwards to its first; elsewhere the place stays.
-pub fn jump(
+fn jump(
     t: &[u32],
     folds: &[u32],
     rows: usize,
@@ -63,6 +65,32 @@ pub fn jump(
     match folds::closed_fold_at(folds, rows, content, l.row) {
         Span::Of(first, last) => jump_to(t, l, col, pick(down, last, first)),
         Span::NoSpan => Jump {
+            row: l.row,
+            start: l.start,
+            col: col,
+        },
+    }
+}
+
+// Where the rounds begin: out of a closed fold while no offset is kept, and else the place itself.
+pub fn start(
+    t: &[u32],
+    folds: &[u32],
+    rows: usize,
+    content: usize,
+    down: bool,
+    l: Line,
+    col: usize,
+    offset: Offset,
+) -> Jump
+    requires { ⌜ (rows ≡ rowCount (now t)) × (foldRefusal (now folds) rows ≡ 0) × IsLine (now t) l ×
+        (col ≤ 1048576) × (content ≡ contentRows (now t)) ⌝ }
+    ensures { λ r. ⌜ JumpedTo (now (t .entry)) (startsAt (now (t .entry)) (now (folds .entry)) down
+        offset (record { row = l .row; col = col })) r ⌝ }
+{
+    match offset {
+        Offset::Absent => jump(t, folds, rows, content, down, l, col),
+        Offset::At(_) => Jump {
             row: l.row,
             start: l.start,
             col: col,

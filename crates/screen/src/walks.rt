@@ -1,6 +1,8 @@
 // `gj` and `gk` under wrap: the rounds of `move_screen_vertical` of motions.rs. A row is walked
 // once to count its segments and once to come to the one wanted, whatever the count; no room for
 // segments is needed.
+use crate::Glided;
+use crate::Offset;
 use crate::Seat;
 use crate::Spot;
 use folds::Visible;
@@ -16,8 +18,9 @@ ghost use Rattle.row_segment.specs.Lent.{Tables};
 ghost use Rattle.screen_segments.specs.Parts.{layOf};
 ghost use Rattle.text.specs.Offsets.{IsLine};
 ghost use Rattle.lists.specs.Rounds.{rounds};
-ghost use Rattle.screen.specs.Screen.{stepScreen, screenFrom};
-ghost use Rattle.screen.specs.Walks.{placeAt, seatAt, Ready, IsSpot, Leads};
+ghost use Rattle.screen.specs.Screen.{stepScreen};
+ghost use Rattle.screen.specs.Walks.{placeAt, aheadAt, seatAt, Ready, IsSpot, Leads};
+ghost use Rattle.screen.specs.Keeping.{orOwn, glided};
 
 // So many rounds from a spot: segments of its row, and then from row to visible row.
 fn walk(
@@ -88,7 +91,7 @@ fn land(
     offset: usize,
 ) -> Position
     requires { ⌜ Tables (now zeros) (now doubles) (now white) × (0 < width) ×
-        (length (now t) ≤ 1048576) × (offset ≤ 1048576) ⌝ }
+        (length (now t) ≤ 1048576) × (offset ≤ 4294967295) ⌝ }
     requires { ⌜ IsSpot (now t) (layOf (widthBy (now zeros) (now doubles)) word width) s ⌝ }
     ensures { λ r. ⌜ r ≡ placeAt (now (t .entry))
         (layOf (widthBy (now (zeros .entry)) (now (doubles .entry))) word width) down offset
@@ -125,7 +128,7 @@ fn glide(
     n: usize,
 ) -> Position
     requires { ⌜ Ready (now zeros) (now doubles) (now white) (now t) (now folds) rows width ×
-        (offset ≤ 1048576) ⌝ }
+        (offset ≤ 4294967295) ⌝ }
     requires { ⌜ IsSpot (now t) (layOf (widthBy (now zeros) (now doubles)) word width) from ⌝ }
     ensures { λ r. ⌜ r ≡ rounds
         (stepScreen (now (t .entry)) (now (folds .entry))
@@ -177,9 +180,9 @@ fn seat(
     }
 }
 
-// The rounds of a count from a place. Where no segment and no row lies ahead the place stays, even
-// behind the row's last character.
-pub fn screen_from(
+// The rounds of a count from a place with so many segments ahead, by the offset that they keep.
+// Where no segment and no row lies ahead the place stays, even behind the row's last character.
+fn rounds_from(
     zeros: &[u32],
     doubles: &[u32],
     white: &[u32],
@@ -191,22 +194,25 @@ pub fn screen_from(
     down: bool,
     l: Line,
     col: usize,
+    ahead: usize,
+    offset: usize,
     n: usize,
 ) -> Position
     requires { ⌜ Ready (now zeros) (now doubles) (now white) (now t) (now folds) rows width ×
         (0 < n) ⌝ }
-    requires { ⌜ (col ≤ 1048576) × IsLine (now t) l ⌝ }
-    ensures { λ r. ⌜ r ≡ screenFrom (now (t .entry)) (now (folds .entry))
-        (layOf (widthBy (now (zeros .entry)) (now (doubles .entry))) word width) down n
+    requires { ⌜ IsLine (now t) l × (offset ≤ 4294967295) × (ahead ≡ aheadAt (now t)
+        (layOf (widthBy (now zeros) (now doubles)) word width) down
+        (record { row = l .row; col = col })) ⌝ }
+    ensures { λ r. ⌜ r ≡ rounds (stepScreen (now (t .entry)) (now (folds .entry))
+        (layOf (widthBy (now (zeros .entry)) (now (doubles .entry))) word width) down offset) n
         (record { row = l .row; col = col }) ⌝ }
 {
-    let s = seat(zeros, doubles, white, t, width, word, down, l, col);
     let from = Spot {
         row: l.row,
         start: l.start,
-        ahead: s.ahead,
+        ahead: ahead,
     };
-    if s.ahead > 0 {
+    if ahead > 0 {
         return glide(
             zeros,
             doubles,
@@ -218,7 +224,7 @@ pub fn screen_from(
             word,
             down,
             from,
-            s.offset,
+            offset,
             n,
         );
     }
@@ -234,12 +240,72 @@ pub fn screen_from(
             word,
             down,
             from,
-            s.offset,
+            offset,
             n,
         ),
         Visible::NoRow => Position {
             row: l.row,
             col: col,
         },
+    }
+}
+
+// The offset at hand, or a place's own.
+fn or_own(offset: Offset, own: usize) -> usize
+    requires { ⌜ own ≤ 1048576 ⌝ }
+    ensures { λ r. ⌜ r ≡ orOwn offset own ⌝ }
+    ensures { λ r. ⌜ r ≤ 4294967295 ⌝ }
+{
+    match offset {
+        Offset::Absent => own,
+        Offset::At(x) => x as usize,
+    }
+}
+
+// The rounds of a count from a place, which keep the offset at hand or the place's own.
+pub fn screen_from(
+    zeros: &[u32],
+    doubles: &[u32],
+    white: &[u32],
+    t: &[u32],
+    folds: &[u32],
+    rows: usize,
+    width: u32,
+    word: bool,
+    down: bool,
+    l: Line,
+    col: usize,
+    offset: Offset,
+    n: usize,
+) -> Glided
+    requires { ⌜ Ready (now zeros) (now doubles) (now white) (now t) (now folds) rows width ×
+        (0 < n) ⌝ }
+    requires { ⌜ (col ≤ 1048576) × IsLine (now t) l ⌝ }
+    ensures { λ r. ⌜ r ≡ glided (now (t .entry)) (now (folds .entry))
+        (layOf (widthBy (now (zeros .entry)) (now (doubles .entry))) word width) down n offset
+        (record { row = l .row; col = col }) ⌝ }
+    ensures { λ r. ⌜ r .offset ≤ 4294967295 ⌝ }
+{
+    let s = seat(zeros, doubles, white, t, width, word, down, l, col);
+    let kept = or_own(offset, s.offset);
+    let p = rounds_from(
+        zeros,
+        doubles,
+        white,
+        t,
+        folds,
+        rows,
+        width,
+        word,
+        down,
+        l,
+        col,
+        s.ahead,
+        kept,
+        n,
+    );
+    Glided {
+        place: p,
+        offset: kept,
     }
 }

@@ -1,5 +1,9 @@
 // `gj` and `gk`: the target of `move_screen_vertical` of motions.rs, by the tables of widths that
-// are lent. The text, the place, the folds and the tabstop were accepted.
+// are lent. The text, the place, the folds and the tabstop were accepted. A move begins with the
+// offset within a segment that is at hand, or with none as the Rust's do, and answers with the one
+// that it kept.
+use crate::Kept;
+use crate::Offset;
 use crate::out_of_folds;
 use crate::walks;
 use row_wrap::Wrap;
@@ -13,10 +17,11 @@ ghost use Prim.Native.Nat.{_<_};
 ghost use Rattle.chars.specs.Width.{widthBy, Widths};
 ghost use Rattle.text.specs.Text.{rowCount, contentRows};
 ghost use Rattle.vertical.specs.Moves.{Accepted};
-ghost use Rattle.screen.specs.Screen.{screenTarget, moveScreen};
 ghost use Rattle.screen_segments.specs.Parts.{layOf};
+ghost use Rattle.screen.specs.Keeping.{screenKept, moveScreenKept};
+ghost use Rattle.screen.specs.Keeping.{unkept as Keeping·unkept};
 
-// The target where rows are broken: by words, or by characters.
+// The target where rows are broken, by words or by characters, and the offset that was kept.
 fn move_broken(
     zeros: &[u32],
     doubles: &[u32],
@@ -27,28 +32,29 @@ fn move_broken(
     l: Line,
     col: usize,
     sticky: Sticky,
+    offset: Offset,
     down: bool,
     count: u32,
     tabstop: u32,
     width: u32,
     word: bool,
-) -> Target
+) -> Kept
     requires { ⌜ Widths (now zeros) (now doubles) × (0 < width) ⌝ }
     requires { ⌜ Accepted (now t) (now folds) l col tabstop × (rows ≡ rowCount (now t)) ×
         (content ≡ contentRows (now t)) ⌝ }
-    ensures { λ r. ⌜ r ≡ screenTarget (widthBy (now (zeros .entry)) (now (doubles .entry)))
+    ensures { λ r. ⌜ r ≡ screenKept (widthBy (now (zeros .entry)) (now (doubles .entry)))
         (now (t .entry)) (now (folds .entry)) tabstop
         (layOf (widthBy (now (zeros .entry)) (now (doubles .entry))) word width) down count
-        (l .row) col sticky ⌝ }
+        (l .row) col sticky offset ⌝ }
 {
     let want = moves::wanted(zeros, doubles, t, folds, l, col, sticky, tabstop);
-    let j = out_of_folds::jump(t, folds, rows, content, down, l, col);
+    let j = out_of_folds::start(t, folds, rows, content, down, l, col, offset);
     let m = Line {
         row: j.row,
         start: j.start,
     };
     let n = most(count as usize, 1);
-    let p = walks::screen_from(
+    let g = walks::screen_from(
         zeros,
         doubles,
         &chars::WHITE,
@@ -60,17 +66,32 @@ fn move_broken(
         down,
         m,
         j.col,
+        offset,
         n,
     );
-    Target {
-        row: p.row,
-        col: p.col,
+    let to = Target {
+        row: g.place.row,
+        col: g.place.col,
         want: want,
+    };
+    Kept {
+        target: to,
+        offset: Offset::At(g.offset as u32),
     }
 }
 
-// `gj` and `gk`: so many segments down or up, count 0 as 1; with mode None or width 0 as `j` and
-// `k`.
+// A target of `j` or `k`: no offset is kept.
+fn unkept(to: Target) -> Kept
+    ensures { λ r. ⌜ r ≡ Keeping·unkept to ⌝ }
+{
+    Kept {
+        target: to,
+        offset: Offset::Absent,
+    }
+}
+
+// So many segments down or up, count 0 as 1, by the offset at hand; with mode None or width 0 as `j`
+// and `k`, and then none is kept.
 pub fn move_screen(
     zeros: &[u32],
     doubles: &[u32],
@@ -81,21 +102,23 @@ pub fn move_screen(
     l: Line,
     col: usize,
     sticky: Sticky,
+    offset: Offset,
     down: bool,
     count: u32,
     tabstop: u32,
     mode: Wrap,
     width: u16,
-) -> Target
+) -> Kept
     requires { ⌜ Widths (now zeros) (now doubles) ⌝ }
     requires { ⌜ Accepted (now t) (now folds) l col tabstop × (rows ≡ rowCount (now t)) ×
         (content ≡ contentRows (now t)) ⌝ }
-    ensures { λ r. ⌜ r ≡ moveScreen (widthBy (now (zeros .entry)) (now (doubles .entry)))
-        (now (t .entry)) (now (folds .entry)) tabstop mode width down count (l .row) col sticky ⌝ }
+    ensures { λ r. ⌜ r ≡ moveScreenKept (widthBy (now (zeros .entry)) (now (doubles .entry)))
+        (now (t .entry)) (now (folds .entry)) tabstop mode width down count (l .row) col sticky
+        offset ⌝ }
 {
     let cells = width as u32;
     if cells == 0 {
-        return moves::move_rows(
+        return unkept(moves::move_rows(
             zeros,
             doubles,
             t,
@@ -107,10 +130,10 @@ pub fn move_screen(
             down,
             count,
             tabstop,
-        );
+        ));
     }
     match mode {
-        Wrap::None => moves::move_rows(
+        Wrap::None => unkept(moves::move_rows(
             zeros,
             doubles,
             t,
@@ -122,7 +145,7 @@ pub fn move_screen(
             down,
             count,
             tabstop,
-        ),
+        )),
         Wrap::Char => move_broken(
             zeros,
             doubles,
@@ -133,6 +156,7 @@ pub fn move_screen(
             l,
             col,
             sticky,
+            offset,
             down,
             count,
             tabstop,
@@ -149,6 +173,7 @@ pub fn move_screen(
             l,
             col,
             sticky,
+            offset,
             down,
             count,
             tabstop,

@@ -113,7 +113,7 @@ fn last_of(start: usize, end: usize) -> usize
 // `clamp_to_segment`: so many characters behind the segment's start, within the segment and the
 // row.
 pub fn clamp_to_segment(start: usize, end: usize, offset: usize, len: usize) -> usize
-    requires { ⌜ start + offset ≤ 8388608 ⌝ }
+    requires { ⌜ start + offset ≤ 8589934592 ⌝ }
     ensures { λ r. ⌜ r ≡ clampTo start end offset len ⌝ }
 {
     let line_max = minus(len, 1);

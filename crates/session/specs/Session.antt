@@ -14,7 +14,7 @@ use Rattle.motions.specs.declared.Caret.{Caret}
 use Rattle.vertical.specs.declared.Sticky.the-variants.{Absent}
 use Rattle.motions.specs.declared.Moved.{Moved}
 use Rattle.motions.specs.declared.Moved.the-variants.{To, Refused}
-use Rattle.motions.specs.Carets.{caretAfter}
+use Rattle.motions.specs.Carets.{caretAfter, caretAt}
 use Rattle.session_input.specs.Parts.{commandRows, textOf, isRefused}
 use Rattle.session_presses.specs.Pressed.{pressed}
 
@@ -43,7 +43,7 @@ linesOf t k (row ∷ rest) =
     lineOf (shownOf (keyPart row) m) (caretAfter k m) ++ linesOf t (caretAfter k m) rest
 
 abbrev pub start : Caret
-start = record { row = 0; col = 0; sticky = Absent }
+start = caretAt 0 0 Absent
 
 -- what the commands of an input print with a text, from row 0 and column 0 on
 abbrev pub outputOf : List ℕ → List ℕ → List ℕ

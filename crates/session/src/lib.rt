@@ -78,11 +78,7 @@ fn lines(input: &[u8], t: &[u32], out: &mut [u8]) -> usize
     ensures { λ r. ⌜ Wrote (now (out .entry)) 0 (outputOf (now (t .entry)) (now (input .entry))) r
         (now (out .exit)) ⌝ }
 {
-    let mut k = Caret {
-        row: 0,
-        col: 0,
-        sticky: Sticky::Absent,
-    };
+    let mut k = Caret::at(0, 0, Sticky::Absent);
     let mut at: usize = 0;
     let mut i: usize = 0;
     while i <= input.len() {

@@ -22,7 +22,7 @@ use Rattle.text_moves.specs.Ways.{gone}
 use Rattle.motions.specs.declared.Caret.{Caret}
 use Rattle.motions.specs.declared.Moved.{Moved}
 use Rattle.motions.specs.declared.Moved.the-variants.{To, Refused}
-use Rattle.motions.specs.Carets.{here, put, moving, refusalOf, caretAfter}
+use Rattle.motions.specs.Carets.{here, put, moving, refusalOf, caretAfter, caretAt}
 use Rattle.motions.specs.UpDown.{verticalRefusal, moveRows, atTarget}
 use Rattle.motions.proofs.Landing.{moving-to}
 use Rattle.motions.proofs.Reaching.{own}
@@ -78,7 +78,7 @@ module _ (t : List ℕ) (n : ℕ) (k : Caret) where
     where
       go : (b : Bool) → held Ends (cond b (To (put k (gone t LineEnd n (here k)))) (Refused (refusalOf t k))) ≡ To c → AtEnd t c
       go true q =
-          let same : record { row = k .row; col = lastCol t (k .row); sticky = At pastEnds } ≡ c = cc in
+          let same : caretAt (k .row) (lastCol t (k .row)) (At pastEnds) ≡ c = cc in
           subst (AtEnd t) same (record { on-last = refl; aims-past = refl })
       go false q = let z : _≡_ {A = ℕ} 0 1 = cc in absurd (omega arith)
 

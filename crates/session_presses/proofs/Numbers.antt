@@ -21,7 +21,7 @@ use Rattle.lists.specs.Codes.{codes}
 use Rattle.lists.specs.Lists.{isSame}
 use Rattle.motions.specs.declared.Caret.{Caret}
 use Rattle.motions.specs.declared.Move.{Move}
-use Rattle.motions.specs.declared.Move.the-variants.{By, Word, Rows, Screen, Viewport, Bracket, Find}
+use Rattle.motions.specs.declared.Move.the-variants.{By, Word, Rows, Screen, ScreenKept, Viewport, Bracket, Find}
 use Rattle.motions.specs.declared.Moved.{Moved}
 use Rattle.motions.specs.declared.Moved.the-variants.{To, Refused}
 use Rattle.motions.specs.declared.Sought.{Sought}
@@ -97,6 +97,7 @@ numbered t folds list tabstop (By w) n k = moves _ _
 numbered t folds list tabstop (Word m big stop) n k = moves _ _
 numbered t folds list tabstop (Rows down) n k = moves _ _
 numbered t folds list tabstop (Screen mode width down) n k = moves _ _
+numbered t folds list tabstop (ScreenKept mode width down) n k = moves _ _
 numbered t folds list tabstop (Viewport edge top height offset) n k = moves _ _
 numbered t folds list tabstop Bracket n k =
     let f = firstBracket (rowAt t (k .row)) (k .col) in

@@ -15,6 +15,7 @@ use Rattle.motions.specs.declared.Move.{Move}
 use Rattle.motions.specs.declared.Move.the-variants.{By, Word, Rows, Bracket}
 use Rattle.motions.specs.declared.Moved.{Moved}
 use Rattle.motions.specs.declared.Moved.the-variants.{To, Refused}
+use Rattle.motions.specs.Carets.{caretWith}
 use Rattle.motions.specs.Going.{movedBy}
 use Rattle.session_keys.specs.declared.Key.{Key}
 use Rattle.session_keys.specs.declared.Key.the-variants as Key
@@ -83,7 +84,7 @@ stickyAfter Kept s = s
 stickyAfter Ends s = At pastEnds
 
 abbrev pub held : Column → Moved → Moved
-held c (To k) = To (record { row = k .row; col = k .col; sticky = stickyAfter c (k .sticky) })
+held c (To k) = To (caretWith (k .row) (k .col) (stickyAfter c (k .sticky)) (k .offset))
 held c (Refused f) = Refused f
 
 -- 0 stands for a key that is unknown, and for no other (`pressed-unknown` of `proofs/Numbers.antt`)

@@ -110,11 +110,8 @@ fn held(c: Column, m: Moved) -> Moved
     match m {
         Moved::To(k) => {
             let s = k.sticky;
-            Moved::To(Caret {
-                row: k.row,
-                col: k.col,
-                sticky: sticky_after(c, s),
-            })
+            let o = k.offset;
+            Moved::To(Caret::with(k.row, k.col, sticky_after(c, s), o))
         }
         Moved::Refused(f) => Moved::Refused(f),
     }

@@ -2,7 +2,9 @@
 
 use oracle::Outcome;
 use oracle::case::{Case, FILLER};
-use tsivareza::{self as lib, Columns, Enter, Keywords, Offsets, Room, Seek, Steps, Vertical, Viewport, Word, Words, bytes};
+use tsivareza::{
+    self as lib, Columns, Enter, Kept, Keywords, Offsets, Room, ScreenKept, Seek, Steps, Vertical, Viewport, Word, Words, bytes,
+};
 
 /// The answer on code points, which the one on bytes must equal where it was asked for.
 fn both<T: PartialEq + std::fmt::Debug>(case: &Case, on_points: T, on_bytes: Option<T>) -> T {
@@ -50,6 +52,14 @@ pub fn port(case: &Case, mut room: Option<&mut Room>) -> Outcome {
         let on_bytes =
             room.map(|room| room.vertical(which, &bytes(text), k, Steps { folds: &bytes(folds), count, tabstop }));
         return moved(both(case, lib::vertical(which, text, k, Steps { folds, count, tabstop }), on_bytes));
+    }
+    if let Some(which) = screen_kept(case) {
+        let (folds, count, tabstop) = (&case.folds[..], case.count, case.tabstop);
+        let k = Kept { caret: k, offset: case.offset };
+        let on_bytes =
+            room.map(|room| room.screen_kept(which, &bytes(text), k, Steps { folds: &bytes(folds), count, tabstop }));
+        let moved = both(case, lib::screen_kept(which, text, k, Steps { folds, count, tabstop }), on_bytes);
+        return moved.map_or_else(Outcome::Refused, |k| Outcome::Kept(caret(k.caret), k.offset));
     }
     if let Some(which) = viewport(case) {
         let on_bytes = room.map(|room| room.viewport(which, &bytes(text), k));
@@ -160,6 +170,15 @@ fn vertical(case: &Case) -> Option<Vertical> {
         "move_down" => Some(Vertical::Down),
         "move_screen_up" => Some(Vertical::ScreenUp { mode, width }),
         "move_screen_down" => Some(Vertical::ScreenDown { mode, width }),
+        _ => None,
+    }
+}
+
+fn screen_kept(case: &Case) -> Option<ScreenKept> {
+    let (mode, width) = (mode(case), case.view.width);
+    match case.call.name {
+        "move_screen_up_kept" => Some(ScreenKept::Up { mode, width }),
+        "move_screen_down_kept" => Some(ScreenKept::Down { mode, width }),
         _ => None,
     }
 }

@@ -17,6 +17,7 @@
 
 mod encodings;
 mod inner;
+mod kept;
 mod raw;
 mod signs;
 mod upright;
@@ -30,6 +31,7 @@ struct Papers;
 
 pub use encodings::{utf8_decode, utf8_encode};
 pub use inner::{Kind, Range, Ranges, inner_pair};
+pub use kept::{Kept, ScreenKept, screen_kept};
 pub use signs::{Enter, enter, without_plus};
 pub use upright::{Steps, Vertical, Viewport, vertical, viewport};
 

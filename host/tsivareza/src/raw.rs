@@ -284,6 +284,45 @@ unsafe extern "C" {
         out: *mut [u32; 4],
     ) -> u32;
 
+    pub fn tsivareza_screen_kept(
+        op: u32,
+        text: *const u8,
+        text_len: usize,
+        folds: *const u8,
+        folds_len: usize,
+        room: *mut u32,
+        room_len: usize,
+        row: u32,
+        col: u32,
+        held: u32,
+        sticky: u32,
+        kept: u32,
+        offset: u32,
+        mode: u32,
+        width: u16,
+        count: u32,
+        tabstop: u32,
+        out: *mut [u32; 6],
+    ) -> u32;
+    pub fn tsivareza_screen_kept_u32(
+        op: u32,
+        text: *const u32,
+        text_len: usize,
+        folds: *const u32,
+        folds_len: usize,
+        row: u32,
+        col: u32,
+        held: u32,
+        sticky: u32,
+        kept: u32,
+        offset: u32,
+        mode: u32,
+        width: u16,
+        count: u32,
+        tabstop: u32,
+        out: *mut [u32; 6],
+    ) -> u32;
+
     pub fn tsivareza_viewport(
         op: u32,
         text: *const u8,

@@ -16,7 +16,7 @@ abbrev μ-loop : tie.MeasureT-loop
 μ-loop input t out₀ k₀ at₀ i₀ out k at i = length input + 1 - i
 
 loop-holds : tie.Need-loop-holds Inv-loop μ-loop
-loop-holds c = progress-start _ _ _
+loop-holds c = rw (c .at .ensures) (progress-start _ _ _)
 
 returns : tie.Need-returns Inv-loop μ-loop
 returns c =
@@ -53,6 +53,7 @@ lines-spec =
     (tie.spec
     Inv-loop
     μ-loop
+    (λ c κs. search needs)
     loop-holds
     (λ c κs. search needs)
     (λ c. search needs)

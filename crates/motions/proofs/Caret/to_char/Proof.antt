@@ -7,7 +7,7 @@ use lib.ListN.{length}
 use borrow.Author.Needs.{needs}
 use Rattle.text.specs.Text.{rowAt}
 use Rattle.row_search.specs.Find.{findOnRow}
-use Rattle.motions.specs.declared.Sought.the-variants.{Found}
+use Rattle.motions.specs.declared.Sought.the-variants.{Found, Missing}
 use Rattle.motions.specs.Finds.{landsOn}
 use Rattle.motions.proofs.Finding.{found-fits}
 use Rattle.motions.proofs.Caret.to_char.Statement.{statement}
@@ -47,10 +47,12 @@ returns c =
 returns-2 : tie.Need-returns-2
 unfolding landsOn
 returns-2 c =
-    let at-search = c .before .before in
+    let none = c .before in
+    let at-search = none .before .before in
     let at-row = at-search .before .before in
     let given = at-row .before .before .before .args in
-    ap (landsOn (given .self)) (sym (c .enum-told .given .1) ∙ at-search .find-on-row .ensures
+    ap Missing (c .cleared .ensures)
+    ∙ ap (landsOn (given .self)) (sym (none .enum-told .given .1) ∙ at-search .find-on-row .ensures
     ∙ ap (λ (l : List ℕ). findOnRow l (given .self .col) (given .x) (given .forward) (given .till) (given .skip)) (at-row .row .ensures))
 
 pub to-char-spec : {M : Type 1} → statement M
@@ -65,5 +67,6 @@ to-char-spec =
     (λ c. search needs)
     placed-requires
     (λ c. search needs)
+    (λ c κs. search needs)
     returns
     returns-2)

@@ -2,7 +2,7 @@
 -- Assumes nothing.
 use mathlib.Core.Path.{sym, ap, _∙_}
 use borrow.Author.Needs.{needs}
-use Rattle.motions.specs.declared.Sought.the-variants.{Found}
+use Rattle.motions.specs.declared.Sought.the-variants.{Found, Missing}
 use Rattle.motions.specs.Finds.{partnerTo}
 use Rattle.motions.proofs.Fitting.{key-fits}
 use Rattle.motions.proofs.Caret.to_partner.Statement.{statement}
@@ -29,9 +29,10 @@ returns c =
 returns-2 : tie.Need-returns-2
 unfolding partnerTo
 returns-2 c =
-    let at-walk = c .before .before in
+    let none = c .before in
+    let at-walk = none .before .before in
     let self = at-walk .before .before .before .before .args .self in
-    ap (partnerTo self) (sym (c .enum-told .given .1) ∙ at-walk .match-bracket-from .ensures)
+    ap Missing (c .cleared .ensures) ∙ ap (partnerTo self) (sym (none .enum-told .given .1) ∙ at-walk .match-bracket-from .ensures)
 
 returns-3 : tie.Need-returns-3
 unfolding partnerTo
@@ -50,6 +51,7 @@ to-partner-spec =
     (λ c. search needs)
     placed-requires
     (λ c. search needs)
+    (λ c κs. search needs)
     (λ c. search needs)
     returns
     returns-2

@@ -26,6 +26,13 @@ to-row-requires-2 c κs =
     let takes = rw (at-move .m4 .given .1) at (start .pre .takes) in
     (start .pre .accepted, takes .0, takes .1)
 
+to-row-kept-requires : tie.Need-to-row-kept-requires
+to-row-kept-requires c κs =
+    let at-move = c .before in
+    let start = at-move .before .before .before .before .before in
+    let takes = rw (at-move .m5 .given .1) at (start .pre .takes) in
+    (start .pre .accepted, takes .0, takes .1)
+
 ways : tie.Need-returns
 ways c = rw (c .before .before .m .given .1) (ap Found (c .to-place .ensures))
 
@@ -38,14 +45,17 @@ rows c = rw (c .before .before .m3 .given .1) (ap Found (c .to-row .ensures))
 screen : tie.Need-returns-4
 screen c = rw (c .before .before .m4 .given .1) (ap Found (c .to-row2 .ensures))
 
-viewport : tie.Need-returns-5
-viewport c = rw (c .before .before .m5 .given .1) (ap Found (c .to-edge .ensures))
+kept : tie.Need-returns-5
+kept c = rw (c .before .before .m5 .given .1) (ap Found (c .to-row-kept .ensures))
 
-bracket : tie.Need-returns-6
+viewport : tie.Need-returns-6
+viewport c = rw (c .before .before .m6 .given .1) (ap Found (c .to-edge .ensures))
+
+bracket : tie.Need-returns-7
 bracket c = rw (c .before .enum-told .given .1) (c .to-partner .ensures)
 
-find : tie.Need-returns-7
-find c = rw (c .before .before .m6 .given .1) (c .to-char .ensures)
+find : tie.Need-returns-8
+find c = rw (c .before .before .m7 .given .1) (c .to-char .ensures)
 
 pub walk-spec : {M : Type 1} → statement M
 walk-spec =
@@ -60,6 +70,8 @@ walk-spec =
     (λ c. search needs)
     to-row-requires-2
     (λ c. search needs)
+    to-row-kept-requires
+    (λ c. search needs)
     (λ c κs. search needs)
     (λ c. search needs)
     (λ c κs. search needs)
@@ -69,6 +81,7 @@ walk-spec =
     words
     rows
     screen
+    kept
     viewport
     bracket
     find)

@@ -31,7 +31,13 @@ screen c =
     let given = at-folds .before .before .before .before .args in
     rw (at-folds .before .enum-told3 .given .1) (c .or-stop2 .ensures ∙ ap (λ (f : ℕ). orStop f (given .tabstop)) (at-folds .or-folds3 .ensures))
 
-finds : tie.Need-returns-7
+kept : tie.Need-returns-5
+kept c =
+    let at-folds = c .before in
+    let given = at-folds .before .before .before .before .args in
+    rw (at-folds .before .enum-told4 .given .1) (c .or-stop3 .ensures ∙ ap (λ (f : ℕ). orStop f (given .tabstop)) (at-folds .or-folds4 .ensures))
+
+finds : tie.Need-returns-8
 finds c = rw (c .before .before .m2 .given .1) (c .or-sought .ensures)
 
 pub checks-spec : {M : Type 1} → statement M
@@ -50,6 +56,9 @@ checks-spec =
     (λ c κs. search needs)
     (λ c κs. search needs)
     (λ c. search needs)
+    (λ c κs. search needs)
+    (λ c κs. search needs)
+    (λ c. search needs)
     (λ c. search needs)
     (λ c. search needs)
     (λ c κs. search needs)
@@ -57,6 +66,7 @@ checks-spec =
     words
     rows
     screen
+    kept
     (λ c. search needs)
     (λ c. search needs)
     finds)

@@ -1,80 +1,43 @@
--- `walks::screen_from` meets its contract: a place that can move goes as its spot does. Assumes nothing.
-use mathlib.Core.Path.{sym, ap, _∙_}
-use Prim.Native.Nat.{ℕ}
+-- `walks::screen_from` meets its contract: the place's seat gives the segments ahead and its own offset. Assumes nothing.
 use native.Mathlib.Omega.{arith}
 use borrow.Author.Needs.{needs}
 use Rattle.chars.specs.Width.{widthBy}
-use Rattle.visible_rows.specs.Visible.{toward}
-use Rattle.screen.proofs.Landing.{from-inside, from-near, from-on, from-off, from-stuck}
+use Rattle.screen_segments.specs.Parts.{layOf}
+use Rattle.screen.proofs.Landing.{seat-ahead, seat-near, glided-made}
 use Rattle.screen.proofs.walks.screen_from.Statement.{statement}
 use Rattle.screen.proofs.walks.screen_from.Tie as tie
 
-glide-requires : tie.Need-glide-requires
-glide-requires c κs =
-    let s = c .before .before in
+or-own-requires : tie.Need-or-own-requires
+or-own-requires c κs =
+    let z = c .before .before .before .before .before .before in
+    let a = z .args in
+    let lay = layOf (widthBy (a .zeros .now) (a .doubles .now)) (a .word) (a .width) in
+    omega (arith, seat-near (a .t .now) (a .folds .now) lay (a .down) (record { row = a .l .row; col = a .col }) (c .seat .ensures), z .pre .1 .0)
+
+rounds-from-requires : tie.Need-rounds-from-requires
+rounds-from-requires c κs =
+    let s = c .before in
     let z = s .before .before .before .before .before .before in
     let a = z .args in
-    let w = widthBy (a .zeros .now) (a .doubles .now) in
-    let inside = from-inside w (a .t .now) (a .folds .now) (a .word) (a .width) (a .down) (a .n) (z .pre .0 .1) (record { row = a .l .row; col = a .col })
-    (s .seat .ensures) in
-    let near = from-near w (a .t .now) (a .folds .now) (a .word) (a .width) (a .down) (a .n) (z .pre .0 .1) (record { row = a .l .row; col = a .col })
-    (s .seat .ensures) in
-    ((z .pre .0 .0, omega (arith, near, z .pre .1 .0)), record { line = z .pre .1 .1; inside = inside })
+    let lay = layOf (widthBy (a .zeros .now) (a .doubles .now)) (a .word) (a .width) in (
+      z .pre .0,
+      (
+        z .pre .1 .1,
+        c .or-own .ensures .1,
+        seat-ahead (a .t .now) (a .folds .now) lay (a .down) (record { row = a .l .row; col = a .col }) (s .seat .ensures),
+      ),
+    )
 
 returns : tie.Need-returns
 returns c =
-    let i = c .before in
-    let s = i .before .before in
-    let z = s .before .before .before .before .before .before in
-    let a = z .args in
-    let w = widthBy (a .zeros .now) (a .doubles .now) in
-    from-on w (a .t .now) (a .folds .now) (a .word) (a .width) (a .down) (a .n) (z .pre .0 .1) (record { row = a .l .row; col = a .col }) (s .seat .ensures)
-    (c .glide .ensures) (i .if1 .taken)
-
-visible-row-requires : tie.Need-visible-row-requires
-visible-row-requires c κs =
-    let z = c .before .before .before .before .before .before .before .before in
-    (z .pre .0 .0 .folds-good, omega (arith, z .pre .1 .1 .in-row, z .pre .0 .0 .all-rows))
-
-glide-requires-2 : tie.Need-glide-requires-2
-glide-requires-2 c κs =
-    let s = c .before .before .before .before .before .before in
-    let z = s .before .before .before .before .before .before in
-    let a = z .args in
-    let w = widthBy (a .zeros .now) (a .doubles .now) in
-    let inside = from-inside w (a .t .now) (a .folds .now) (a .word) (a .width) (a .down) (a .n) (z .pre .0 .1) (record { row = a .l .row; col = a .col })
-    (s .seat .ensures) in
-    let near = from-near w (a .t .now) (a .folds .now) (a .word) (a .width) (a .down) (a .n) (z .pre .0 .1) (record { row = a .l .row; col = a .col })
-    (s .seat .ensures) in
-    ((z .pre .0 .0, omega (arith, near, z .pre .1 .0)), record { line = z .pre .1 .1; inside = inside })
-
-returns-2 : tie.Need-returns-2
-returns-2 c =
-    let v = c .before .before .before .before in
-    let i = v .before in
-    let s = i .before .before in
-    let z = s .before .before .before .before .before .before in
-    let a = z .args in
-    let w = widthBy (a .zeros .now) (a .doubles .now) in
-    let found = ap (λ (k : ℕ). toward (a .folds .now) k (a .down) (a .l .row)) (sym (z .pre .0 .0 .all-rows)) ∙ sym (v .visible-row .ensures) ∙
-    c .before .before .x .given .1 in
-    from-off w (a .t .now) (a .folds .now) (a .word) (a .width) (a .down) (a .n) (z .pre .0 .1) (record { row = a .l .row; col = a .col }) (s .seat .ensures)
-    (c .glide2 .ensures) _ (omega (arith, i .if1 .left)) found
-
-returns-3 : tie.Need-returns-3
-returns-3 c =
-    let v = c .before .before in
-    let i = v .before in
-    let s = i .before .before in
-    let z = s .before .before .before .before .before .before in
-    let a = z .args in
-    let w = widthBy (a .zeros .now) (a .doubles .now) in
-    let none = ap (λ (k : ℕ). toward (a .folds .now) k (a .down) (a .l .row)) (sym (z .pre .0 .0 .all-rows)) ∙ sym (v .visible-row .ensures) ∙
-    c .enum-told .given .1 in
-    from-stuck w (a .t .now) (a .folds .now) (a .word) (a .width) (a .down) (a .n) (z .pre .0 .1) (record { row = a .l .row; col = a .col })
-    (s .seat .ensures) (omega (arith, i .if1 .left)) none
+    let o = c .before in
+    let s = o .before in
+    let a = s .before .before .before .before .before .before .args in
+    let lay = layOf (widthBy (a .zeros .now) (a .doubles .now)) (a .word) (a .width) in (
+      glided-made (a .t .now) (a .folds .now) lay (a .down) (record { row = a .l .row; col = a .col }) (s .seat .ensures) (a .n) (a .offset)
+          (o .or-own .ensures .0) (c .rounds-from .ensures),
+      o .or-own .ensures .1,
+    )
 
 pub screen-from-spec : {M : Type 1} → statement M
-screen-from-spec =
-    tie.close
-    (tie.spec (λ c κs. search needs) glide-requires returns visible-row-requires (λ c. search needs) glide-requires-2 (λ c. search needs) returns-2 returns-3)
+screen-from-spec = tie.close (tie.spec (λ c κs. search needs) or-own-requires rounds-from-requires returns)

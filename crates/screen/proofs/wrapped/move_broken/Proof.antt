@@ -10,8 +10,8 @@ use Rattle.screen.proofs.Spans.{target-made}
 use Rattle.screen.proofs.wrapped.move_broken.Statement.{statement}
 use Rattle.screen.proofs.wrapped.move_broken.Tie as tie
 
-jump-requires : tie.Need-jump-requires
-jump-requires c κs =
+start-requires : tie.Need-start-requires
+start-requires c κs =
     let s = c .before .before .before .before .before in
     let p = s .pre .1 .0 in (
       s .pre .1 .1,
@@ -38,21 +38,22 @@ screen-from-requires c κs =
         },
         omega (arith, m .most .ensures),
       ),
-      (j .jump .ensures .2, j .jump .ensures .1),
+      (j .start .ensures .2, j .start .ensures .1),
     )
 
 returns : tie.Need-returns
 returns c =
-    let m = c .before .before in
+    let g = c .before in
+    let m = g .before .before in
     let j = m .before in
     let d = j .before in
     let a = d .before .before .before .before .before .args in
     let w = widthBy (a .zeros .now) (a .doubles .now) in
-    target-made w (a .t .now) (a .folds .now) (a .tabstop) (layOf w (a .word) (a .width)) (a .down) (a .count) (a .l .row) (a .col) (a .sticky)
-    (d .wanted .ensures) (m .most .ensures) (j .jump .ensures .0) (c .screen-from .ensures)
+    target-made w (a .t .now) (a .folds .now) (a .tabstop) (layOf w (a .word) (a .width)) (a .down) (a .count) (a .l .row) (a .col) (a .sticky) (a .offset)
+    (d .wanted .ensures) (m .most .ensures) (j .start .ensures .0) (g .screen-from .ensures .0)
 
 pub move-broken-spec : {M : Type 1} → statement M
 move-broken-spec =
     tie.close
-    (tie.spec (λ c κs. search needs) jump-requires (λ c κs. search needs) (λ c. search needs)
-    screen-from-requires returns)
+    (tie.spec (λ c κs. search needs) start-requires (λ c κs. search needs) (λ c. search needs)
+    screen-from-requires (λ c. search needs) returns)

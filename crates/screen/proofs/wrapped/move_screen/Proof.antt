@@ -1,14 +1,20 @@
 -- `wrapped::move_screen` meets its contract, mode by mode. Assumes nothing.
+use mathlib.Core.Path.{ap, _∙_}
 use borrow.Author.Needs.{needs}
 use borrow.Author.Tests.{eq-eqb, ne-eqb}
+use Rattle.screen.specs.Keeping.{unkept}
 use Rattle.screen.proofs.wrapped.move_screen.Statement.{statement}
 use Rattle.screen.proofs.wrapped.move_screen.Tie as tie
 
 returns : tie.Need-returns
-returns c = rw (eq-eqb _ 0 (c .before .if1 .taken)) (c .move-rows .ensures)
+returns c =
+    let r = c .before in
+    rw (eq-eqb _ 0 (r .before .if1 .taken)) (c .unkept .ensures ∙ ap unkept (r .move-rows .ensures))
 
 returns-2 : tie.Need-returns-2
-returns-2 c = rw (ne-eqb _ 0 (c .before .before .before .if1 .left), c .before .enum-told .given .1) (c .move-rows2 .ensures)
+returns-2 c =
+    let r = c .before in
+    rw (ne-eqb _ 0 (r .before .before .before .if1 .left), r .before .enum-told .given .1) (c .unkept2 .ensures ∙ ap unkept (r .move-rows2 .ensures))
 
 returns-3 : tie.Need-returns-3
 returns-3 c = rw (ne-eqb _ 0 (c .before .before .before .if1 .left), c .before .enum-told2 .given .1) (c .move-broken .ensures)
@@ -19,5 +25,5 @@ returns-4 c = rw (ne-eqb _ 0 (c .before .before .before .if1 .left), c .before .
 pub move-screen-spec : {M : Type 1} → statement M
 move-screen-spec =
     tie.close
-    (tie.spec (λ c κs. search needs) returns (λ c. search needs) (λ c κs. search needs) (λ c. search needs) (λ c κs. search needs) (λ c. search needs)
-    (λ c κs. search needs) returns-2 returns-3 returns-4)
+    (tie.spec (λ c κs. search needs) (λ c κs. search needs) returns (λ c. search needs) (λ c κs. search needs) (λ c κs. search needs) (λ c. search needs)
+    (λ c κs. search needs) (λ c. search needs) (λ c κs. search needs) returns-2 returns-3 returns-4)

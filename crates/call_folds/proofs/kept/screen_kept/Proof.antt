@@ -1,0 +1,22 @@
+-- `kept::screen_kept` meets its contract: it hands on what the motion answers. Assumes nothing.
+use mathlib.Core.Path.{ap, _∙_}
+use borrow.Author.Needs.{needs}
+use Rattle.motions.specs.declared.Caret.{Caret}
+use Rattle.call_folds.specs.Kept.{screenKept}
+use Rattle.call_texts.specs.Carets.{movedSix}
+use Rattle.call_bytes.proofs.Replies.{replied-of}
+use Rattle.call_folds.proofs.kept.screen_kept.Statement.{statement}
+use Rattle.call_folds.proofs.kept.screen_kept.Tie as tie
+
+returns : tie.Need-returns
+returns c =
+    let v = c .before .before in
+    let a = v .before .before .before .before .args in
+    replied-of movedSix
+    (v .kept-by .ensures
+    ∙ ap (λ (k : Caret). screenKept (a .op) (a .mode) (a .width) (a .count) (a .tabstop) k (a .text .now) (a .folds .now)) (v .before .caret-six .ensures))
+    (c .place-six .ensures)
+
+pub screen-kept-spec : {M : Type 1} → statement M
+screen-kept-spec =
+    tie.close (tie.spec (λ c κs. search needs) (λ c κs. search needs) (λ c κs. search needs) returns)

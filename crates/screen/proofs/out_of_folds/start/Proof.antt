@@ -1,0 +1,16 @@
+-- `screen::out_of_folds::start` meets its contract: a fold is left where no offset is at hand. Assumes nothing.
+use mathlib.Core.Path.{refl}
+use borrow.Author.Needs.{needs}
+use Rattle.screen.proofs.out_of_folds.start.Statement.{statement}
+use Rattle.screen.proofs.out_of_folds.start.Tie as tie
+
+returns : tie.Need-returns
+returns c = rw (c .before .enum-told .given .1) (c .jump .ensures)
+
+returns-2 : tie.Need-returns-2
+returns-2 c =
+    let s = c .before .before .before .before in
+    rw (c .enum-told2 .given .1) (refl, s .pre .2, s .pre .3)
+
+pub start-spec : {M : Type 1} → statement M
+start-spec = tie.close (tie.spec (λ c. search needs) (λ c κs. search needs) (λ c. search needs) returns returns-2)
