@@ -53,15 +53,7 @@ fn kept_by(
         return Moved::Refused(100);
     }
     let w = mode_of(mode);
-    move_as(
-        kept_of(op, w, width),
-        k,
-        t,
-        folds,
-        &t[..0],
-        tabstop,
-        count,
-    )
+    move_as(kept_of(op, w, width), k, t, folds, &t[..0], tabstop, count)
 }
 
 // A screen move that remembers over a text of code points, with folds. The caret is six numbers, in

@@ -172,13 +172,7 @@ pub fn vertical(k: Head, text: &[u32], folds: &[u32], stored: &[u32]) -> Verdict
 }
 
 // The same with the offset within a segment: whether one is kept, and that.
-pub fn screen_kept(
-    k: Head,
-    text: &[u32],
-    folds: &[u32],
-    own: &[u32],
-    stored: &[u32],
-) -> Verdict
+pub fn screen_kept(k: Head, text: &[u32], folds: &[u32], own: &[u32], stored: &[u32]) -> Verdict
     ensures { λ r. ⌜ r ≡ keptVerdict k (now (text .entry)) (now (folds .entry))
         (now (own .entry)) (now (stored .entry)) ⌝ }
 {

@@ -12,18 +12,24 @@ cast-with c =
     let led = c .before .before in
     let start = led .before .before .before in
     let given = start .args in
-    omega (arith, target-fits (given .self)
-    (upright-ready (given .t .now) (given .folds .now) (given .tabstop) (given .self) (given .e) (start .pre .0) (start .pre .1) (start .pre .2))
-    (given .mode) (given .width) (given .down) (given .count) (given .self .offset) _ (led .led .ensures))
+    omega (
+      arith,
+      target-fits (given .self)
+          (upright-ready (given .t .now) (given .folds .now) (given .tabstop) (given .self) (given .e) (start .pre .0) (start .pre .1) (start .pre .2))
+          (given .mode) (given .width) (given .down) (given .count) (given .self .offset) _ (led .led .ensures),
+    )
 
 cast-with-2 : tie.Need-cast-with-2
 cast-with-2 c =
     let led = c .before .before .before in
     let start = led .before .before .before in
     let given = start .args in
-    omega (arith, target-fits (given .self)
-    (upright-ready (given .t .now) (given .folds .now) (given .tabstop) (given .self) (given .e) (start .pre .0) (start .pre .1) (start .pre .2))
-    (given .mode) (given .width) (given .down) (given .count) (given .self .offset) _ (led .led .ensures))
+    omega (
+      arith,
+      target-fits (given .self)
+          (upright-ready (given .t .now) (given .folds .now) (given .tabstop) (given .self) (given .e) (start .pre .0) (start .pre .1) (start .pre .2))
+          (given .mode) (given .width) (given .down) (given .count) (given .self .offset) _ (led .led .ensures),
+    )
 
 returns : tie.Need-returns
 returns c = c .with .ensures ∙ ap atKept (c .before .before .before .before .led .ensures)

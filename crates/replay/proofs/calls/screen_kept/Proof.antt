@@ -22,7 +22,7 @@ returns-3 : tie.Need-returns-3
 unfolding keptVerdict
 returns-3 c =
     let b = c .before .before in
-    rw (le-leb _ 65535 (b .before .before .before .before .if1 .left), eq-eqb _ 2 (b .before .before .before .if2 .left))
+    rw (le-leb _ 65535 (b .before .before .before .before .before .if1 .left), eq-eqb _ 2 (b .before .before .before .before .if2 .left))
     (replied-compared 6 _ (b .screen-kept .ensures) (c .compared .ensures))
 
 pub screen-kept-spec : {M : Type 1} → statement M
