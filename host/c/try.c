@@ -69,6 +69,21 @@ int main(void) {
     SAYS("find till", tsivareza_seek_u32(TSIVAREZA_FIND + TSIVAREZA_FIND_FORWARD + TSIVAREZA_FIND_TILL, branch, 10, 0, 0, 0, 0, '{', out),
          1, 0, 6, 0, 0);
 
+    /* Two arrows in two cells each: with the flag on the operation, or on the mode. */
+    static const uint32_t arrows[] = {0x2192, 0x2192, 10, 'a', 'b', 'c'};
+    SAYS("a wide arrow", tsivareza_character(TSIVAREZA_WIDTH + TSIVAREZA_WIDE, 0x2192, out), 2);
+    SAYS("columns of arrows", tsivareza_columns_u32(TSIVAREZA_CHAR_COL_TO_VISUAL_COL + TSIVAREZA_WIDE, arrows, 2, 1, 8, out), 2);
+    SAYS("wrapped arrows", tsivareza_wrap_segments_u32(TSIVAREZA_WRAP_CHAR + TSIVAREZA_WIDE, arrows, 2, 2, segments, 4, out), 2);
+    SAYS("cells of arrows", tsivareza_offsets_u32(TSIVAREZA_VISUAL_OFFSET_FOR_CHAR_COL + TSIVAREZA_WIDE, arrows, 2, 0, 0, 2, out), 4);
+    SAYS("down from an arrow", tsivareza_vertical_u32(TSIVAREZA_MOVE_DOWN + TSIVAREZA_WIDE, arrows, 6, none, 0, 0, 1, 0, 0, 0, 0, 1, 8, out),
+         1, 2, 1, 2);
+    SAYS("narrow", tsivareza_vertical_u32(TSIVAREZA_MOVE_DOWN, arrows, 6, none, 0, 0, 1, 0, 0, 0, 0, 1, 8, out), 1, 1, 1, 1);
+    REFUSES("a letter under wide", tsivareza_character(TSIVAREZA_IS_LETTER + TSIVAREZA_WIDE, 'a', out), 100);
+    REFUSES("a motion under wide", tsivareza_motion_u32(TSIVAREZA_MOVE_LEFT + TSIVAREZA_WIDE, arrows, 6, 0, 1, 0, 0, 1, out), 100);
+    REFUSES("the flag twice", tsivareza_columns_u32(TSIVAREZA_CURSOR_VISUAL_COL + 512, arrows, 2, 1, 8, out), 100);
+    REFUSES("the flag on the mode of down",
+            tsivareza_vertical_u32(TSIVAREZA_MOVE_DOWN, arrows, 6, none, 0, 0, 1, 0, 0, TSIVAREZA_WIDE, 0, 1, 8, out), 100);
+
     REFUSES("white space of a surrogate", tsivareza_character(TSIVAREZA_IS_WHITE, 0xD800, out), 2);
     REFUSES("a letter above U+10FFFF", tsivareza_character(TSIVAREZA_IS_LETTER, 0x110000, out), 2);
     REFUSES("the width of a surrogate", tsivareza_character(TSIVAREZA_WIDTH, 0xDFFF, out), 2);

@@ -26,6 +26,11 @@
  * column; `held` is 0 where it has no sticky column, else `sticky` is that column. Answers with a caret
  * hold row, column, held, sticky.
  *
+ * The calls on widths take the flag TSIVAREZA_WIDE, added to `op`, or to `mode` of wrap_segments: each
+ * character of class A (Ambiguous) of EastAsianWidth.txt whose width is 1, as an arrow, then takes two
+ * cells. These are WIDTH, tab columns, wrap_segments, cells within a segment, up, down and the screen;
+ * elsewhere the flag is 100, as any other number that stands for nothing.
+ *
  * Pointers are not null, also where a length is 0, and nothing that is written to overlaps anything
  * else that is lent. */
 #ifndef TSIVAREZA_H
@@ -37,6 +42,8 @@
 #ifdef __cplusplus
 extern "C" {
 #endif
+
+enum { TSIVAREZA_WIDE = 256 };
 
 /* Characters: out[0] is 1 or 0, or the width. IS_SCALAR answers for every number; the others refuse
  * one that is no scalar value with 2. */

@@ -1,5 +1,5 @@
-//! A call with its inputs, as a value and as one line of text, and what the given Rust answers, or `pairs`, `plus` and `kept` for
-//! calls that it does not have.
+//! A call with its inputs, as a value and as one line of text, and what the given Rust answers, or `pairs`, `plus`, `kept` and
+//! `wide` for calls that it does not have.
 //!
 //! A line is the call's name and its inputs, each `name=value` and each once:
 //! `move_word_fwd text=61,20,62 row=0 col=0 sticky=none folds= list=40,2c,5f big=0 count=1`.
@@ -7,7 +7,7 @@
 //! numbers are decimal, and a list of them has commas.
 
 use crate::calls::{self, Words};
-use crate::{Outcome, kept, pairs, plus};
+use crate::{Outcome, kept, pairs, plus, wide};
 use std::fmt;
 
 /// An input that a call takes.
@@ -157,8 +157,15 @@ macro_rules! columns {
     };
 }
 
-/// Every public call.
-pub static CALLS: [Call; 57] = [
+/// A call on widths with the flag for wide.
+macro_rules! wide {
+    ($name:ident [$($takes:expr),*]) => {
+        call!($name [$($takes),*] |k| wide::plain(k).answer())
+    };
+}
+
+/// Every public call, those on widths also with the flag.
+pub static CALLS: [Call; 71] = [
     call!(content_row_count [Text] |k| outcome(calls::content_row_count(&k.text), |n| Outcome::Number(n.into()))),
     counted!(move_left),
     counted!(move_right_in_line),
@@ -234,6 +241,20 @@ pub static CALLS: [Call; 57] = [
     call!(without_plus [List, Room] plain),
     call!(move_screen_up_kept [Text, Caret, Offset, Folds, Viewport, Tabstop, Count] |k| remembered(k, false)),
     call!(move_screen_down_kept [Text, Caret, Offset, Folds, Viewport, Tabstop, Count] |k| remembered(k, true)),
+    wide!(width_wide [Character]),
+    wide!(visual_col_to_char_col_wide [Line, Column, Tabstop]),
+    wide!(char_col_to_visual_col_wide [Line, Column, Tabstop]),
+    wide!(cursor_visual_col_wide [Line, Column, Tabstop]),
+    wide!(leading_visual_width_wide [Line, Tabstop]),
+    wide!(wrap_segments_wide [Line, Wrap, Room]),
+    wide!(char_col_for_visual_offset_wide [Line, Start, End, Column]),
+    wide!(visual_offset_for_char_col_wide [Line, Start, Column]),
+    wide!(move_up_wide [Text, Caret, Folds, Tabstop, Count]),
+    wide!(move_down_wide [Text, Caret, Folds, Tabstop, Count]),
+    wide!(move_screen_up_wide [Text, Caret, Folds, Viewport, Tabstop, Count]),
+    wide!(move_screen_down_wide [Text, Caret, Folds, Viewport, Tabstop, Count]),
+    wide!(move_screen_up_kept_wide [Text, Caret, Offset, Folds, Viewport, Tabstop, Count]),
+    wide!(move_screen_down_kept_wide [Text, Caret, Offset, Folds, Viewport, Tabstop, Count]),
 ];
 
 pub fn call(name: &str) -> Result<&'static Call, String> {

@@ -2,7 +2,7 @@
 
 use crate::case::{CALLS, Call, Case, Input};
 use crate::pairs::KINDS;
-use crate::{Caret, Viewport, Wrap, points};
+use crate::{Caret, Viewport, Wrap, points, wide};
 
 /// SplitMix64: one stream per seed and index.
 pub struct Dice(u64);
@@ -60,8 +60,17 @@ const ALPHABETS: [&str; 10] = [
 
 const BAD_POINTS: [u32; 8] = [0xD800, 0xDFFF, 0x110000, MOST, 0x0B, 0x0D, 0x85, 0x2028];
 
-fn text(dice: &mut Dice) -> Vec<u32> {
-    let alphabet = points(dice.pick(&ALPHABETS));
+/// The same for widths under wide: arrows, the degree sign, the soft hyphen, accented letters in and out of class A, a mark of
+/// the class.
+const WIDE_ALPHABETS: [&str; 4] = [
+    "\u{2192}a\n",
+    "a \t\u{2191}\u{B0}\u{301}\n",
+    "\u{2192}\u{3042}\u{E9}\u{E2} \t\n",
+    "\u{A1}\u{AD}\u{FFFD}\u{E000}\u{2E3A}b \n",
+];
+
+fn text(dice: &mut Dice, alphabets: &[&'static str]) -> Vec<u32> {
+    let alphabet = points(dice.pick(alphabets));
     let most = dice.pick(&[3, 8, 20, 60, 200]);
     let length = dice.below(most + 1);
     let mut text: Vec<u32> = (0..length).map(|_| dice.pick(&alphabet)).collect();
@@ -215,15 +224,17 @@ fn character(dice: &mut Dice, text: &[u32]) -> u32 {
 /// A random case of a call.
 pub fn random(call: &'static Call, dice: &mut Dice) -> Case {
     let mut case = Case::new(call);
+    let alphabets: &[&str] = if wide::stem(call.name).is_some() { &WIDE_ALPHABETS } else { &ALPHABETS };
     if case.takes(Input::Text) {
-        case.text = if case.takes(Input::Viewport) && dice.once_in(30) { long(dice) } else { text(dice) };
+        case.text = if case.takes(Input::Viewport) && dice.once_in(30) { long(dice) } else { text(dice, alphabets) };
         case.caret = caret(dice, &case.text);
         case.folds = folds(dice, &case.text);
     }
     if case.takes(Input::Line) {
-        case.line = text(dice);
+        case.line = text(dice, alphabets);
         if dice.once_in(30) {
-            case.line = vec![dice.pick(&[0x61, 0x3042, 9]); 40_000];
+            let widest = if wide::stem(call.name).is_some() { 0x2192 } else { 0x3042 };
+            case.line = vec![dice.pick(&[0x61, widest, 9]); 40_000];
         }
     }
     if case.takes(Input::Place) {
@@ -338,6 +349,14 @@ type Family = (&'static str, usize, bool);
 /// The families of a call.
 fn families(call: &Call) -> Vec<Family> {
     let takes = |input| call.takes.contains(&input);
+    if wide::stem(call.name).is_some() {
+        return match () {
+            _ if takes(Input::End) => vec![(WIDE_ROW, 4, false)],
+            _ if takes(Input::Line) => vec![(WIDE_ROW, 5, false)],
+            _ if takes(Input::Folds) => vec![("a\t\u{2192}\n", 5, false), ("a\t\u{2192}\n", 4, true)],
+            _ => vec![("", 0, false)],
+        };
+    }
     match call.name {
         "matching_bracket_pos" | "match_bracket" => vec![("()<>\n", 6, false), ("()[]a", 6, false)],
         "inner_pair" => ["()[]a\n", "[]{}a\n", "{}<>a\n", "<>()a\n"].map(|alphabet| (alphabet, 6, false)).to_vec(),
@@ -355,6 +374,7 @@ fn families(call: &Call) -> Vec<Family> {
 }
 
 const ROW: &str = "a \t\u{3000}\u{3042}\u{301}\u{1}";
+const WIDE_ROW: &str = "a \t\u{2192}\u{B0}\u{301}\u{3042}";
 
 /// Every list of up to six code points over these, and where plus signs are retired of up to seven over those.
 const LIST: &str = "@,-+049a_ \u{3000}";

@@ -4,7 +4,8 @@
 //! apart from it, `pairs`, `plus` and `kept` what document 02 adds on pairs, on plus signs and on screen moves that remember,
 //! from its words, `case` a call with its inputs as one line of text, `generate` cases from a seed and small families,
 //! `replay` the list that the program `replay` runs, `session` document 01's
-//! session over the given motions, `utf8` RFC 3629's tables and `std::str`.
+//! session over the given motions, `utf8` RFC 3629's tables and `std::str`, `wide` the calls on widths under the setting
+//! wide.
 
 pub mod calls;
 pub mod case;
@@ -16,6 +17,7 @@ pub mod refusals;
 pub mod replay;
 pub mod session;
 pub mod utf8;
+pub mod wide;
 
 /// Row, column and sticky column.
 #[derive(Clone, Copy, Debug, PartialEq, Eq, Default)]

@@ -9,7 +9,7 @@
 
 use crate::case::{CALLS, Call, Case, FILLER, Input};
 use crate::generate::{self, Dice};
-use crate::{Outcome, Wrap, utf8};
+use crate::{Outcome, Wrap, utf8, wide};
 
 const SEED: u64 = 9;
 
@@ -82,12 +82,22 @@ fn asked(k: &Case) -> Asked<'_> {
     Asked { head, places, text, folds, list: if group == 18 { own.to_vec() } else { list.to_vec() } }
 }
 
+/// What a host adds to the number of a call on widths: class A is wide.
+const WIDE: u32 = 256;
+
 /// Group, operation, and the numbers that it takes, in the order of the exports.
 fn numbers(k: &Case) -> (u32, u32, Vec<u32>) {
+    let Some(name) = wide::stem(k.call.name) else { return plain_numbers(k, k.call.name) };
+    let (group, op, numbers) = plain_numbers(k, name);
+    (group, op + WIDE, numbers)
+}
+
+/// The same by the name of a call without the flag.
+fn plain_numbers(k: &Case, name: &str) -> (u32, u32, Vec<u32>) {
     let (row, col, count) = (k.caret.row, k.caret.col, k.count);
     let (held, sticky) = (k.caret.sticky.is_some().into(), k.caret.sticky.unwrap_or(0));
     let caret = |more: &[u32]| [&[row, col, held, sticky], more].concat();
-    if let Some(op) = MOTIONS.iter().position(|name| *name == k.call.name) {
+    if let Some(op) = MOTIONS.iter().position(|motion| *motion == name) {
         return (8, op as u32, caret(&[count]));
     }
     let (x, at, tab) = (k.character, k.column, k.tabstop);
@@ -96,7 +106,7 @@ fn numbers(k: &Case) -> (u32, u32, Vec<u32>) {
     let upright = |op| (11, op, caret(&[count, tab, wrap, width]));
     let kept = |op| (18, op, caret(&[count, tab, wrap, width]));
     let edge = |op, offset| (12, op, caret(&[offset, top, height]));
-    match k.call.name {
+    match name {
         "is_scalar" => (0, 0, vec![x]),
         "is_white" => (0, 1, vec![x]),
         "is_letter" => (0, 2, vec![x]),

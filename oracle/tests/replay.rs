@@ -17,7 +17,7 @@ fn refusals(case: &Case) -> BTreeSet<u32> {
         (case.takes(Input::Tabstop), &[6]),
         (case.takes(Input::List), &[7]),
         (parsed, &[8]),
-        (case.call.name == "wrap_segments", &[9]),
+        (case.call.name.starts_with("wrap_segments"), &[9]),
         (case.takes(Input::Segments), &[10]),
         (case.call.name == "without_plus", &[14]),
         (matches!(case.call.name, "enter" | "enter_matches"), &[21]),

@@ -1,5 +1,7 @@
 // The screen moves that remember.
 use crate::upright::mode_of;
+use call_rows::plain_of;
+use call_rows::setting_of;
 use call_texts::Asked;
 use call_texts::caret_six;
 use call_texts::move_as;
@@ -8,29 +10,32 @@ use motions::Caret;
 use motions::Move;
 use motions::Moved;
 use row_wrap::Wrap;
+use widths::Ambiguous;
 ghost use mathlib.Core.Path.{_≡_};
 ghost use Rattle.call_bytes.specs.Reply.{Replied};
 ghost use Rattle.call_texts.specs.Carets.{caretSix};
 ghost use Rattle.call_folds.specs.Kept.{keptOf, screenKept, screensKept};
 
 // A screen move that remembers.
-fn asked(mode: Wrap, width: u16, down: bool) -> Asked
-    ensures { λ r. ⌜ r ≡ Asked.For (Move.ScreenKept mode width down) ⌝ }
+fn asked(mode: Wrap, width: u16, down: bool, ambiguous: Ambiguous) -> Asked
+    ensures { λ r. ⌜ r ≡ Asked.For (Move.ScreenKept mode width down ambiguous) ⌝ }
 {
     Asked::For(Move::ScreenKept {
         mode: mode,
         width: width,
         down: down,
+        ambiguous: ambiguous,
     })
 }
 
-// The move that a number stands for: 0 `move_screen_up_kept`, 1 `move_screen_down_kept`.
-fn kept_of(op: u32, mode: Wrap, width: u16) -> Asked
-    ensures { λ r. ⌜ r ≡ keptOf op mode width ⌝ }
+// The move that a number stands for under a setting: 0 `move_screen_up_kept`, 1
+// `move_screen_down_kept`.
+fn kept_of(op: u32, ambiguous: Ambiguous, mode: Wrap, width: u16) -> Asked
+    ensures { λ r. ⌜ r ≡ keptOf ambiguous op mode width ⌝ }
 {
     match op {
-        0 => asked(mode, width, false),
-        1 => asked(mode, width, true),
+        0 => asked(mode, width, false, ambiguous),
+        1 => asked(mode, width, true, ambiguous),
         _ => Asked::Nothing,
     }
 }
@@ -53,11 +58,20 @@ fn kept_by(
         return Moved::Refused(100);
     }
     let w = mode_of(mode);
-    move_as(kept_of(op, w, width), k, t, folds, &t[..0], tabstop, count)
+    let plain = plain_of(op);
+    move_as(
+        kept_of(plain, setting_of(op), w, width),
+        k,
+        t,
+        folds,
+        &t[..0],
+        tabstop,
+        count,
+    )
 }
 
 // A screen move that remembers over a text of code points, with folds. The caret is six numbers, in
-// and out.
+// and out; the number may have the flag for wide.
 pub fn screen_kept(
     op: u32,
     text: &[u32],

@@ -1,4 +1,6 @@
 // Up, down and the screen.
+use call_rows::plain_of;
+use call_rows::setting_of;
 use call_texts::Asked;
 use call_texts::caret_of;
 use call_texts::move_as;
@@ -7,6 +9,7 @@ use motions::Caret;
 use motions::Move;
 use motions::Moved;
 use row_wrap::Wrap;
+use widths::Ambiguous;
 ghost use mathlib.Core.Path.{_≡_};
 ghost use Rattle.call_bytes.specs.Reply.{Replied};
 ghost use Rattle.call_texts.specs.Carets.{caretOf};
@@ -26,26 +29,37 @@ pub(crate) fn mode_of(mode: u32) -> Wrap
 }
 
 // A screen motion.
-fn screen(mode: Wrap, width: u16, down: bool) -> Asked
-    ensures { λ r. ⌜ r ≡ Asked.For (Move.Screen mode width down) ⌝ }
+fn screen(mode: Wrap, width: u16, down: bool, ambiguous: Ambiguous) -> Asked
+    ensures { λ r. ⌜ r ≡ Asked.For (Move.Screen mode width down ambiguous) ⌝ }
 {
     Asked::For(Move::Screen {
         mode: mode,
         width: width,
         down: down,
+        ambiguous: ambiguous,
     })
 }
 
-// The motion that a number stands for: 0 `move_up`, 1 `move_down`, 2 `move_screen_up`, 3
+// Up or down.
+fn rows(down: bool, ambiguous: Ambiguous) -> Asked
+    ensures { λ r. ⌜ r ≡ Asked.For (Move.Rows down ambiguous) ⌝ }
+{
+    Asked::For(Move::Rows {
+        down: down,
+        ambiguous: ambiguous,
+    })
+}
+
+// The motion that a number stands for under a setting: 0 `move_up`, 1 `move_down`, 2 `move_screen_up`, 3
 // `move_screen_down`.
-fn upright_of(op: u32, mode: Wrap, width: u16) -> Asked
-    ensures { λ r. ⌜ r ≡ uprightOf op mode width ⌝ }
+fn upright_of(op: u32, ambiguous: Ambiguous, mode: Wrap, width: u16) -> Asked
+    ensures { λ r. ⌜ r ≡ uprightOf ambiguous op mode width ⌝ }
 {
     match op {
-        0 => Asked::For(Move::Rows { down: false }),
-        1 => Asked::For(Move::Rows { down: true }),
-        2 => screen(mode, width, false),
-        3 => screen(mode, width, true),
+        0 => rows(false, ambiguous),
+        1 => rows(true, ambiguous),
+        2 => screen(mode, width, false, ambiguous),
+        3 => screen(mode, width, true, ambiguous),
         _ => Asked::Nothing,
     }
 }
@@ -68,8 +82,9 @@ fn vertical_by(
         return Moved::Refused(100);
     }
     let w = mode_of(mode);
+    let plain = plain_of(op);
     move_as(
-        upright_of(op, w, width),
+        upright_of(plain, setting_of(op), w, width),
         k,
         t,
         folds,
@@ -79,7 +94,8 @@ fn vertical_by(
     )
 }
 
-// A vertical or screen motion over a text of code points, with folds.
+// A vertical or screen motion over a text of code points, with folds; the number may have the flag
+// for wide.
 pub fn vertical(
     op: u32,
     text: &[u32],

@@ -3,24 +3,25 @@ use mathlib.Core.Path.{_≡_, ap, subst, _∙_}
 use mathlib.Core.List.{List}
 use Prim.Native.Nat.{ℕ, _≤_, _<_}
 use borrow.Author.Tests.{le-leb, lt-leb}
+use Rattle.widths.specs.declared.Ambiguous.{Ambiguous}
 use Rattle.row_wrap.specs.declared.Wrap.{Wrap}
 use Rattle.row_wrap.specs.declared.Segments.{Segments}
 use Rattle.row_wrap.specs.Calls.{Wraps}
 use Rattle.call_bytes.specs.declared.Told.{Told}
 use Rattle.call_bytes.specs.declared.Told.the-variants.{Refused}
-use Rattle.call_rows.specs.Wraps.{modeOf, segmented, segmentsLeft, toldSegments, Segmented}
+use Rattle.call_rows.specs.Wraps.{modeOf, segmentedUnder, leftUnder, toldSegments, Segmented}
 
-module _ {mode width : ℕ} {row segments : List ℕ} where
+module _ {a : Ambiguous} {mode width : ℕ} {row segments : List ℕ} where
   -- a mode's own call
   pub segmented-by :
-      {m : Segments} {r : Told} {segments′ : List ℕ} {by : Wrap} → by ≡ modeOf mode → mode ≤ 2 → Wraps by width row segments m segments′ →
-      r ≡ toldSegments m → Segmented mode width row segments r segments′
-  unfolding segmented segmentsLeft
+      {m : Segments} {r : Told} {segments′ : List ℕ} {by : Wrap} → by ≡ modeOf mode → mode ≤ 2 → Wraps a by width row segments m segments′ →
+      r ≡ toldSegments m → Segmented a mode width row segments r segments′
+  unfolding segmentedUnder leftUnder
   segmented-by {m} {r} {segments′} e h w q =
-      let v = subst (λ (x : Wrap). Wraps x width row segments m segments′) e w in
+      let v = subst (λ (x : Wrap). Wraps a x width row segments m segments′) e w in
       record { answers = rw (le-leb mode 2 h) (q ∙ ap toldSegments (v .answer)); leaves = rw (le-leb mode 2 h) (v .left) }
 
   -- a number that stands for no mode
-  pub segmented-none : 2 < mode → Segmented mode width row segments (Refused 100) segments
-  unfolding segmented segmentsLeft
+  pub segmented-none : 2 < mode → Segmented a mode width row segments (Refused 100) segments
+  unfolding segmentedUnder leftUnder
   segmented-none h = record { answers = rw (lt-leb mode 2 h); leaves = rw (lt-leb mode 2 h) }

@@ -5,7 +5,8 @@ use lib.Dec.{eqb}
 use Rattle.chars.specs.Scalar.{isScalar}
 use Rattle.chars.specs.White.{isWhite}
 use Rattle.letters.specs.Letters.{isLetter}
-use Rattle.chars.specs.Width.{widthOf}
+use Rattle.widths.specs.declared.Ambiguous.the-variants.{Narrow, Wide}
+use Rattle.widths.specs.Widths.{widthAs}
 use Rattle.call_bytes.specs.Reply.{bit}
 use Rattle.call_bytes.specs.declared.Told.{Told}
 use Rattle.call_bytes.specs.declared.Told.the-variants.{Value, Refused}
@@ -20,5 +21,6 @@ fact op x =
     cond (eqb op 0) (Value (bit (isScalar x)))
     (cond (eqb op 1) (tested x (bit (isWhite x)))
     (cond (eqb op 2) (tested x (bit (isLetter x)))
-    (cond (eqb op 3) (tested x (widthOf x))
-    (Refused 100))))
+    (cond (eqb op 3) (tested x (widthAs Narrow x))
+    (cond (eqb op 259) (tested x (widthAs Wide x))
+    (Refused 100)))))

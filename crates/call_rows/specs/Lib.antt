@@ -1,4 +1,5 @@
 pub mod Characters
+pub mod Flags
 pub mod Lists
 pub mod Tabs
 pub mod Wraps

@@ -1,13 +1,16 @@
 // Segments of one row.
+use crate::flags::plain_of;
+use crate::flags::setting_of;
 use crate::tabs::told_column;
 use call_bytes::Told;
 use call_bytes::reply;
 use row_offsets::Segment;
 use row_wrap::Segments;
 use row_wrap::Wrap;
+use widths::Ambiguous;
 ghost use mathlib.Core.Path.{_≡_};
 ghost use Rattle.call_bytes.specs.Reply.{Replied, told};
-ghost use Rattle.call_rows.specs.Wraps.{toldSegment, toldSegments, offset, segmentOf};
+ghost use Rattle.call_rows.specs.Wraps.{toldSegment, toldSegments, offsetUnder, segmentOf};
 ghost use Rattle.call_rows.specs.Wraps.{offsets as Wraps·offsets};
 ghost use Rattle.call_rows.specs.Wraps.{segmented, segmentsLeft, Segmented};
 
@@ -36,22 +39,23 @@ fn told_segments(m: Segments) -> Told
 
 // What a number stands for: 0 `char_col_for_visual_offset` of the segment from start to end, 1
 // `visual_offset_for_char_col`, which takes no end; 100 where it stands for none.
-fn offset_by(op: u32, row: &[u32], start: u32, end: u32, at: u32) -> Told
-    ensures { λ r. ⌜ r ≡ offset op start end at (now (row .entry)) ⌝ }
+fn offset_by(op: u32, ambiguous: Ambiguous, row: &[u32], start: u32, end: u32, at: u32) -> Told
+    ensures { λ r. ⌜ r ≡ offsetUnder ambiguous op start end at (now (row .entry)) ⌝ }
 {
     match op {
-        0 => told_column(row_offsets::char_col_for_visual_offset(row, start, end, at)),
-        1 => told_column(row_offsets::visual_offset_for_char_col(row, start, at)),
+        0 => told_column(row_offsets::char_col_for_visual_offset(row, start, end, at, ambiguous)),
+        1 => told_column(row_offsets::visual_offset_for_char_col(row, start, at, ambiguous)),
         _ => Told::Refused(100),
     }
 }
 
-// Cells within a segment of a row of code points.
+// Cells within a segment of a row of code points; the number may have the flag for wide.
 pub fn offsets(op: u32, row: &[u32], start: u32, end: u32, at: u32, out: &mut [u32; 1]) -> u32
     ensures { λ r. ⌜ Replied (Wraps·offsets op start end at (now (row .entry))) (now (out .entry)) r
         (now (out .exit)) ⌝ }
 {
-    reply(offset_by(op, row, start, end, at), out)
+    let plain = plain_of(op);
+    reply(offset_by(plain, setting_of(op), row, start, end, at), out)
 }
 
 // `segment_for_col` on numbers.
@@ -66,19 +70,25 @@ pub fn segment_for_col(segments: &[u32], col: u32, out: &mut [u32; 1]) -> u32
 }
 
 // `wrap_segments` by the number of a mode: 0 None, 1 Char, 2 Word; 100 for another.
-fn segments_by(mode: u32, row: &[u32], width: u16, segments: &mut [u32]) -> Told
-    ensures { λ r. ⌜ Segmented mode width (now (row .entry)) (now (segments .entry)) r
+fn segments_by(
+    mode: u32,
+    ambiguous: Ambiguous,
+    row: &[u32],
+    width: u16,
+    segments: &mut [u32],
+) -> Told
+    ensures { λ r. ⌜ Segmented ambiguous mode width (now (row .entry)) (now (segments .entry)) r
         (now (segments .exit)) ⌝ }
 {
     match mode {
-        0 => told_segments(row_wrap::wrap_segments(row, width, Wrap::None, segments)),
-        1 => told_segments(row_wrap::wrap_segments(row, width, Wrap::Char, segments)),
-        2 => told_segments(row_wrap::wrap_segments(row, width, Wrap::Word, segments)),
+        0 => told_segments(row_wrap::wrap_segments(row, width, Wrap::None, ambiguous, segments)),
+        1 => told_segments(row_wrap::wrap_segments(row, width, Wrap::Char, ambiguous, segments)),
+        2 => told_segments(row_wrap::wrap_segments(row, width, Wrap::Word, ambiguous, segments)),
         _ => Told::Refused(100),
     }
 }
 
-// `wrap_segments` on code points.
+// `wrap_segments` on code points; the number of the mode may have the flag for wide.
 pub fn wrap_segments(
     mode: u32,
     row: &[u32],
@@ -91,5 +101,9 @@ pub fn wrap_segments(
     ensures { λ _. ⌜ now (segments .exit) ≡ segmentsLeft mode width (now (segments .entry))
         (now (row .entry)) ⌝ }
 {
-    reply(segments_by(mode, row, width, segments), out)
+    let plain = plain_of(mode);
+    reply(
+        segments_by(plain, setting_of(mode), row, width, segments),
+        out,
+    )
 }

@@ -60,9 +60,9 @@ module _ (t folds : List ℕ) (tabstop : ℕ) (k : Caret) (e : Entry) (is : e �
   checked-ready (Word m big stop) z =
       let right = good (foldsOf m folds) z in
       ready (Word m big stop) (right .0) (right .1)
-  checked-ready (Rows down) z = by-stop (Rows down) z (λ h. h)
-  checked-ready (Screen mode width down) z = by-stop (Screen mode width down) z (λ h. h)
-  checked-ready (ScreenKept mode width down) z = by-stop (ScreenKept mode width down) z (λ h. h)
+  checked-ready (Rows down a) z = by-stop (Rows down a) z (λ h. h)
+  checked-ready (Screen mode width down a) z = by-stop (Screen mode width down a) z (λ h. h)
+  checked-ready (ScreenKept mode width down a) z = by-stop (ScreenKept mode width down a) z (λ h. h)
   checked-ready (Viewport edge top height offset) z = ready (Viewport edge top height offset) z tt
   checked-ready Bracket z = ready Bracket z tt
   checked-ready (Find x forward till skip) z = ready (Find x forward till skip) (sought-none (e .refusal) (isScalar x) z) tt

@@ -64,9 +64,9 @@ module _ (t folds list : List ℕ) (tabstop : ℕ) (n : ℕ) (k : Caret) (e : En
   pub goes-by : (m : Move) → goes t folds list tabstop m n k ≡ seeking (checked e folds tabstop m) (walks t folds list tabstop m n k)
   goes-by (By w) = found-moving _ _ ∙ numbered _ (entry-number t (here k) e is)
   goes-by (Word m big stop) = found-moving _ _ ∙ listed (foldsOf m folds) (Found (wordCaret t (foldsOf m folds) (inList list) big m stop n k))
-  goes-by (Rows down) = found-moving _ _ ∙ numbered _ (stop-number t folds tabstop k e is)
-  goes-by (Screen mode width down) = found-moving _ _ ∙ numbered _ (stop-number t folds tabstop k e is)
-  goes-by (ScreenKept mode width down) = found-moving _ _ ∙ numbered _ (stop-number t folds tabstop k e is)
+  goes-by (Rows down a) = found-moving _ _ ∙ numbered _ (stop-number t folds tabstop k e is)
+  goes-by (Screen mode width down a) = found-moving _ _ ∙ numbered _ (stop-number t folds tabstop k e is)
+  goes-by (ScreenKept mode width down a) = found-moving _ _ ∙ numbered _ (stop-number t folds tabstop k e is)
   goes-by (Viewport edge top height offset) = found-moving _ _ ∙ numbered _ (entry-number t (here k) e is)
   goes-by Bracket = numbered _ (entry-number t (here k) e is)
   goes-by (Find x forward till skip) = numbered _ (sought-number t (here k) e is x)
@@ -75,9 +75,9 @@ module _ (t folds list : List ℕ) (tabstop : ℕ) (n : ℕ) (k : Caret) where
   pub landed-goes : (m : Move) → landed (goes t folds list tabstop m n k) ≡ movedBy t folds list tabstop m n k
   landed-goes (By w) = landed-found _
   landed-goes (Word motion big stop) = landed-found _
-  landed-goes (Rows down) = landed-found _
-  landed-goes (Screen mode width down) = landed-found _
-  landed-goes (ScreenKept mode width down) = landed-found _
+  landed-goes (Rows down a) = landed-found _
+  landed-goes (Screen mode width down a) = landed-found _
+  landed-goes (ScreenKept mode width down a) = landed-found _
   landed-goes (Viewport edge top height offset) = landed-found _
   landed-goes Bracket = refl
   landed-goes (Find x forward till skip) = refl

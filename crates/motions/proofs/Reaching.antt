@@ -3,7 +3,8 @@ use mathlib.Core.Path.{_≡_}
 use mathlib.Core.List.{List, [], _∷_}
 use mathlib.Core.Bool.{Bool}
 use Prim.Native.Nat.{ℕ}
-use Rattle.chars.specs.Width.{widthOf}
+use Rattle.widths.specs.declared.Ambiguous.{Ambiguous}
+use Rattle.widths.specs.Widths.{widthAs}
 use Rattle.text_check.specs.Accept.{textRefusal}
 use Rattle.text.specs.Text.{rowCount}
 use Rattle.folds.specs.Folds.{foldRefusal}
@@ -24,26 +25,27 @@ module _ (t folds : List ℕ) (tabstop : ℕ) (k : Caret) where
   pub own : verticalRefusal t folds tabstop k ≡ 0 → Inside t k
   own z = caret-in t k (textRefusal t) (foldRefusal folds (rowCount t) ∷ stopRefusal tabstop ∷ []) z
 
-  pub rows-lands : (down : Bool) (count : ℕ) → Lands t (moveRows t folds tabstop down count k)
-  rows-lands down count =
+  pub rows-lands : (a : Ambiguous) (down : Bool) (count : ℕ) → Lands t (moveRows a t folds tabstop down count k)
+  rows-lands a down count =
       moving-lands t (verticalRefusal t folds tabstop k) _ (λ z.
       let i = own z in
-      let r = rows-inside widthOf t folds tabstop (k .row) (k .col) (k .sticky) (deltaOf down count) (record { in-row = i .in-row; in-col = i .in-col }) in
+      let r = rows-inside (widthAs a) t folds tabstop (k .row) (k .col) (k .sticky) (deltaOf down count) (record { in-row = i .in-row; in-col = i .in-col }) in
       record { in-row = r .in-row; in-col = r .in-col })
 
-  pub screen-lands : (mode : Wrap) (width : ℕ) (down : Bool) (count : ℕ) → Lands t (moveScreenRows t folds tabstop mode width down count k)
-  screen-lands mode width down count =
+  pub screen-lands : (a : Ambiguous) (mode : Wrap) (width : ℕ) (down : Bool) (count : ℕ) → Lands t (moveScreenRows a t folds tabstop mode width down count k)
+  screen-lands a mode width down count =
       moving-lands t (verticalRefusal t folds tabstop k) _ (λ z.
       let i = own z in
-      let r = move-inside widthOf t folds tabstop (k .row) (k .col) (k .sticky) mode width down count
+      let r = move-inside (widthAs a) t folds tabstop (k .row) (k .col) (k .sticky) mode width down count
       (record { in-row = i .in-row; in-col = i .in-col }) in
       record { in-row = r .in-row; in-col = r .in-col })
 
-  pub kept-lands : (mode : Wrap) (width : ℕ) (down : Bool) (count : ℕ) → Lands t (moveScreenRowsKept t folds tabstop mode width down count k)
-  kept-lands mode width down count =
+  pub kept-lands : (a : Ambiguous) (mode : Wrap) (width : ℕ) (down : Bool) (count : ℕ) →
+      Lands t (moveScreenRowsKept a t folds tabstop mode width down count k)
+  kept-lands a mode width down count =
       moving-lands t (verticalRefusal t folds tabstop k) _ (λ z.
       let i = own z in
-      let r = kept-inside widthOf t folds tabstop (k .row) (k .col) (k .sticky) (k .offset) mode width down count
+      let r = kept-inside (widthAs a) t folds tabstop (k .row) (k .col) (k .sticky) (k .offset) mode width down count
       (record { in-row = i .in-row; in-col = i .in-col }) in
       record { in-row = r .in-row; in-col = r .in-col })
 

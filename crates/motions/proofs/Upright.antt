@@ -4,7 +4,8 @@ use mathlib.Core.List.{List}
 use mathlib.Core.Bool.{Bool}
 use Prim.Native.Nat.{ℕ, _≤_, _<_, _^_}
 use native.Mathlib.Omega.{arith}
-use Rattle.chars.specs.Width.{widthOf}
+use Rattle.widths.specs.declared.Ambiguous.{Ambiguous}
+use Rattle.widths.specs.Widths.{widthAs}
 use Rattle.text.specs.Text.{rowCount}
 use Rattle.text.proofs.Parts.{count-le, row-fits}
 use Rattle.folds.specs.Folds.{foldRefusal}
@@ -36,13 +37,13 @@ upright-ready t folds tabstop k e a good h =
 
 -- the target is in the text, so that its numbers fit a u32
 pub target-fits : {t folds : List ℕ} {tabstop start : ℕ} (k : Caret) → Upright t folds tabstop k start →
-    (mode : Wrap) (width : ℕ) (down : Bool) (count : ℕ) (offset : Offset) (p : Kept) →
-    p ≡ moveScreenKept widthOf t folds tabstop mode width down count (k .row) (k .col) (k .sticky) offset →
+    (a : Ambiguous) (mode : Wrap) (width : ℕ) (down : Bool) (count : ℕ) (offset : Offset) (p : Kept) →
+    p ≡ moveScreenKept (widthAs a) t folds tabstop mode width down count (k .row) (k .col) (k .sticky) offset →
     (p .target .row < 2 ^ 32) × (p .target .col < 2 ^ 32)
-target-fits {t} {folds} {tabstop} {start} k h mode width down count offset p e =
+target-fits {t} {folds} {tabstop} {start} k h a mode width down count offset p e =
     let own : Inside t (k .row) (k .col) = record { in-row = h .here .in-row; in-col = omega (arith, h .here .in-col) } in
-    let q = moveScreenKept widthOf t folds tabstop mode width down count (k .row) (k .col) (k .sticky) offset .target in
-    let i = kept-inside widthOf t folds tabstop (k .row) (k .col) (k .sticky) offset mode width down count own in
+    let q = moveScreenKept (widthAs a) t folds tabstop mode width down count (k .row) (k .col) (k .sticky) offset .target in
+    let i = kept-inside (widthAs a) t folds tabstop (k .row) (k .col) (k .sticky) offset mode width down count own in
     let row = ap (λ (x : Kept). x .target .row) e in
     let col = ap (λ (x : Kept). x .target .col) e in (
       omega (arith, row, i .in-row, count-le t, h .row-good .brief),

@@ -26,9 +26,9 @@ orStop f tabstop = cond (eqb f 0) (stopRefusal tabstop) f
 abbrev pub checked : Entry → List ℕ → ℕ → Move → ℕ
 checked e folds tabstop (By w) = e .refusal
 checked e folds tabstop (Word m big stop) = orFolds e (foldsOf m folds)
-checked e folds tabstop (Rows down) = orStop (orFolds e folds) tabstop
-checked e folds tabstop (Screen mode width down) = orStop (orFolds e folds) tabstop
-checked e folds tabstop (ScreenKept mode width down) = orStop (orFolds e folds) tabstop
+checked e folds tabstop (Rows down a) = orStop (orFolds e folds) tabstop
+checked e folds tabstop (Screen mode width down a) = orStop (orFolds e folds) tabstop
+checked e folds tabstop (ScreenKept mode width down a) = orStop (orFolds e folds) tabstop
 checked e folds tabstop (Viewport edge top height offset) = e .refusal
 checked e folds tabstop Bracket = e .refusal
 checked e folds tabstop (Find x forward till skip) = orSought (e .refusal) (isScalar x)
@@ -37,9 +37,9 @@ checked e folds tabstop (Find x forward till skip) = orSought (e .refusal) (isSc
 abbrev pub Takes : List ℕ → List ℕ → ℕ → Move → Type 0
 Takes t folds tabstop (By w) = Unit
 Takes t folds tabstop (Word m big stop) = foldRefusal (foldsOf m folds) (rowCount t) ≡ 0
-Takes t folds tabstop (Rows down) = (foldRefusal folds (rowCount t) ≡ 0) × (tabstop ≤ 1000)
-Takes t folds tabstop (Screen mode width down) = (foldRefusal folds (rowCount t) ≡ 0) × (tabstop ≤ 1000)
-Takes t folds tabstop (ScreenKept mode width down) = (foldRefusal folds (rowCount t) ≡ 0) × (tabstop ≤ 1000)
+Takes t folds tabstop (Rows down a) = (foldRefusal folds (rowCount t) ≡ 0) × (tabstop ≤ 1000)
+Takes t folds tabstop (Screen mode width down a) = (foldRefusal folds (rowCount t) ≡ 0) × (tabstop ≤ 1000)
+Takes t folds tabstop (ScreenKept mode width down a) = (foldRefusal folds (rowCount t) ≡ 0) × (tabstop ≤ 1000)
 Takes t folds tabstop (Viewport edge top height offset) = Unit
 Takes t folds tabstop Bracket = Unit
 Takes t folds tabstop (Find x forward till skip) = Unit

@@ -1,10 +1,11 @@
--- Up, down and the screen on carets: the refusals of a call, and where the walks of `vertical` and `screen` lead to by today's tables of widths.
+-- Up, down and the screen on carets: the refusals of a call, and where the walks of `vertical` and `screen` lead to by the widths of a setting.
 -- Motions.rs, "Vertical motions". Definitions only; the laws are in `proofs/Upright.antt`. Assumes nothing.
 use Prim.Native.Nat.{ℕ}
 use mathlib.Core.List.{List, [], _∷_}
 use mathlib.Core.Bool.{Bool, cond}
 use lib.Dec.{ltb}
-use Rattle.chars.specs.Width.{widthOf}
+use Rattle.widths.specs.declared.Ambiguous.{Ambiguous}
+use Rattle.widths.specs.Widths.{widthAs}
 use Rattle.text_check.specs.Accept.{textRefusal}
 use Rattle.text.specs.Text.{rowCount}
 use Rattle.folds.specs.Folds.{foldRefusal}
@@ -34,25 +35,26 @@ abbrev pub atTarget : Target → Caret
 atTarget p = caretAt (p .row) (p .col) (At (p .want))
 
 -- `j` and `k`
-abbrev pub moveRows : List ℕ → List ℕ → ℕ → Bool → ℕ → Caret → Moved
-moveRows t folds tabstop down count k =
-    moving (verticalRefusal t folds tabstop k) (atTarget (moveVertical widthOf t folds tabstop (deltaOf down count) (k .row) (k .col) (k .sticky)))
+abbrev pub moveRows : Ambiguous → List ℕ → List ℕ → ℕ → Bool → ℕ → Caret → Moved
+moveRows a t folds tabstop down count k =
+    moving (verticalRefusal t folds tabstop k) (atTarget (moveVertical (widthAs a) t folds tabstop (deltaOf down count) (k .row) (k .col) (k .sticky)))
 
 -- `gj` and `gk`
-abbrev pub screenCaret : List ℕ → List ℕ → ℕ → Wrap → ℕ → Bool → ℕ → Caret → Caret
-screenCaret t folds tabstop mode width down count k = atTarget (moveScreen widthOf t folds tabstop mode width down count (k .row) (k .col) (k .sticky))
+abbrev pub screenCaret : Ambiguous → List ℕ → List ℕ → ℕ → Wrap → ℕ → Bool → ℕ → Caret → Caret
+screenCaret a t folds tabstop mode width down count k =
+    atTarget (moveScreen (widthAs a) t folds tabstop mode width down count (k .row) (k .col) (k .sticky))
 
-abbrev pub moveScreenRows : List ℕ → List ℕ → ℕ → Wrap → ℕ → Bool → ℕ → Caret → Moved
-moveScreenRows t folds tabstop mode width down count k = moving (verticalRefusal t folds tabstop k) (screenCaret t folds tabstop mode width down count k)
+abbrev pub moveScreenRows : Ambiguous → List ℕ → List ℕ → ℕ → Wrap → ℕ → Bool → ℕ → Caret → Moved
+moveScreenRows a t folds tabstop mode width down count k = moving (verticalRefusal t folds tabstop k) (screenCaret a t folds tabstop mode width down count k)
 
 -- `gj` and `gk` that remember: the caret's own offset goes in, and the one that was kept is the caret's from then on
 abbrev pub atKept : Kept → Caret
 atKept p = caretWith (p .target .row) (p .target .col) (At (p .target .want)) (p .offset)
 
-abbrev pub keptCaret : List ℕ → List ℕ → ℕ → Wrap → ℕ → Bool → ℕ → Caret → Caret
-keptCaret t folds tabstop mode width down count k =
-    atKept (moveScreenKept widthOf t folds tabstop mode width down count (k .row) (k .col) (k .sticky) (k .offset))
+abbrev pub keptCaret : Ambiguous → List ℕ → List ℕ → ℕ → Wrap → ℕ → Bool → ℕ → Caret → Caret
+keptCaret a t folds tabstop mode width down count k =
+    atKept (moveScreenKept (widthAs a) t folds tabstop mode width down count (k .row) (k .col) (k .sticky) (k .offset))
 
-abbrev pub moveScreenRowsKept : List ℕ → List ℕ → ℕ → Wrap → ℕ → Bool → ℕ → Caret → Moved
-moveScreenRowsKept t folds tabstop mode width down count k =
-    moving (verticalRefusal t folds tabstop k) (keptCaret t folds tabstop mode width down count k)
+abbrev pub moveScreenRowsKept : Ambiguous → List ℕ → List ℕ → ℕ → Wrap → ℕ → Bool → ℕ → Caret → Moved
+moveScreenRowsKept a t folds tabstop mode width down count k =
+    moving (verticalRefusal t folds tabstop k) (keptCaret a t folds tabstop mode width down count k)

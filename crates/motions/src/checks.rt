@@ -52,16 +52,21 @@ pub(crate) fn checks(e: Entry, folds: &[u32], tabstop: u32, m: Move) -> u32
             let n = taken(motion, folds);
             or_folds(e, &folds[..n])
         }
-        Move::Rows { down: _ } => or_stop(or_folds(e, folds), tabstop),
+        Move::Rows {
+            down: _,
+            ambiguous: _,
+        } => { or_stop(or_folds(e, folds), tabstop) }
         Move::Screen {
             mode: _,
             width: _,
             down: _,
+            ambiguous: _,
         } => { or_stop(or_folds(e, folds), tabstop) }
         Move::ScreenKept {
             mode: _,
             width: _,
             down: _,
+            ambiguous: _,
         } => { or_stop(or_folds(e, folds), tabstop) }
         Move::Viewport {
             edge: _,

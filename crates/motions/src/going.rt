@@ -64,14 +64,54 @@ impl Caret {
             Move::Word { motion, big, stop } => {
                 self.by_list(t, folds, list, e, motion, big, stop, count)
             }
-            Move::Rows { down } => {
-                Sought::Found(self.to_row(t, folds, tabstop, e, Wrap::None, 0, down, count))
+            Move::Rows { down, ambiguous } => {
+                Sought::Found(self.to_row(
+                    t,
+                    folds,
+                    tabstop,
+                    e,
+                    Wrap::None,
+                    0,
+                    down,
+                    count,
+                    ambiguous,
+                ))
             }
-            Move::Screen { mode, width, down } => {
-                Sought::Found(self.to_row(t, folds, tabstop, e, mode, width, down, count))
+            Move::Screen {
+                mode,
+                width,
+                down,
+                ambiguous,
+            } => {
+                Sought::Found(self.to_row(
+                    t,
+                    folds,
+                    tabstop,
+                    e,
+                    mode,
+                    width,
+                    down,
+                    count,
+                    ambiguous,
+                ))
             }
-            Move::ScreenKept { mode, width, down } => {
-                Sought::Found(self.to_row_kept(t, folds, tabstop, e, mode, width, down, count))
+            Move::ScreenKept {
+                mode,
+                width,
+                down,
+                ambiguous,
+            } => {
+                Sought::Found(self.to_row_kept(
+                    t,
+                    folds,
+                    tabstop,
+                    e,
+                    mode,
+                    width,
+                    down,
+                    count,
+                    ambiguous,
+                ))
             }
             Move::Viewport {
                 edge,

@@ -9,6 +9,7 @@ use text::Position;
 use text_moves::Way;
 use vertical::Edge;
 use vertical::Sticky;
+use widths::Ambiguous;
 use word_rounds::Motion;
 ghost use mathlib.Core.Path.{_≡_};
 ghost use Prim.Native.Nat.{_<_, _^_};
@@ -19,6 +20,7 @@ mod checks;
 mod finds;
 mod going;
 mod rows;
+mod settings;
 mod up_down;
 mod viewport_moves;
 mod within;
@@ -60,20 +62,23 @@ pub enum Move {
         big: bool,
         stop: bool,
     },
-    // By visible rows, and by segments. They take folds and a tabstop.
+    // By visible rows, and by segments. They take folds and a tabstop, and a setting for widths.
     Rows {
         down: bool,
+        ambiguous: Ambiguous,
     },
     Screen {
         mode: Wrap,
         width: u16,
         down: bool,
+        ambiguous: Ambiguous,
     },
     // By segments with the caret's offset, which is kept.
     ScreenKept {
         mode: Wrap,
         width: u16,
         down: bool,
+        ambiguous: Ambiguous,
     },
     // To an edge of a viewport.
     Viewport {

@@ -1,20 +1,22 @@
 // `j`, `k`, `gj` and `gk`: motions.rs, "Vertical motions". The walks are those of `screen`, which
-// are lent the tables of widths. `j` and `k` are the screen moves of a viewport that doesn't wrap.
+// are lent the tables of a setting. `j` and `k` are the screen moves of a viewport that doesn't wrap.
 // And the screen moves that remember their offset within a segment (document 02, #110).
 use crate::Caret;
 use crate::Move;
 use crate::Moved;
 use crate::caret_at;
+use crate::settings::walk_as;
 use positions::Entry;
 use row_wrap::Wrap;
 use screen::Kept;
 use screen::Offset;
 use text::Line;
 use vertical::Sticky;
+use widths::Ambiguous;
 ghost use mathlib.Core.Path.{_≡_};
 ghost use mathlib.Core.Bool.{true, false};
 ghost use Prim.Native.Nat.{_≤_};
-ghost use Rattle.chars.specs.Width.{widthOf};
+ghost use Rattle.widths.specs.Widths.{widthAs};
 ghost use Rattle.text.specs.Text.{rowCount};
 ghost use Rattle.folds.specs.Folds.{foldRefusal};
 ghost use Rattle.positions.specs.Positions.{Accepted};
@@ -36,20 +38,21 @@ impl Caret {
         down: bool,
         count: u32,
         offset: Offset,
+        ambiguous: Ambiguous,
     ) -> Kept
         requires { ⌜ Accepted (now t) (here self) e ×
             (foldRefusal (now folds) (rowCount (now t)) ≡ 0) × (tabstop ≤ 1000) ⌝ }
-        ensures { λ r. ⌜ r ≡ moveScreenKept widthOf (now (t .entry)) (now (folds .entry)) tabstop
-            mode width down count (self .row) (self .col) (self .sticky) offset ⌝ }
+        ensures { λ r. ⌜ r ≡ moveScreenKept (widthAs ambiguous) (now (t .entry))
+            (now (folds .entry)) tabstop mode width down count (self .row) (self .col)
+            (self .sticky) offset ⌝ }
     {
         let l = Line {
             row: self.row as usize,
             start: e.start,
         };
         let s = self.sticky;
-        screen::wrapped::move_screen(
-            &chars::ZERO_WIDTH,
-            &chars::DOUBLE_WIDTH,
+        walk_as(
+            ambiguous,
             t,
             folds,
             e.rows,
@@ -77,14 +80,26 @@ impl Caret {
         width: u16,
         down: bool,
         count: u32,
+        ambiguous: Ambiguous,
     ) -> Caret
         requires { ⌜ Accepted (now t) (here self) e ×
             (foldRefusal (now folds) (rowCount (now t)) ≡ 0) × (tabstop ≤ 1000) ⌝ }
-        ensures { λ r. ⌜ r ≡ screenCaret (now (t .entry)) (now (folds .entry)) tabstop mode width
-            down count self ⌝ }
+        ensures { λ r. ⌜ r ≡ screenCaret ambiguous (now (t .entry)) (now (folds .entry)) tabstop
+            mode width down count self ⌝ }
     {
         let none = Offset::Absent;
-        let k = self.led(t, folds, tabstop, e, mode, width, down, count, none);
+        let k = self.led(
+            t,
+            folds,
+            tabstop,
+            e,
+            mode,
+            width,
+            down,
+            count,
+            none,
+            ambiguous,
+        );
         let p = k.target;
         caret_at(p.row, p.col, Sticky::At(p.want))
     }
@@ -100,40 +115,79 @@ impl Caret {
         width: u16,
         down: bool,
         count: u32,
+        ambiguous: Ambiguous,
     ) -> Caret
         requires { ⌜ Accepted (now t) (here self) e ×
             (foldRefusal (now folds) (rowCount (now t)) ≡ 0) × (tabstop ≤ 1000) ⌝ }
-        ensures { λ r. ⌜ r ≡ keptCaret (now (t .entry)) (now (folds .entry)) tabstop mode width
-            down count self ⌝ }
+        ensures { λ r. ⌜ r ≡ keptCaret ambiguous (now (t .entry)) (now (folds .entry)) tabstop mode
+            width down count self ⌝ }
     {
         let own = self.offset;
-        let k = self.led(t, folds, tabstop, e, mode, width, down, count, own);
+        let k = self.led(
+            t,
+            folds,
+            tabstop,
+            e,
+            mode,
+            width,
+            down,
+            count,
+            own,
+            ambiguous,
+        );
         let p = k.target;
         let kept = k.offset;
         Caret::with(p.row as u32, p.col as u32, Sticky::At(p.want), kept)
     }
 
     // `k`: so many visible rows up, or the first that is left.
-    pub fn move_up(self, t: &[u32], folds: &[u32], count: u32, tabstop: u32) -> Moved
-        ensures { λ r. ⌜ r ≡ moveRows (now (t .entry)) (now (folds .entry)) tabstop false count self
-            ⌝ }
+    pub fn move_up(
+        self,
+        t: &[u32],
+        folds: &[u32],
+        count: u32,
+        tabstop: u32,
+        ambiguous: Ambiguous,
+    ) -> Moved
+        ensures { λ r. ⌜ r ≡ moveRows ambiguous (now (t .entry)) (now (folds .entry)) tabstop false
+            count self ⌝ }
     {
         self.moved_by(
             t,
             folds,
             &t[..0],
             tabstop,
-            Move::Rows { down: false },
+            Move::Rows {
+                down: false,
+                ambiguous: ambiguous,
+            },
             count,
         )
     }
 
     // `j`: so many visible rows down, or the last that is left.
-    pub fn move_down(self, t: &[u32], folds: &[u32], count: u32, tabstop: u32) -> Moved
-        ensures { λ r. ⌜ r ≡ moveRows (now (t .entry)) (now (folds .entry)) tabstop true count self
-            ⌝ }
+    pub fn move_down(
+        self,
+        t: &[u32],
+        folds: &[u32],
+        count: u32,
+        tabstop: u32,
+        ambiguous: Ambiguous,
+    ) -> Moved
+        ensures { λ r. ⌜ r ≡ moveRows ambiguous (now (t .entry)) (now (folds .entry)) tabstop true
+            count self ⌝ }
     {
-        self.moved_by(t, folds, &t[..0], tabstop, Move::Rows { down: true }, count)
+        self.moved_by(
+            t,
+            folds,
+            &t[..0],
+            tabstop,
+            Move::Rows {
+                down: true,
+                ambiguous: ambiguous,
+            },
+            count,
+        )
     }
 
     // `gk`: so many segments up; in a viewport that doesn't wrap, or that is 0 cells wide, as `k`.
@@ -145,9 +199,10 @@ impl Caret {
         width: u16,
         count: u32,
         tabstop: u32,
+        ambiguous: Ambiguous,
     ) -> Moved
-        ensures { λ r. ⌜ r ≡ moveScreenRows (now (t .entry)) (now (folds .entry)) tabstop mode width
-            false count self ⌝ }
+        ensures { λ r. ⌜ r ≡ moveScreenRows ambiguous (now (t .entry)) (now (folds .entry)) tabstop
+            mode width false count self ⌝ }
     {
         self.moved_by(
             t,
@@ -158,6 +213,7 @@ impl Caret {
                 mode: mode,
                 width: width,
                 down: false,
+                ambiguous: ambiguous,
             },
             count,
         )
@@ -172,9 +228,10 @@ impl Caret {
         width: u16,
         count: u32,
         tabstop: u32,
+        ambiguous: Ambiguous,
     ) -> Moved
-        ensures { λ r. ⌜ r ≡ moveScreenRows (now (t .entry)) (now (folds .entry)) tabstop mode width
-            true count self ⌝ }
+        ensures { λ r. ⌜ r ≡ moveScreenRows ambiguous (now (t .entry)) (now (folds .entry)) tabstop
+            mode width true count self ⌝ }
     {
         self.moved_by(
             t,
@@ -185,6 +242,7 @@ impl Caret {
                 mode: mode,
                 width: width,
                 down: true,
+                ambiguous: ambiguous,
             },
             count,
         )
@@ -202,9 +260,10 @@ impl Caret {
         width: u16,
         count: u32,
         tabstop: u32,
+        ambiguous: Ambiguous,
     ) -> Moved
-        ensures { λ r. ⌜ r ≡ moveScreenRowsKept (now (t .entry)) (now (folds .entry)) tabstop mode
-            width false count self ⌝ }
+        ensures { λ r. ⌜ r ≡ moveScreenRowsKept ambiguous (now (t .entry)) (now (folds .entry))
+            tabstop mode width false count self ⌝ }
     {
         self.moved_by(
             t,
@@ -215,6 +274,7 @@ impl Caret {
                 mode: mode,
                 width: width,
                 down: false,
+                ambiguous: ambiguous,
             },
             count,
         )
@@ -229,9 +289,10 @@ impl Caret {
         width: u16,
         count: u32,
         tabstop: u32,
+        ambiguous: Ambiguous,
     ) -> Moved
-        ensures { λ r. ⌜ r ≡ moveScreenRowsKept (now (t .entry)) (now (folds .entry)) tabstop mode
-            width true count self ⌝ }
+        ensures { λ r. ⌜ r ≡ moveScreenRowsKept ambiguous (now (t .entry)) (now (folds .entry))
+            tabstop mode width true count self ⌝ }
     {
         self.moved_by(
             t,
@@ -242,6 +303,7 @@ impl Caret {
                 mode: mode,
                 width: width,
                 down: true,
+                ambiguous: ambiguous,
             },
             count,
         )

@@ -7,6 +7,7 @@ use Rattle.lists.specs.Rounds.{rounds}
 use Rattle.letters.specs.Letters.{letters, isLetter}
 use Rattle.chars.specs.White.{whites, isWhite}
 use Rattle.chars.specs.Width.{zeroWidths, doubleWidths, widthBy, widthOf}
+use Rattle.widths.specs.Widths.{widthAs}
 use Rattle.row_tabs.specs.Cells.{stopOf}
 use Rattle.row_columns.specs.Columns.{visualFrom, charFrom}
 use Rattle.row_cells.specs.Cells.{fits}
@@ -53,7 +54,7 @@ refuted first second once c d e p q r n s =
 
 pub not-adding : NotAdding
 unfolding computed told
-    letters isLetter whites isWhite zeroWidths doubleWidths widthBy widthOf stopOf visualFrom charFrom
+    letters isLetter whites isWhite zeroWidths doubleWidths widthBy widthOf widthAs stopOf visualFrom charFrom
     fits afterWhite firstSegment segmentsFrom segmentsOf pairsBefore any textRefusal onFirst rows startIn rowOf
     anyFold foldRefusal visibleFrom prevVisible rounds verticalRow landed stepScreen allDigits value split trimStart trimEnd upTo tokensIn codes isSame
     roundFrom paragraphs kindOf kindAt onEmptyRow nextRow stepForward inc dec endOfBuffer walk goesOn

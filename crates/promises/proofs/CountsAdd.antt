@@ -4,7 +4,8 @@ use mathlib.Core.Path.{ap, sym}
 use mathlib.Core.List.{List, [], _∷_}
 use mathlib.Core.Bool.{Bool, false}
 use Prim.Native.Nat.{ℕ, _+_, _<_}
-use Rattle.chars.specs.Width.{widthOf}
+use Rattle.widths.specs.declared.Ambiguous.{Ambiguous}
+use Rattle.widths.specs.Widths.{widthAs}
 use Rattle.text_check.specs.Accept.{textRefusal}
 use Rattle.text.specs.Text.{rowCount}
 use Rattle.folds.specs.Folds.{foldRefusal}
@@ -60,8 +61,8 @@ way-repeats t way.Top a = absurd a
 way-repeats t way.Bottom a = absurd a
 
 -- where `j` and `k` lead to
-abbrev rowsCaret : List ℕ → List ℕ → ℕ → Bool → ℕ → Caret → Caret
-rowsCaret t folds tabstop down n k = atTarget (moveVertical widthOf t folds tabstop (deltaOf down n) (k .row) (k .col) (k .sticky))
+abbrev rowsCaret : Ambiguous → List ℕ → List ℕ → ℕ → Bool → ℕ → Caret → Caret
+rowsCaret a t folds tabstop down n k = atTarget (moveVertical (widthAs a) t folds tabstop (deltaOf down n) (k .row) (k .col) (k .sticky))
 
 module _ (t folds list : List ℕ) (tabstop m n : ℕ) (h : 0 < m) (l : 0 < n) (k : Caret) where
   way-sums : (w : Way) → WayAdds w → Sums (moving (refusalOf t k) (put k (gone t w m (here k))))
@@ -85,34 +86,35 @@ module _ (t folds list : List ℕ) (tabstop m n : ℕ) (h : 0 < m) (l : 0 < n) (
         ap (atPlace k) (sym (word-counts-add t own (kindOf (inList list) big) big good motion stop m n (here k) h l)),
       ))
 
-  rows-sums : (down : Bool) → Sums (moveRows t folds tabstop down m k) (λ c. moveRows t folds tabstop down n c) (moveRows t folds tabstop down (m + n) k)
-  rows-sums down =
+  rows-sums : (a : Ambiguous) (down : Bool) →
+      Sums (moveRows a t folds tabstop down m k) (λ c. moveRows a t folds tabstop down n c) (moveRows a t folds tabstop down (m + n) k)
+  rows-sums a down =
       let refusal = verticalRefusal t folds tabstop in
-      let first = rowsCaret t folds tabstop down m k in
-      moving-sums (refusal k) first (rowsCaret t folds tabstop down (m + n) k) refusal (rowsCaret t folds tabstop down n) (λ z. (
+      let first = rowsCaret a t folds tabstop down m k in
+      moving-sums (refusal k) first (rowsCaret a t folds tabstop down (m + n) k) refusal (rowsCaret a t folds tabstop down n) (λ z. (
         taken t k first (foldRefusal folds (rowCount t) ∷ stopRefusal tabstop ∷ []) z
-            (rows-lands t folds tabstop k down m first (moving-yes (refusal k) first z)),
-        ap atTarget (vertical-adds widthOf t folds tabstop down m n (k .row) (k .col) (k .sticky) h l),
+            (rows-lands t folds tabstop k a down m first (moving-yes (refusal k) first z)),
+        ap atTarget (vertical-adds (widthAs a) t folds tabstop down m n (k .row) (k .col) (k .sticky) h l),
       ))
 
-  kept-sums : (mode : Wrap) (width : ℕ) (down : Bool) →
-      Sums (moveScreenRowsKept t folds tabstop mode width down m k) (λ c. moveScreenRowsKept t folds tabstop mode width down n c)
-      (moveScreenRowsKept t folds tabstop mode width down (m + n) k)
-  kept-sums mode width down =
+  kept-sums : (a : Ambiguous) (mode : Wrap) (width : ℕ) (down : Bool) →
+      Sums (moveScreenRowsKept a t folds tabstop mode width down m k) (λ c. moveScreenRowsKept a t folds tabstop mode width down n c)
+      (moveScreenRowsKept a t folds tabstop mode width down (m + n) k)
+  kept-sums a mode width down =
       let refusal = verticalRefusal t folds tabstop in
-      let first = keptCaret t folds tabstop mode width down m k in
-      moving-sums (refusal k) first (keptCaret t folds tabstop mode width down (m + n) k) refusal (keptCaret t folds tabstop mode width down n) (λ z. (
+      let first = keptCaret a t folds tabstop mode width down m k in
+      moving-sums (refusal k) first (keptCaret a t folds tabstop mode width down (m + n) k) refusal (keptCaret a t folds tabstop mode width down n) (λ z. (
         taken t k first (foldRefusal folds (rowCount t) ∷ stopRefusal tabstop ∷ []) z
-            (kept-lands t folds tabstop k mode width down m first (moving-yes (refusal k) first z)),
-        ap atKept (kept-adds widthOf t folds tabstop mode width down m n (k .row) (k .col) (k .sticky) (k .offset) h l),
+            (kept-lands t folds tabstop k a mode width down m first (moving-yes (refusal k) first z)),
+        ap atKept (kept-adds (widthAs a) t folds tabstop mode width down m n (k .row) (k .col) (k .sticky) (k .offset) h l),
       ))
 
 pub counts-add : CountsAdd
 counts-add t folds list tabstop (By w) a m n h l s k = way-sums t folds list tabstop m n h l k w a
 counts-add t folds list tabstop (Word motion big stop) a m n h l s k = word-sums t folds list tabstop m n h l k (foldsOf motion folds) big motion stop
-counts-add t folds list tabstop (Rows down) a m n h l s k = rows-sums t folds list tabstop m n h l k down
-counts-add t folds list tabstop (Screen mode width down) a m n h l s k = absurd a
-counts-add t folds list tabstop (ScreenKept mode width down) a m n h l s k = kept-sums t folds list tabstop m n h l k mode width down
+counts-add t folds list tabstop (Rows down w) a m n h l s k = rows-sums t folds list tabstop m n h l k w down
+counts-add t folds list tabstop (Screen mode width down w) a m n h l s k = absurd a
+counts-add t folds list tabstop (ScreenKept mode width down w) a m n h l s k = kept-sums t folds list tabstop m n h l k w mode width down
 counts-add t folds list tabstop (Viewport edge top height offset) a m n h l s k = absurd a
 counts-add t folds list tabstop Bracket a m n h l s k = absurd a
 counts-add t folds list tabstop (Find x forward till skip) a m n h l s k = absurd a

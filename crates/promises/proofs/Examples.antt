@@ -6,6 +6,7 @@ use Rattle.lists.specs.Rounds.{rounds}
 use Rattle.letters.specs.Letters.{letters, isLetter}
 use Rattle.chars.specs.White.{whites, isWhite}
 use Rattle.chars.specs.Width.{zeroWidths, doubleWidths, widthBy, widthOf}
+use Rattle.widths.specs.Widths.{classA, isAmbiguous, wideWidth, widthAs}
 use Rattle.row_check.specs.Row.{rowRefusal}
 use Rattle.row_check.specs.Row.{columnOf as columnAt}
 use Rattle.row_tabs.specs.Cells.{columnRefusal, stopOf}
@@ -56,24 +57,24 @@ use Rattle.call_texts.specs.Moves.{wayOf, motion}
 use Rattle.call_texts.specs.Partners.{partnered}
 use Rattle.call_texts.specs.Inners.{surrounded, innerBy}
 use Rattle.call_texts.specs.Seeks.{sought, seekOf, seek}
-use Rattle.call_rows.specs.Tabs.{toldColumn, tabColumn}
+use Rattle.call_rows.specs.Tabs.{toldColumn, tabColumnUnder}
 use Rattle.call_folds.specs.Terms.{wordOf, word}
 use Rattle.call_texts.specs.Viewports.{edgeOf, viewport}
 use Rattle.call_folds.specs.Upright.{uprightOf, upright, vertical}
 use Rattle.call_folds.specs.Kept.{keptOf, remembered, screenKept}
-use Rattle.call_rows.specs.Wraps.{toldSegment, toldSegments, offset, modeOf, segmented, segmentsLeft}
+use Rattle.call_rows.specs.Wraps.{toldSegment, toldSegments, offsetUnder, modeOf, segmentedUnder, leftUnder}
 use Rattle.promises.specs.Table.{table, given, asked, Examples}
 use Rattle.promises.specs.Calls.{calls, judged, good}
 
 computed : given table ≡ asked table
 unfolding table
-    letters isLetter whites isWhite zeroWidths doubleWidths widthBy widthOf rowRefusal columnAt columnRefusal stopOf visualFrom charFrom
+    letters isLetter whites isWhite zeroWidths doubleWidths widthBy widthOf widthAs rowRefusal columnAt columnRefusal stopOf visualFrom charFrom
     fits afterWhite firstSegment segmentsFrom segmentsOf wrapRefusal countOf roomRefusal any textRefusal onFirst rows startIn rowOf
     anyFold foldRefusal visibleFrom allDigits value split trimStart trimEnd upTo tokensIn codes
     sideOf keyBracket firstFrom lastBelow count stretch nearestOf placed matchingBracketPos reaches paired pairFrom answered surrounded innerBy keyTo landing findAhead
     roundFrom paragraphs kindOf kindAt onEmptyRow nextRow stepForward endOfBuffer walk goesOn nextWordStart roundOf counted wordMotion
     positionRefusal lowest moving partnerTo seeking landsOn orSought
-    moved keyword moveAs seekAs wayOf motion partnered sought seekOf seek toldColumn tabColumn wordOf word toldSegments modeOf segmented segmentsLeft
+    moved keyword moveAs seekAs wayOf motion partnered sought seekOf seek toldColumn tabColumnUnder wordOf word toldSegments modeOf segmentedUnder leftUnder
 computed = refl
 
 -- P1 to P12
@@ -83,14 +84,15 @@ examples = record { table = computed; p11 = p11 }
 -- every call gives the right reply of its case, and neither of the two wrong ones
 pub right-alone : judged calls ≡ good calls
 unfolding calls
-    letters isLetter whites isWhite zeroWidths doubleWidths widthBy widthOf rowRefusal columnAt columnRefusal stopOf visualFrom charFrom leadingFrom
+    letters isLetter whites isWhite zeroWidths doubleWidths widthBy widthOf classA isAmbiguous wideWidth widthAs
+    rowRefusal columnAt columnRefusal stopOf visualFrom charFrom leadingFrom
     fits afterWhite firstSegment segmentsFrom segmentsOf wrapRefusal cellsIn pairsBefore countOf roomRefusal any textRefusal onFirst rows startIn rowOf
     anyFold foldRefusal visibleFrom prevVisible rounds verticalRow landed stepScreen allDigits value split trimStart trimEnd upTo tokensIn codes isSame
     sideOf keyBracket firstFrom lastBelow count stretch nearestOf placed matchingBracketPos reaches paired pairFrom answered surrounded innerBy keyTo landing findAhead
     roundFrom paragraphs sectionUp sectionDown kindOf kindAt onEmptyRow nextRow stepForward inc dec endOfBuffer walk goesOn
     nextWordStart prevWordStart nextWordEnd prevWordEnd atWordEnd roundOf counted wordMotion
     positionRefusal lowest moving indentOf solidOf spaceFwd backspaceBack partnerTo seeking landsOn orSought
-    fact moved tokenCount byTable inTable keyword moveAs seekAs wayOf motion partnered sought seekOf seek toldColumn tabColumn wordOf word
+    fact moved tokenCount byTable inTable keyword moveAs seekAs wayOf motion partnered sought seekOf seek toldColumn tabColumnUnder wordOf word
     uprightOf upright vertical keptOf remembered screenKept movedSix edgeOf viewport
-    toldSegment toldSegments offset modeOf segmented segmentsLeft
+    toldSegment toldSegments offsetUnder modeOf segmentedUnder leftUnder
 right-alone = refl

@@ -18,6 +18,7 @@ use Rattle.call_texts.specs.declared.Asked.the-variants.{For}
 use Rattle.call_texts.specs.Asks.{moveAs}
 use Rattle.call_texts.specs.Moves.{wayOf, motion}
 use Rattle.call_texts.specs.Viewports.{edgeOf, viewport}
+use Rattle.call_rows.specs.Flags.{settingOf, plainOf}
 use Rattle.call_rows.specs.Wraps.{modeOf}
 use Rattle.call_folds.specs.Kept.{keptOf, remembered, screenKept}
 
@@ -71,6 +72,6 @@ module _ (t : List ℕ) where
   kept-numbers-land op mode width n tabstop folds k =
       let P : Asked → Type 0 = λ a. Lands t (moveAs a n k t folds [] tabstop) in
       either (Lands t) (leb mode 2) _ _
-      (either P (eqb op 0) _ _ (kept-lands t folds tabstop k (modeOf mode) width false n)
-      (either P (eqb op 1) _ _ (kept-lands t folds tabstop k (modeOf mode) width true n) (none-lands 100)))
+      (either P (eqb (plainOf op) 0) _ _ (kept-lands t folds tabstop k (settingOf op) (modeOf mode) width false n)
+      (either P (eqb (plainOf op) 1) _ _ (kept-lands t folds tabstop k (settingOf op) (modeOf mode) width true n) (none-lands 100)))
       (none-lands 100)

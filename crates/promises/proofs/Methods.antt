@@ -3,11 +3,12 @@ use mathlib.Core.Path.{refl}
 use mathlib.Core.List.{List}
 use mathlib.Core.Bool.{Bool}
 use Prim.Native.Nat.{ℕ}
+use Rattle.widths.specs.declared.Ambiguous.{Ambiguous}
 use Rattle.motions.specs.declared.Caret.{Caret}
 use Rattle.promises.specs.Methods.{Methods}
 
-pub methods : (t folds list : List ℕ) (tabstop n : ℕ) (k : Caret) (big stop : Bool) → Methods t folds list tabstop n k big stop
-methods t folds list tabstop n k big stop =
+pub methods : (t folds list : List ℕ) (tabstop n : ℕ) (k : Caret) (big stop : Bool) (a : Ambiguous) → Methods t folds list tabstop n k big stop a
+methods t folds list tabstop n k big stop a =
     record {
       left = refl;
       right-in-line = refl;

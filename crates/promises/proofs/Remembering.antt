@@ -7,7 +7,8 @@ use native.Mathlib.Omega.{arith}
 use lib.Dec.{eqb}
 use Rattle.lists.specs.Rounds.{rounds}
 use Rattle.chars.specs.White.{isWhite}
-use Rattle.chars.specs.Width.{widthOf}
+use Rattle.widths.specs.declared.Ambiguous.{Ambiguous}
+use Rattle.widths.specs.Widths.{widthAs}
 use Rattle.row_search.specs.declared.Found.{Found as Spotted}
 use Rattle.row_search.specs.declared.Found.the-variants.{At as Spotted·At, Nothing}
 use Rattle.bracket_walks.specs.declared.Partner.{Partner}
@@ -78,45 +79,45 @@ module _ (t folds list : List ℕ) (tabstop n : ℕ) (k : Caret) where
   others : (move : Move) → Forgets move → Clears (movedBy t folds list tabstop move n k)
   others (By w) a = moving-clears _ _ refl
   others (Word m big stop) a = moving-clears _ _ refl
-  others (Rows down) a = moving-clears _ _ refl
-  others (Screen mode width down) a = moving-clears _ _ refl
-  others (ScreenKept mode width down) a = absurd a
+  others (Rows down w) a = moving-clears _ _ refl
+  others (Screen mode width down w) a = moving-clears _ _ refl
+  others (ScreenKept mode width down w) a = absurd a
   others (Viewport edge top height offset) a = moving-clears _ _ refl
   others Bracket a = seeking-clears _ _ (partner-clears k _)
   others (Find x forward till skip) a = seeking-clears _ _ (lands-clears k _)
 
-  module _ (mode : Wrap) (width : ℕ) (down : Bool) where
+  module _ (a : Ambiguous) (mode : Wrap) (width : ℕ) (down : Bool) where
     abbrev to : Offset → Kept
-    to offset = moveScreenKept widthOf t folds tabstop mode width down n (k .row) (k .col) (k .sticky) offset
+    to offset = moveScreenKept (widthAs a) t folds tabstop mode width down n (k .row) (k .col) (k .sticky) offset
 
     as-before : k .offset ≡ Absent →
-        forgotten (movedBy t folds list tabstop (ScreenKept mode width down) n k) ≡ movedBy t folds list tabstop (Screen mode width down) n k
+        forgotten (movedBy t folds list tabstop (ScreenKept mode width down a) n k) ≡ movedBy t folds list tabstop (Screen mode width down a) n k
     as-before e =
         let f = verticalRefusal t folds tabstop k in
-        subst (λ (o : Offset). forgotten (moving f (atKept (to o))) ≡ movedBy t folds list tabstop (Screen mode width down) n k) (sym e)
-        (rw (forgotten-moving f (to Absent)) (ap (λ p. moving f (atTarget p)) (absent-target widthOf t folds tabstop mode width down n (k .row) (k .col) (k .sticky))))
+        subst (λ (o : Offset). forgotten (moving f (atKept (to o))) ≡ movedBy t folds list tabstop (Screen mode width down a) n k) (sym e)
+        (rw (forgotten-moving f (to Absent)) (ap (λ p. moving f (atTarget p)) (absent-target (widthAs a) t folds tabstop mode width down n (k .row) (k .col) (k .sticky))))
 
     -- what holds of the caret that a move by an offset leads to
     led : (P : Caret → Type 0) (o : Offset) → k .offset ≡ o → P (atKept (to o)) → (c : Caret) →
-        movedBy t folds list tabstop (ScreenKept mode width down) n k ≡ To c → P c
+        movedBy t folds list tabstop (ScreenKept mode width down a) n k ≡ To c → P c
     led P o e h = moving-to P (verticalRefusal t folds tabstop k) (atKept (to (k .offset))) (λ z. subst (λ (x : Offset). P (atKept (to x))) (sym e) h)
 
-    set : unbroken mode width ≡ false → k .offset ≡ Absent → (c : Caret) → movedBy t folds list tabstop (ScreenKept mode width down) n k ≡ To c →
-        c .offset ≡ At (ownOffset t mode width (jumped t folds down (here k)))
-    set b e = led (λ c. c .offset ≡ At (ownOffset t mode width (jumped t folds down (here k)))) Absent e (rw b)
+    set : unbroken mode width ≡ false → k .offset ≡ Absent → (c : Caret) → movedBy t folds list tabstop (ScreenKept mode width down a) n k ≡ To c →
+        c .offset ≡ At (ownOffset a t mode width (jumped t folds down (here k)))
+    set b e = led (λ c. c .offset ≡ At (ownOffset a t mode width (jumped t folds down (here k)))) Absent e (rw b)
 
-    kept : unbroken mode width ≡ false → (x : ℕ) → k .offset ≡ At x → (c : Caret) → movedBy t folds list tabstop (ScreenKept mode width down) n k ≡ To c →
+    kept : unbroken mode width ≡ false → (x : ℕ) → k .offset ≡ At x → (c : Caret) → movedBy t folds list tabstop (ScreenKept mode width down a) n k ≡ To c →
         c .offset ≡ At x
     kept b x e = led (λ c. c .offset ≡ At x) (At x) e (rw b)
 
     from-itself : unbroken mode width ≡ false → (x : ℕ) → k .offset ≡ At x → (c : Caret) →
-        movedBy t folds list tabstop (ScreenKept mode width down) n k ≡ To c →
-        here c ≡ rounds (stepScreen t folds (segmentsOf widthOf isWhite mode width) down x) (max n 1) (here k)
+        movedBy t folds list tabstop (ScreenKept mode width down a) n k ≡ To c →
+        here c ≡ rounds (stepScreen t folds (segmentsOf (widthAs a) isWhite mode width) down x) (max n 1) (here k)
     from-itself b x e =
-        led (λ c. here c ≡ rounds (stepScreen t folds (segmentsOf widthOf isWhite mode width) down x) (max n 1) (here k)) (At x) e (rw b)
+        led (λ c. here c ≡ rounds (stepScreen t folds (segmentsOf (widthAs a) isWhite mode width) down x) (max n 1) (here k)) (At x) e (rw b)
 
     as-rows : unbroken mode width ≡ true →
-        movedBy t folds list tabstop (ScreenKept mode width down) n k ≡ movedBy t folds list tabstop (Rows down) n k
+        movedBy t folds list tabstop (ScreenKept mode width down a) n k ≡ movedBy t folds list tabstop (Rows down a) n k
     as-rows b = rw b
 
   pub remembering : Remembering t folds list tabstop n k
@@ -124,8 +125,8 @@ module _ (t folds list : List ℕ) (tabstop n : ℕ) (k : Caret) where
       record {
         others = others;
         as-before = as-before;
-        set = λ mode width down c b e. set mode width down b e c;
-        kept = λ mode width down x c b e. kept mode width down b x e c;
-        from-itself = λ mode width down x c b e. from-itself mode width down b x e c;
+        set = λ a mode width down c b e. set a mode width down b e c;
+        kept = λ a mode width down x c b e. kept a mode width down b x e c;
+        from-itself = λ a mode width down x c b e. from-itself a mode width down b x e c;
         as-rows = as-rows;
       }

@@ -9,7 +9,7 @@ pub one-result : OneResult
 one-result =
     record {
       equal = λ v x y p q. p ∙ sym q;
-      wraps = λ mode width row out x y p q. λ i. ((p .answer ∙ sym (q .answer)) i, (p .left ∙ sym (q .left)) i);
+      wraps = λ a mode width row out x y p q. λ i. ((p .answer ∙ sym (q .answer)) i, (p .left ∙ sym (q .left)) i);
       replied = λ m out x y p q. λ i. ((p .numbered ∙ sym (q .numbered)) i, (p .out-left ∙ sym (q .out-left)) i);
       answered = λ s room out m x y p q. λ i. (
         (p .numbered ∙ sym (q .numbered)) i,

@@ -6,6 +6,7 @@ use Rattle.lists.specs.Rounds.{rounds}
 use Rattle.letters.specs.Letters.{letters, isLetter}
 use Rattle.chars.specs.White.{whites, isWhite}
 use Rattle.chars.specs.Width.{zeroWidths, doubleWidths, widthBy, widthOf}
+use Rattle.widths.specs.Widths.{widthAs}
 use Rattle.row_check.specs.Row.{rowRefusal, columnOf}
 use Rattle.row_tabs.specs.Cells.{columnRefusal, stopOf}
 use Rattle.row_columns.specs.Columns.{visualFrom, charFrom}
@@ -46,7 +47,7 @@ use Rattle.promises.specs.Calls.{sessions, judged, good}
 -- the session prints what document 01 says, and neither of the two wrong outputs
 pub session-alone : judged sessions ≡ good sessions
 unfolding sessions
-    letters isLetter whites isWhite zeroWidths doubleWidths widthBy widthOf any rowRefusal columnOf columnRefusal stopOf visualFrom charFrom
+    letters isLetter whites isWhite zeroWidths doubleWidths widthBy widthOf widthAs any rowRefusal columnOf columnRefusal stopOf visualFrom charFrom
     textRefusal onFirst rows startIn rowOf anyFold foldRefusal visibleFrom prevVisible
     allDigits value split trimStart trimEnd upTo tokensIn
     sideOf keyBracket firstFrom lastBelow count stretch nearestOf placed matchingBracketPos keyTo

@@ -5,7 +5,8 @@ use mathlib.Core.Bool.{Bool, true, false, cond, _||_}
 use Prim.Native.Nat.{ℕ, max}
 use lib.Dec.{eqb, leb}
 use Rattle.chars.specs.White.{isWhite}
-use Rattle.chars.specs.Width.{widthOf}
+use Rattle.widths.specs.declared.Ambiguous.{Ambiguous}
+use Rattle.widths.specs.Widths.{widthAs}
 use Rattle.row_wrap.specs.declared.Wrap.{Wrap}
 use Rattle.row_wrap.specs.Modes.{isNone, segmentsOf}
 use Rattle.visible_rows.specs.Visible.{deltaOf}
@@ -22,6 +23,7 @@ use Rattle.motions.specs.declared.Moved.{Moved}
 use Rattle.motions.specs.UpDown.{verticalRefusal, atTarget, screenCaret, moveRows, moveScreenRows}
 use Rattle.motions.proofs.Landing.{moving-to}
 use Rattle.motions.proofs.Reaching.{own, rows-lands}
+use Rattle.call_rows.specs.Flags.{settingOf, plainOf}
 use Rattle.call_rows.specs.Wraps.{modeOf}
 use Rattle.call_texts.specs.declared.Asked.{Asked}
 use Rattle.call_texts.specs.Asks.{moveAs}
@@ -34,12 +36,12 @@ use Rattle.promises.proofs.Trails.{trail-ends, trail-in}
 use Rattle.promises.proofs.Writing.{Fits, Keeps, refused, both, once}
 
 module _ (t : List ℕ) (k : Caret) (n : ℕ) (folds : List ℕ) (tabstop : ℕ) where
-  rows-once : (down : Bool) → Keeps t (moveRows t folds tabstop down n k) standing
-  rows-once down = record { fits = λ c e. once t c (rows-lands t folds tabstop k down n c e) }
+  rows-once : (a : Ambiguous) (down : Bool) → Keeps t (moveRows a t folds tabstop down n k) standing
+  rows-once a down = record { fits = λ c e. once t c (rows-lands t folds tabstop k a down n c e) }
 
-  module _ (mode : Wrap) (width : ℕ) where
+  module _ (a : Ambiguous) (mode : Wrap) (width : ℕ) where
     abbrev lay : List ℕ → List ℕ
-    lay = segmentsOf widthOf isWhite mode width
+    lay = segmentsOf (widthAs a) isWhite mode width
 
     -- where the walk begins
     abbrev from : Bool → Position
@@ -50,21 +52,21 @@ module _ (t : List ℕ) (k : Caret) (n : ℕ) (folds : List ℕ) (tabstop : ℕ)
         let r = round-inside t folds lay down _ p (record { in-row = i .in-row; in-col = i .in-col }) in
         record { in-row = r .in-row; in-col = r .in-col }
 
-    by-screen : (down : Bool) → Keeps t (moveScreenRows t folds tabstop mode width down n k) (screenMoves mode width down n k t folds)
+    by-screen : (down : Bool) → Keeps t (moveScreenRows a t folds tabstop mode width down n k) (screenMoves a mode width down n k t folds)
     by-screen down = record {
       fits =
-          moving-to (λ c. Fits t (screenMoves mode width down n k t folds c) c) (verticalRefusal t folds tabstop k)
-          (screenCaret t folds tabstop mode width down n k)
+          moving-to (λ c. Fits t (screenMoves a mode width down n k t folds c) c) (verticalRefusal t folds tabstop k)
+          (screenCaret a t folds tabstop mode width down n k)
           (λ z. let i = own t folds tabstop k z in go (eqb width 0 || isNone mode) (record { in-row = i .in-row; in-col = i .in-col }));
     }
       where
         go : (b : Bool) → Upright.Inside t (k .row) (k .col) →
-            let c = atTarget (cond b (moveVertical widthOf t folds tabstop (deltaOf down n) (k .row) (k .col) (k .sticky))
-            (screenTarget widthOf t folds tabstop lay down n (k .row) (k .col) (k .sticky))) in
+            let c = atTarget (cond b (moveVertical (widthAs a) t folds tabstop (deltaOf down n) (k .row) (k .col) (k .sticky))
+            (screenTarget (widthAs a) t folds tabstop lay down n (k .row) (k .col) (k .sticky))) in
             Fits t (cond b (standing c) (screenWrites t folds lay down n (record { row = k .row; col = k .col }))) c
         go true i =
-            let r = rows-inside widthOf t folds tabstop (k .row) (k .col) (k .sticky) (deltaOf down n) i in
-            once t (atTarget (moveVertical widthOf t folds tabstop (deltaOf down n) (k .row) (k .col) (k .sticky)))
+            let r = rows-inside (widthAs a) t folds tabstop (k .row) (k .col) (k .sticky) (deltaOf down n) i in
+            once t (atTarget (moveVertical (widthAs a) t folds tabstop (deltaOf down n) (k .row) (k .col) (k .sticky)))
             (record { in-row = r .in-row; in-col = r .in-col })
         go false i =
             let j = jump-inside t folds down (record { row = k .row; col = k .col }) i in
@@ -73,14 +75,17 @@ module _ (t : List ℕ) (k : Caret) (n : ℕ) (folds : List ℕ) (tabstop : ℕ)
               ap (λ (q : Position). q ∷ []) (trail-ends onScreen (stepOf t folds lay down (from down)) (max n 1) (from down)),
             )
 
-    upright-keeps : (op : ℕ) → Keeps t (upright op mode width n tabstop k t folds) (uprightWrites op mode width n k t folds)
-    unfolding upright uprightOf moveAs uprightWrites
-    upright-keeps op =
-        let answer : Asked → Moved = λ a. moveAs a n k t folds [] tabstop in
-        both t answer (eqb op 0) (rows-once false)
-        (both t answer (eqb op 1) (rows-once true)
-        (both t answer (eqb op 2) (by-screen false)
-        (either (λ (a : Asked). Keeps t (answer a) (screenMoves mode width true n k t folds)) (eqb op 3) _ _ (by-screen true) (refused t 100 _))))
+  upright-keeps : (mode : Wrap) (width op : ℕ) → Keeps t (upright op mode width n tabstop k t folds) (uprightWrites op mode width n k t folds)
+  unfolding upright uprightOf moveAs uprightWrites
+  upright-keeps mode width op =
+      let a = settingOf op in
+      let plain = plainOf op in
+      let answer : Asked → Moved = λ m. moveAs m n k t folds [] tabstop in
+      both t answer (eqb plain 0) (rows-once a false)
+      (both t answer (eqb plain 1) (rows-once a true)
+      (both t answer (eqb plain 2) (by-screen a mode width false)
+      (either (λ (m : Asked). Keeps t (answer m) (screenMoves a mode width true n k t folds)) (eqb plain 3) _ _ (by-screen a mode width true)
+      (refused t 100 _))))
 
   pub vertical-keeps : (op mode width : ℕ) → Keeps t (vertical op mode width n tabstop k t folds) (uprightWrites op (modeOf mode) width n k t folds)
   unfolding vertical

@@ -36,9 +36,9 @@ WayAdds way.Bottom = ⊥
 abbrev pub Adds : Move → Type 0
 Adds (By w) = WayAdds w
 Adds (Word m big stop) = Unit
-Adds (Rows down) = Unit
-Adds (Screen mode width down) = ⊥
-Adds (ScreenKept mode width down) = Unit
+Adds (Rows down a) = Unit
+Adds (Screen mode width down a) = ⊥
+Adds (ScreenKept mode width down a) = Unit
 Adds (Viewport edge top height offset) = ⊥
 Adds Bracket = ⊥
 Adds (Find x forward till skip) = ⊥
@@ -47,9 +47,9 @@ Adds (Find x forward till skip) = ⊥
 abbrev pub goingOn : Move → Move
 goingOn (By w) = By w
 goingOn (Word m big stop) = Word m big false
-goingOn (Rows down) = Rows down
-goingOn (Screen mode width down) = Screen mode width down
-goingOn (ScreenKept mode width down) = ScreenKept mode width down
+goingOn (Rows down a) = Rows down a
+goingOn (Screen mode width down a) = Screen mode width down a
+goingOn (ScreenKept mode width down a) = ScreenKept mode width down a
 goingOn (Viewport edge top height offset) = Viewport edge top height offset
 goingOn Bracket = Bracket
 goingOn (Find x forward till skip) = Find x forward till skip

@@ -100,6 +100,7 @@ calls =
     case "is_white" (told (fact 1 0xd800)) (refused 2) (answer no) (answer yes) ∷
     case "is_letter" (told (fact 2 0xdfff)) (refused 2) (answer no) (answer yes) ∷
     case "width" (told (fact 3 0x110000)) (refused 2) (value 1) (value 0) ∷
+    case "width" (told (fact 259 0x2192)) (value 2) (value 1) (refused 100) ∷
     case "parse" (keywords 0 0 (codes "@,48-57,_")) (value 3) (value 1) (refused 8) ∷
     case "matches" (keywords 1 5 (codes "5")) (answer yes) (answer no) (refused 2) ∷
     case "is_keyword_char" (keywords 2 50 (codes "57-48")) (answer no) (answer yes) (refused 7) ∷
@@ -139,6 +140,7 @@ calls =
     case "move_word_end_back" (word 4 "ab cd" 0 4) (caret 0 1) (caret 0 3) (caret 0 0) ∷
     case "move_up" (upright 0 0 "ab\n\tc" 1 1) (caretTo 0 1 8) (caretTo 1 1 8) (caret 0 1) ∷
     case "move_down" (upright 1 0 "a\n" 0 0) (caretTo 1 0 0) (caretTo 0 0 0) (caret 1 0) ∷
+    case "move_down" (upright 257 0 "→b\nabc" 0 1) (caretTo 1 2 2) (caretTo 1 1 1) (refused 100) ∷
     case "move_screen_up" (upright 2 2 "abcd" 0 3) (caretTo 0 1 3) (caretTo 0 3 3) (caretTo 0 0 3) ∷
     case "move_screen_down" (upright 3 2 "abcd" 0 1) (caretTo 0 3 1) (caretTo 0 2 1) (caret 0 3) ∷
     case "move_screen_up_kept" (remembering 0 1 2 [] "abcd" 0 4 0 0) (caretKept 0 1 1 2) (caretKept 0 1 1 1) (caretKept 0 1 0 0) ∷

@@ -4,6 +4,7 @@ use Prim.Native.Nat.{ℕ}
 use mathlib.Core.Path.{_≡_}
 use mathlib.Core.List.{List, []}
 use mathlib.Core.Bool.{Bool, true, false}
+use Rattle.widths.specs.declared.Ambiguous.{Ambiguous}
 use Rattle.row_wrap.specs.declared.Wrap.{Wrap}
 use Rattle.word_rounds.specs.declared.Motion.the-variants.{Fwd, Back, End, EndBack}
 use Rattle.text_moves.specs.declared.Way.the-variants as way
@@ -23,7 +24,7 @@ use Rattle.motions.specs.UpDown.{moveRows, moveScreenRowsKept}
 abbrev pub Of : List ℕ → List ℕ → List ℕ → ℕ → ℕ → Caret → Move → Moved → Type 0
 Of t folds list tabstop n k move answer = answer ≡ movedBy t folds list tabstop move n k
 
-pub record Methods (t folds list : List ℕ) (tabstop n : ℕ) (k : Caret) (big stop : Bool) : Type 0 where
+pub record Methods (t folds list : List ℕ) (tabstop n : ℕ) (k : Caret) (big stop : Bool) (a : Ambiguous) : Type 0 where
   pub left : Of t folds list tabstop n k (By way.Left) (moveLeft t n k)
   pub right-in-line : Of t folds list tabstop n k (By way.RightInLine) (moveRightInLine t n k)
   pub right-to-end : Of t folds list tabstop n k (By way.RightToEnd) (moveRightToEnd t n k)
@@ -39,9 +40,9 @@ pub record Methods (t folds list : List ℕ) (tabstop n : ℕ) (k : Caret) (big 
   pub word-back : Of t folds list tabstop n k (Word Back big false) (moveWord t folds list big Back false n k)
   pub word-end : Of t folds list tabstop n k (Word End big stop) (moveWord t folds list big End stop n k)
   pub word-end-back : Of t folds list tabstop n k (Word EndBack big false) (moveWord t [] list big EndBack false n k)
-  pub up : Of t folds list tabstop n k (Rows false) (moveRows t folds tabstop false n k)
-  pub down : Of t folds list tabstop n k (Rows true) (moveRows t folds tabstop true n k)
+  pub up : Of t folds list tabstop n k (Rows false a) (moveRows a t folds tabstop false n k)
+  pub down : Of t folds list tabstop n k (Rows true a) (moveRows a t folds tabstop true n k)
   pub screen-up-kept : (mode : Wrap) (width : ℕ) →
-      Of t folds list tabstop n k (ScreenKept mode width false) (moveScreenRowsKept t folds tabstop mode width false n k)
+      Of t folds list tabstop n k (ScreenKept mode width false a) (moveScreenRowsKept a t folds tabstop mode width false n k)
   pub screen-down-kept : (mode : Wrap) (width : ℕ) →
-      Of t folds list tabstop n k (ScreenKept mode width true) (moveScreenRowsKept t folds tabstop mode width true n k)
+      Of t folds list tabstop n k (ScreenKept mode width true a) (moveScreenRowsKept a t folds tabstop mode width true n k)

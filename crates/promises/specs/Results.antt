@@ -3,6 +3,7 @@
 use Prim.Native.Nat.{ℕ}
 use mathlib.Core.Path.{_≡_}
 use mathlib.Core.List.{List}
+use Rattle.widths.specs.declared.Ambiguous.{Ambiguous}
 use Rattle.row_wrap.specs.declared.Wrap.{Wrap}
 use Rattle.row_wrap.specs.declared.Segments.{Segments}
 use Rattle.row_wrap.specs.Calls.{Wraps}
@@ -15,10 +16,10 @@ abbrev pub One : {A : Type 0} → (A → Type 0) → Type 0
 One {A = A} allows = (x y : A) → allows x → allows y → x ≡ y
 
 pub record OneResult : Type 1 where
-  -- `r ≡ definition`: every method of `Caret`; the calls of `chars`, `letters`, `keywords`, `list_signs`, `row_tabs`, `row_columns`, `row_offsets`, `text`, `brackets` and `bracket_inner`
+  -- `r ≡ definition`: every method of `Caret`; the calls of `chars`, `widths`, `letters`, `keywords`, `list_signs`, `row_tabs`, `row_columns`, `row_offsets`, `text`, `brackets` and `bracket_inner`
   pub equal : {A : Type 0} (v : A) → One (λ (r : A). r ≡ v)
   -- `wrap_segments`: the answer, and the slice lent for segments
-  pub wraps : (mode : Wrap) (width : ℕ) (row out : List ℕ) → One (λ (x : Segments × List ℕ). Wraps mode width row out (x .0) (x .1))
+  pub wraps : (a : Ambiguous) (mode : Wrap) (width : ℕ) (row out : List ℕ) → One (λ (x : Segments × List ℕ). Wraps a mode width row out (x .0) (x .1))
   -- an export on code points: the number, and the places for the answer
   pub replied : (m : Reply) (out : List ℕ) → One (λ (x : ℕ × List ℕ). Replied m out (x .0) (x .1))
   -- an export on bytes: the number, the room, and the places for the answer

@@ -7,7 +7,8 @@ use mathlib.Core.Bool.{Bool, true, false, cond, _||_}
 use lib.Dec.{eqb, leb}
 use Rattle.text.specs.Text.{position}
 use Rattle.chars.specs.White.{isWhite}
-use Rattle.chars.specs.Width.{widthOf}
+use Rattle.widths.specs.declared.Ambiguous.{Ambiguous}
+use Rattle.widths.specs.Widths.{widthAs}
 use Rattle.list_tokens.specs.Tokens.{inList}
 use Rattle.row_wrap.specs.declared.Wrap.{Wrap}
 use Rattle.row_wrap.specs.Modes.{isNone, segmentsOf}
@@ -19,6 +20,7 @@ use Rattle.motions.specs.declared.Caret.{Caret}
 use Rattle.motions.specs.declared.Moved.{Moved}
 use Rattle.motions.specs.declared.Moved.the-variants.{To, Refused}
 use Rattle.motions.specs.Carets.{here}
+use Rattle.call_rows.specs.Flags.{settingOf, plainOf}
 use Rattle.call_rows.specs.Wraps.{modeOf}
 use Rattle.brackets.specs.Matching.{matchingBracketPos}
 use Rattle.call_texts.specs.Moves.{motion}
@@ -57,17 +59,18 @@ termWrites op big n k t folds kind =
     (wordWrites t [] kind big EndBack false n (position (k .row) (k .col))))))
 
 -- `gj` and `gk`: with mode None or width 0 they write once, as `j` and `k` do
-abbrev pub screenMoves : Wrap → ℕ → Bool → ℕ → Caret → List ℕ → List ℕ → Caret → List Position
-screenMoves mode width down n k t folds c =
+abbrev pub screenMoves : Ambiguous → Wrap → ℕ → Bool → ℕ → Caret → List ℕ → List ℕ → Caret → List Position
+screenMoves a mode width down n k t folds c =
     cond (eqb width 0 || isNone mode) (standing c)
-    (screenWrites t folds (segmentsOf widthOf isWhite mode width) down n (record { row = k .row; col = k .col }))
+    (screenWrites t folds (segmentsOf (widthAs a) isWhite mode width) down n (record { row = k .row; col = k .col }))
 
--- by the numbers of `vertical`
+-- by the numbers of `vertical`, with or without the flag for wide
 unfoldable pub uprightWrites : ℕ → Wrap → ℕ → ℕ → Caret → List ℕ → List ℕ → Caret → List Position
 uprightWrites op mode width n k t folds c =
-    cond (eqb op 0) (standing c)
-    (cond (eqb op 1) (standing c)
-    (cond (eqb op 2) (screenMoves mode width false n k t folds c) (screenMoves mode width true n k t folds c)))
+    let a = settingOf op in
+    cond (eqb (plainOf op) 0) (standing c)
+    (cond (eqb (plainOf op) 1) (standing c)
+    (cond (eqb (plainOf op) 2) (screenMoves a mode width false n k t folds c) (screenMoves a mode width true n k t folds c)))
 
 -- what a call writes: all of it in the order of the writes, and nothing where it is refused. `matching_bracket_pos` writes nothing: what it answers.
 -- The screen moves that remember, which the Rust does not have, write once

@@ -5,14 +5,16 @@ use row_check::Column;
 use row_tabs::cell_width;
 use row_tabs::refused;
 use row_tabs::stop_of;
+use widths::Ambiguous;
 ghost use mathlib.Core.Path.{_≡_};
 ghost use Prim.Native.Nat.{_≤_};
 ghost use lib.ListN.{length};
 ghost use Rattle.chars.specs.Width.{widthBy, Widths};
 ghost use Rattle.row_columns.specs.Columns.{visualFrom, charFrom, cursorFrom};
 ghost use Rattle.row_columns.specs.Columns.{visualCol, charCol, cursorCol};
+ghost use Rattle.widths.specs.Widths.{widthAs};
 ghost use Rattle.row_columns.specs.Calls.{visualColToCharCol, charColToVisualCol};
-ghost use Rattle.row_columns.specs.Calls.{cursorVisualCol};
+ghost use Rattle.row_columns.specs.Calls.{cursorVisualCol, columnBy, columnAs};
 ghost use Rattle.row_columns.specs.Ready.{Ready};
 
 // The visual column of character `col`, or the row's width where it has no such character.
@@ -101,55 +103,95 @@ pub fn cursor_col_in(zeros: &[u32], doubles: &[u32], row: &[u32], col: usize, ta
     cursor_at(zeros, doubles, row, col, stop_of(tabstop))
 }
 
-// The character whose cells hold visual column `visual`, or the row's count past its end.
-// Visual column 0 is character 0, even where that has no cell.
-pub fn visual_col_to_char_col(row: &[u32], visual: u32, tabstop: u32) -> Column
-    ensures { λ r. ⌜ r ≡ visualColToCharCol (now (row .entry)) visual tabstop ⌝ }
+// Which column is asked for.
+enum Ask {
+    Char,
+    Visual,
+    Cursor,
+}
+
+// The column that is asked for, of such a row.
+fn column_in(zeros: &[u32], doubles: &[u32], ask: Ask, row: &[u32], n: u32, tabstop: u32) -> u32
+    requires { ⌜ Widths (now zeros) (now doubles) ⌝ }
+    requires { ⌜ (length (now row) ≤ 1048576) × (tabstop ≤ 1000) ⌝ }
+    ensures { λ r. ⌜ r ≡ columnBy (widthBy (now (zeros .entry)) (now (doubles .entry))) ask
+        tabstop (now (row .entry)) n ⌝ }
+{
+    match ask {
+        Ask::Char => char_col_in(zeros, doubles, row, n, tabstop),
+        Ask::Visual => visual_col_in(zeros, doubles, row, n as usize, tabstop),
+        Ask::Cursor => cursor_col_in(zeros, doubles, row, n as usize, tabstop),
+    }
+}
+
+// The same by the tables of each setting. A table is built where a function names it, so that each
+// setting has a function of its own.
+fn narrow_column(ask: Ask, row: &[u32], n: u32, tabstop: u32) -> u32
+    requires { ⌜ (length (now row) ≤ 1048576) × (tabstop ≤ 1000) ⌝ }
+    ensures { λ r. ⌜ r ≡ columnBy (widthAs Ambiguous.Narrow) ask tabstop (now (row .entry)) n ⌝ }
+{
+    column_in(
+        &chars::ZERO_WIDTH,
+        &chars::DOUBLE_WIDTH,
+        ask,
+        row,
+        n,
+        tabstop,
+    )
+}
+
+fn wide_column(ask: Ask, row: &[u32], n: u32, tabstop: u32) -> u32
+    requires { ⌜ (length (now row) ≤ 1048576) × (tabstop ≤ 1000) ⌝ }
+    ensures { λ r. ⌜ r ≡ columnBy (widthAs Ambiguous.Wide) ask tabstop (now (row .entry)) n ⌝ }
+{
+    column_in(
+        &chars::ZERO_WIDTH,
+        &widths::WIDE_DOUBLES,
+        ask,
+        row,
+        n,
+        tabstop,
+    )
+}
+
+// The column that is asked for, or what the row or the tabstop is refused for.
+fn column(ask: Ask, row: &[u32], n: u32, tabstop: u32, ambiguous: Ambiguous) -> Column
+    ensures { λ r. ⌜ r ≡ columnAs ambiguous ask (now (row .entry)) n tabstop ⌝ }
 {
     let f = refused(row, tabstop);
     if f != 0 {
         return Column::Refused(f);
     }
-    Column::At(char_col_in(
-        &chars::ZERO_WIDTH,
-        &chars::DOUBLE_WIDTH,
-        row,
-        visual,
-        tabstop,
-    ))
+    match ambiguous {
+        Ambiguous::Narrow => Column::At(narrow_column(ask, row, n, tabstop)),
+        Ambiguous::Wide => Column::At(wide_column(ask, row, n, tabstop)),
+    }
+}
+
+// The character whose cells hold visual column `visual`, or the row's count past its end.
+// Visual column 0 is character 0, even where that has no cell.
+pub fn visual_col_to_char_col(
+    row: &[u32],
+    visual: u32,
+    tabstop: u32,
+    ambiguous: Ambiguous,
+) -> Column
+    ensures { λ r. ⌜ r ≡ visualColToCharCol ambiguous (now (row .entry)) visual tabstop ⌝ }
+{
+    column(Ask::Char, row, visual, tabstop, ambiguous)
 }
 
 // The visual column of the first cell of character `col`, or the row's width past its end.
-pub fn char_col_to_visual_col(row: &[u32], col: u32, tabstop: u32) -> Column
-    ensures { λ r. ⌜ r ≡ charColToVisualCol (now (row .entry)) col tabstop ⌝ }
+pub fn char_col_to_visual_col(row: &[u32], col: u32, tabstop: u32, ambiguous: Ambiguous) -> Column
+    ensures { λ r. ⌜ r ≡ charColToVisualCol ambiguous (now (row .entry)) col tabstop ⌝ }
 {
-    let f = refused(row, tabstop);
-    if f != 0 {
-        return Column::Refused(f);
-    }
-    Column::At(visual_col_in(
-        &chars::ZERO_WIDTH,
-        &chars::DOUBLE_WIDTH,
-        row,
-        col as usize,
-        tabstop,
-    ))
+    column(Ask::Visual, row, col, tabstop, ambiguous)
 }
 
 // The visual column in which a cursor on character `col` is drawn: a tab's last cell, and the
 // first cell of any other.
-pub fn cursor_visual_col(row: &[u32], col: u32, tabstop: u32) -> Column
-    ensures { λ r. ⌜ r ≡ cursorVisualCol (now (row .entry)) col tabstop ⌝ }
+pub fn cursor_visual_col(row: &[u32], col: u32, tabstop: u32, ambiguous: Ambiguous) -> Column
+    ensures { λ r. ⌜ r ≡ cursorVisualCol ambiguous (now (row .entry)) col tabstop ⌝ }
 {
-    let f = refused(row, tabstop);
-    if f != 0 {
-        return Column::Refused(f);
-    }
-    Column::At(cursor_col_in(
-        &chars::ZERO_WIDTH,
-        &chars::DOUBLE_WIDTH,
-        row,
-        col as usize,
-        tabstop,
-    ))
+    column(Ask::Cursor, row, col, tabstop, ambiguous)
 }

@@ -1,14 +1,17 @@
 // Where a column or a cell stands in a segment of a row, and the segment of a column. From
 // `wrap.rs`. The segments are the caller's: any numbers.
 use row_check::Column;
+use widths::Ambiguous;
 ghost use mathlib.Core.Path.{_≡_};
-ghost use Prim.Native.Nat.{min};
+ghost use Prim.Native.Nat.{_≤_, min};
 ghost use mathlib.Core.Bool.{_&&_};
 ghost use lib.Dec.{leb, ltb};
+ghost use lib.ListN.{length};
 ghost use Rattle.chars.specs.Width.{widthBy, Widths};
+ghost use Rattle.widths.specs.Widths.{widthAs};
 ghost use Rattle.row_cells.specs.Offsets.{part, charAtOffset, segmentIndex};
 ghost use Rattle.row_offsets.specs.Calls.{charColForVisualOffset, visualOffsetForCharCol};
-ghost use Rattle.row_offsets.specs.Calls.{segmentForCol};
+ghost use Rattle.row_offsets.specs.Calls.{segmentForCol, offsetBy, offsetAs};
 
 // The index of a segment, or the number that the call is refused for.
 pub enum Segment {
@@ -48,36 +51,102 @@ fn char_in(zeros: &[u32], doubles: &[u32], row: &[u32], start: u32, end: u32, of
     end
 }
 
-// The character of the segment from `start` to `end` whose cells hold `offset`, counted in cells
-// from the segment's start; `end`, even past the row's end, where no character does.
-pub fn char_col_for_visual_offset(row: &[u32], start: u32, end: u32, offset: u32) -> Column
-    ensures { λ r. ⌜ r ≡ charColForVisualOffset (now (row .entry)) start end offset ⌝ }
+// Which offset is asked for: the character of a cell, or the cells before a column.
+enum Ask {
+    Char,
+    Cells,
+}
+
+// What is asked for of the segment from `start` to `end`, by the tables that are lent. The cells
+// are those before column `n`, whatever the end.
+fn offset_in(
+    zeros: &[u32],
+    doubles: &[u32],
+    ask: Ask,
+    row: &[u32],
+    start: u32,
+    end: u32,
+    n: u32,
+) -> u32
+    requires { ⌜ Widths (now zeros) (now doubles) × (length (now row) ≤ 1048576) ⌝ }
+    ensures { λ r. ⌜ r ≡ offsetBy (widthBy (now (zeros .entry)) (now (doubles .entry))) ask
+        (now (row .entry)) start end n ⌝ }
+{
+    match ask {
+        Ask::Char => char_in(zeros, doubles, row, start, end, n),
+        Ask::Cells => {
+            let inside = part_of(row, start, n);
+            row_cells::cells_in(zeros, doubles, inside)
+        }
+    }
+}
+
+// The same by the tables of each setting. A table is built where a function names it, so that each
+// setting has a function of its own.
+fn narrow_offset(ask: Ask, row: &[u32], start: u32, end: u32, n: u32) -> u32
+    requires { ⌜ length (now row) ≤ 1048576 ⌝ }
+    ensures { λ r. ⌜ r ≡ offsetBy (widthAs Ambiguous.Narrow) ask (now (row .entry)) start end n ⌝ }
+{
+    offset_in(
+        &chars::ZERO_WIDTH,
+        &chars::DOUBLE_WIDTH,
+        ask,
+        row,
+        start,
+        end,
+        n,
+    )
+}
+
+fn wide_offset(ask: Ask, row: &[u32], start: u32, end: u32, n: u32) -> u32
+    requires { ⌜ length (now row) ≤ 1048576 ⌝ }
+    ensures { λ r. ⌜ r ≡ offsetBy (widthAs Ambiguous.Wide) ask (now (row .entry)) start end n ⌝ }
+{
+    offset_in(
+        &chars::ZERO_WIDTH,
+        &widths::WIDE_DOUBLES,
+        ask,
+        row,
+        start,
+        end,
+        n,
+    )
+}
+
+// What is asked for, or what the row is refused for.
+fn offset_of(ask: Ask, row: &[u32], start: u32, end: u32, n: u32, ambiguous: Ambiguous) -> Column
+    ensures { λ r. ⌜ r ≡ offsetAs ambiguous ask (now (row .entry)) start end n ⌝ }
 {
     let f = row_check::row_refusal(row);
     if f != 0 {
         return Column::Refused(f);
     }
-    Column::At(char_in(
-        &chars::ZERO_WIDTH,
-        &chars::DOUBLE_WIDTH,
-        row,
-        start,
-        end,
-        offset,
-    ))
+    match ambiguous {
+        Ambiguous::Narrow => Column::At(narrow_offset(ask, row, start, end, n)),
+        Ambiguous::Wide => Column::At(wide_offset(ask, row, start, end, n)),
+    }
+}
+
+// The character of the segment from `start` to `end` whose cells hold `offset`, counted in cells
+// from the segment's start; `end`, even past the row's end, where no character does.
+pub fn char_col_for_visual_offset(
+    row: &[u32],
+    start: u32,
+    end: u32,
+    offset: u32,
+    ambiguous: Ambiguous,
+) -> Column
+    ensures { λ r. ⌜ r ≡ charColForVisualOffset ambiguous (now (row .entry)) start end offset ⌝ }
+{
+    offset_of(Ask::Char, row, start, end, offset, ambiguous)
 }
 
 // The cells of the characters before column `col` in a segment that begins at `start`; 0 for a
 // column before the segment.
-pub fn visual_offset_for_char_col(row: &[u32], start: u32, col: u32) -> Column
-    ensures { λ r. ⌜ r ≡ visualOffsetForCharCol (now (row .entry)) start col ⌝ }
+pub fn visual_offset_for_char_col(row: &[u32], start: u32, col: u32, ambiguous: Ambiguous) -> Column
+    ensures { λ r. ⌜ r ≡ visualOffsetForCharCol ambiguous (now (row .entry)) start col ⌝ }
 {
-    let f = row_check::row_refusal(row);
-    if f != 0 {
-        return Column::Refused(f);
-    }
-    let inside = part_of(row, start, col);
-    Column::At(row_cells::cells_in(&chars::ZERO_WIDTH, &chars::DOUBLE_WIDTH, inside))
+    offset_of(Ask::Cells, row, start, 0, col, ambiguous)
 }
 
 fn holds(start: u32, end: u32, col: u32) -> bool

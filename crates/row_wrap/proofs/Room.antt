@@ -9,7 +9,8 @@ use lib.ListN.{length, getD, take, drop, set, length-set}
 use lib.Seq.{set-at, take-suc, append-snoc, length-take-le, take-all, drop-cons}
 use borrow.Author.Tests.{lt-ltb, le-ltb, eq-eqb, ne-eqb}
 use Rattle.chars.specs.White.{isWhite}
-use Rattle.chars.specs.Width.{widthOf}
+use Rattle.widths.specs.declared.Ambiguous.{Ambiguous}
+use Rattle.widths.specs.Widths.{widthAs}
 use Rattle.row_check.specs.Row.{rowRefusal}
 use Rattle.row_wrap.specs.declared.Wrap.{Wrap}
 use Rattle.row_wrap.specs.declared.Segments.{Segments}
@@ -90,15 +91,15 @@ wrap-row : (row segments room : List ℕ) → (rowRefusal row ≡ 0 → ⊥) →
 unfolding wrapRefusal
 wrap-row row segments room n = rw (ne-eqb (rowRefusal row) 0 n)
 
-module _ (mode : Wrap) (width : ℕ) (row : List ℕ) {f : ℕ} (given : f ≡ rowRefusal row) where
-  pub wrapped-refused : (room : List ℕ) → (f ≡ 0 → ⊥) → Wraps mode width row room (Refused f) room
+module _ (a : Ambiguous) (mode : Wrap) (width : ℕ) (row : List ℕ) {f : ℕ} (given : f ≡ rowRefusal row) where
+  pub wrapped-refused : (room : List ℕ) → (f ≡ 0 → ⊥) → Wraps a mode width row room (Refused f) room
   wrapped-refused room n =
       let m : rowRefusal row ≡ 0 → ⊥ = λ e. n (given ∙ e) in
-      rw (wrap-row row (segmentsOf widthOf isWhite mode width row) room m, ← given) (record { answer = refused-is f _ n; left = rw (ne-eqb f 0 n) })
+      rw (wrap-row row (segmentsOf (widthAs a) isWhite mode width row) room m, ← given) (record { answer = refused-is f _ n; left = rw (ne-eqb f 0 n) })
 
   pub wrapped-is :
-      {segments room room′ : List ℕ} {r : Segments} → f ≡ 0 → segmentsOf widthOf isWhite mode width row ≡ segments → Fitted segments room r room′ →
-      Wraps mode width row room r room′
+      {segments room room′ : List ℕ} {r : Segments} → f ≡ 0 → segmentsOf (widthAs a) isWhite mode width row ≡ segments → Fitted segments room r room′ →
+      Wraps a mode width row room r room′
   wrapped-is {segments} {room} z e fit = rw (e, wrap-room row segments room (sym given ∙ z)) fit
 
 -- which segments a mode gives

@@ -1,5 +1,5 @@
 -- What the walks of `src/` leave in the room by the tables that they are lent, and what the call answers: the number that it is refused for,
--- or what the definitions give by today's tables.
+-- or what the definitions give by the widths of a setting.
 -- Definitions only. Assumes nothing.
 use Prim.Native.Nat.{ℕ}
 use mathlib.Core.Path.{_≡_}
@@ -8,7 +8,8 @@ use mathlib.Core.Bool.{Bool, cond}
 use lib.ListN.{length}
 use lib.Dec.{eqb}
 use Rattle.chars.specs.White.{isWhite}
-use Rattle.chars.specs.Width.{widthOf}
+use Rattle.widths.specs.declared.Ambiguous.{Ambiguous}
+use Rattle.widths.specs.Widths.{widthAs}
 use Rattle.row_check.specs.Row.{rowRefusal}
 use Rattle.row_wrap.specs.declared.Wrap.{Wrap}
 use Rattle.row_wrap.specs.declared.Segments.{Segments}
@@ -35,7 +36,7 @@ Whole row room r room′ = Fitted (0 ∷ length row ∷ []) room r room′
 unfoldable pub wrapRefusal : List ℕ → List ℕ → List ℕ → ℕ
 wrapRefusal row segments room = cond (eqb (rowRefusal row) 0) (roomRefusal segments room) (rowRefusal row)
 
--- what `wrap_segments` answers and leaves in the room, by today's tables
-abbrev pub Wraps : Wrap → ℕ → List ℕ → List ℕ → Segments → List ℕ → Type 0
-Wraps mode width row room r room′ =
-    let segments = segmentsOf widthOf isWhite mode width row in Answered (wrapRefusal row segments room) segments room r room′
+-- what `wrap_segments` answers and leaves in the room under a setting
+abbrev pub Wraps : Ambiguous → Wrap → ℕ → List ℕ → List ℕ → Segments → List ℕ → Type 0
+Wraps a mode width row room r room′ =
+    let segments = segmentsOf (widthAs a) isWhite mode width row in Answered (wrapRefusal row segments room) segments room r room′

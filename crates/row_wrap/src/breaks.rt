@@ -4,10 +4,12 @@
 // therefore reaches past it (`proofs/Twice.antt`).
 use crate::Segments;
 use crate::Wrap;
+use widths::Ambiguous;
 ghost use mathlib.Core.Path.{_≡_};
 ghost use Prim.Native.Nat.{_*_, _≤_};
 ghost use lib.ListN.{length};
-ghost use Rattle.chars.specs.Width.{widthBy, widthOf};
+ghost use Rattle.chars.specs.Width.{widthBy};
+ghost use Rattle.widths.specs.Widths.{widthAs};
 ghost use Rattle.row_wrap.specs.Modes.{isNone, isWord, isWhole};
 ghost use Rattle.row_wrap.specs.Calls.{rowSegments, Written, Broken, Whole, Wraps};
 ghost use Rattle.row_segment.specs.Lent.{Tables};
@@ -86,11 +88,12 @@ fn fit_segments(
     Segments::Count(n as u32)
 }
 
-// The same by the tables of today.
-fn broken(row: &[u32], width: u32, word: bool, out: &mut [u32]) -> Segments
+// The same by the tables of each setting. A table is built where a function names it, so that each
+// setting has a function of its own.
+fn narrow_broken(row: &[u32], width: u32, word: bool, out: &mut [u32]) -> Segments
     requires { ⌜ length (now row) ≤ 1048576 ⌝ }
-    ensures { λ r. ⌜ Broken widthOf word width (now (row .entry)) (now (out .entry)) r
-        (now (out .exit)) ⌝ }
+    ensures { λ r. ⌜ Broken (widthAs Ambiguous.Narrow) word width (now (row .entry))
+        (now (out .entry)) r (now (out .exit)) ⌝ }
 {
     fit_segments(
         &chars::ZERO_WIDTH,
@@ -101,6 +104,33 @@ fn broken(row: &[u32], width: u32, word: bool, out: &mut [u32]) -> Segments
         word,
         out,
     )
+}
+
+fn wide_broken(row: &[u32], width: u32, word: bool, out: &mut [u32]) -> Segments
+    requires { ⌜ length (now row) ≤ 1048576 ⌝ }
+    ensures { λ r. ⌜ Broken (widthAs Ambiguous.Wide) word width (now (row .entry))
+        (now (out .entry)) r (now (out .exit)) ⌝ }
+{
+    fit_segments(
+        &chars::ZERO_WIDTH,
+        &widths::WIDE_DOUBLES,
+        &chars::WHITE,
+        row,
+        width,
+        word,
+        out,
+    )
+}
+
+fn broken(row: &[u32], width: u32, word: bool, ambiguous: Ambiguous, out: &mut [u32]) -> Segments
+    requires { ⌜ length (now row) ≤ 1048576 ⌝ }
+    ensures { λ r. ⌜ Broken (widthAs ambiguous) word width (now (row .entry)) (now (out .entry)) r
+        (now (out .exit)) ⌝ }
+{
+    match ambiguous {
+        Ambiguous::Narrow => narrow_broken(row, width, word, out),
+        Ambiguous::Wide => wide_broken(row, width, word, out),
+    }
 }
 
 // The one segment of a row that is not broken.
@@ -151,8 +181,15 @@ fn is_whole(mode: Wrap, width: u32, count: usize) -> bool
 // Breaks a row into segments of at most `width` cells and writes them to the front of the room, as
 // pairs start, end; answers how many there are. Mode None, width 0 and an empty row give the one
 // segment from 0 to the row's count. Refused, it writes nothing.
-pub fn wrap_segments(row: &[u32], width: u16, mode: Wrap, out: &mut [u32]) -> Segments
-    ensures { λ r. ⌜ Wraps mode width (now (row .entry)) (now (out .entry)) r (now (out .exit)) ⌝ }
+pub fn wrap_segments(
+    row: &[u32],
+    width: u16,
+    mode: Wrap,
+    ambiguous: Ambiguous,
+    out: &mut [u32],
+) -> Segments
+    ensures { λ r. ⌜ Wraps ambiguous mode width (now (row .entry)) (now (out .entry)) r
+        (now (out .exit)) ⌝ }
 {
     let f = row_check::row_refusal(row);
     if f != 0 {
@@ -162,5 +199,5 @@ pub fn wrap_segments(row: &[u32], width: u16, mode: Wrap, out: &mut [u32]) -> Se
     if is_whole(mode, cells, row.len()) {
         return whole(row, out);
     }
-    broken(row, cells, is_word(mode), out)
+    broken(row, cells, is_word(mode), ambiguous, out)
 }

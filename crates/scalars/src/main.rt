@@ -1,7 +1,8 @@
-// Asks `chars` about every scalar value and prints what holds where. The stored output is what the
+// Asks `chars` and `widths` about every scalar value and prints what holds where. The stored output is what the
 // oracle's Rust prints (tools/char-tables), so a difference fails the gate. Document 01, "Character
 // facts": a program compares all 1,112,064 scalar values.
 use libc::STDOUT_FILENO;
+use widths::Ambiguous;
 
 // What is asked.
 enum Fact {
@@ -9,6 +10,8 @@ enum Fact {
     Letter,
     White,
     Width(u32),
+    // The width under the setting wide.
+    Wide(u32),
 }
 
 // Whether the fact holds of x.
@@ -21,6 +24,7 @@ fn holds(fact: Fact, x: u32) -> bool {
         Fact::Letter => letters::is_letter(x),
         Fact::White => chars::is_white(x),
         Fact::Width(w) => chars::width(x) == w,
+        Fact::Wide(w) => widths::width(Ambiguous::Wide, x) == w,
     }
 }
 
@@ -42,6 +46,10 @@ fn print_name(fact: Fact) {
         }
         Fact::Width(w) => {
             io::write_all(STDOUT_FILENO, b"width");
+            print_number(w);
+        }
+        Fact::Wide(w) => {
+            io::write_all(STDOUT_FILENO, b"wide");
             print_number(w);
         }
     }
@@ -95,4 +103,6 @@ fn main() {
     show(Fact::White);
     show(Fact::Width(0));
     show(Fact::Width(2));
+    show(Fact::Wide(0));
+    show(Fact::Wide(2));
 }

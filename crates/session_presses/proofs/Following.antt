@@ -8,6 +8,8 @@ use lib.Dec.{eqb}
 use Rattle.lists.specs.Codes.{codes}
 use Rattle.lists.specs.Lists.{isSame}
 use Rattle.chars.specs.Width.{zeroWidths, doubleWidths, widthOf}
+use Rattle.widths.specs.declared.Ambiguous.the-variants.{Narrow}
+use Rattle.widths.specs.Widths.{widthAs}
 use Rattle.chars.proofs.Facts.{width-most}
 use Rattle.text_check.specs.Accept.{textRefusal}
 use Rattle.text_check.proofs.Accepted.{accepted-short}
@@ -31,8 +33,8 @@ use Rattle.session_presses.specs.declared.Column.the-variants.{Kept, End
 use Rattle.session_presses.specs.Pressed.{pastEnds, actOf, held, acted, pressed}
 use Rattle.session_presses.specs.Ends.{AtEnd, Stroke, nameOf, afterRun, FollowsEnds}
 
-thin : (x : ℕ) → widthOf x ≤ 1000
-unfolding widthOf
+thin : (x : ℕ) → widthAs Narrow x ≤ 1000
+unfolding widthAs widthOf
 thin x = omega (arith, width-most zeroWidths doubleWidths x)
 
 -- a move whose sticky column is kept
@@ -41,30 +43,30 @@ kept-is (To k) = refl
 kept-is (Refused f) = refl
 
 module _ (t : List ℕ) (n : ℕ) (k : Caret) where
-  stroke-is : (down : Bool) → pressed (nameOf down) t n k ≡ held Kept (moveRows t [] 8 down n k)
+  stroke-is : (down : Bool) → pressed (nameOf down) t n k ≡ held Kept (moveRows Narrow t [] 8 down n k)
   unfolding acted actOf found isSame codes twoBytes wordKeys lineKeys placeKeys
   stroke-is true = refl
   stroke-is false = refl
 
-  rows-end : (down : Bool) → AtEnd t k → (c : Caret) → moveRows t [] 8 down n k ≡ To c → AtEnd t c
+  rows-end : (down : Bool) → AtEnd t k → (c : Caret) → moveRows Narrow t [] 8 down n k ≡ To c → AtEnd t c
   unfolding landed
-  rows-end down at = moving-to (AtEnd t) (verticalRefusal t [] 8 k) (atTarget (moveVertical widthOf t [] 8 (deltaOf down n) (k .row) (k .col) (k .sticky))) there
+  rows-end down at = moving-to (AtEnd t) (verticalRefusal t [] 8 k) (atTarget (moveVertical (widthAs Narrow) t [] 8 (deltaOf down n) (k .row) (k .col) (k .sticky))) there
     where
-      there : verticalRefusal t [] 8 k ≡ 0 → AtEnd t (atTarget (moveVertical widthOf t [] 8 (deltaOf down n) (k .row) (k .col) (k .sticky)))
+      there : verticalRefusal t [] 8 k ≡ 0 → AtEnd t (atTarget (moveVertical (widthAs Narrow) t [] 8 (deltaOf down n) (k .row) (k .col) (k .sticky)))
       there z =
           let brief = accepted-short t (lowest-none (textRefusal t) _ z .0) in
           rw (at .aims-past)
           (record {
             on-last =
-                vertical-last widthOf thin t brief 8 (omega arith) pastEnds (omega arith) [] (deltaOf down n) (k .row) (k .col) (own t [] 8 k z .in-row)
+                vertical-last (widthAs Narrow) thin t brief 8 (omega arith) pastEnds (omega arith) [] (deltaOf down n) (k .row) (k .col) (own t [] 8 k z .in-row)
                 (at .on-last);
             aims-past = refl;
           })
 
   stroke-end : (down : Bool) → AtEnd t k → AtEnd t (caretAfter k (pressed (nameOf down) t n k))
-  stroke-end down at = rw (stroke-is down, kept-is (moveRows t [] 8 down n k)) (go (moveRows t [] 8 down n k) refl)
+  stroke-end down at = rw (stroke-is down, kept-is (moveRows Narrow t [] 8 down n k)) (go (moveRows Narrow t [] 8 down n k) refl)
     where
-      go : (m : Moved) → moveRows t [] 8 down n k ≡ m → AtEnd t (caretAfter k m)
+      go : (m : Moved) → moveRows Narrow t [] 8 down n k ≡ m → AtEnd t (caretAfter k m)
       go (To c) e = rows-end down at c e
       go (Refused f) e = at
 

@@ -95,9 +95,9 @@ lands-on k Nothing q = let z : _≡_ {A = ℕ} 0 1 = cc in omega arith
 numbered : (t folds list : List ℕ) (tabstop : ℕ) (m : Move) (n : ℕ) (k : Caret) → Numbered (movedBy t folds list tabstop m n k)
 numbered t folds list tabstop (By w) n k = moves _ _
 numbered t folds list tabstop (Word m big stop) n k = moves _ _
-numbered t folds list tabstop (Rows down) n k = moves _ _
-numbered t folds list tabstop (Screen mode width down) n k = moves _ _
-numbered t folds list tabstop (ScreenKept mode width down) n k = moves _ _
+numbered t folds list tabstop (Rows down a) n k = moves _ _
+numbered t folds list tabstop (Screen mode width down a) n k = moves _ _
+numbered t folds list tabstop (ScreenKept mode width down a) n k = moves _ _
 numbered t folds list tabstop (Viewport edge top height offset) n k = moves _ _
 numbered t folds list tabstop Bracket n k =
     let f = firstBracket (rowAt t (k .row)) (k .col) in

@@ -4,6 +4,7 @@ use Prim.Native.Nat.{ℕ}
 use mathlib.Core.List.{List, []}
 use mathlib.Core.Bool.{Bool, true, false}
 use Rattle.lists.specs.Codes.{codes}
+use Rattle.widths.specs.declared.Ambiguous.the-variants.{Narrow}
 use Rattle.word_rounds.specs.declared.Motion.{Motion}
 use Rattle.word_rounds.specs.declared.Motion.the-variants.{Fwd, Back, End, EndBack}
 use Rattle.vertical.specs.declared.Sticky.{Sticky}
@@ -61,8 +62,8 @@ actOf Key.Top = by way.Top
 actOf Key.Bottom = by way.Bottom
 actOf Key.Column = by way.GotoColumn
 actOf Key.Bracket = Does Bracket Cleared
-actOf Key.Down = Does (Rows true) Kept
-actOf Key.Up = Does (Rows false) Kept
+actOf Key.Down = Does (Rows true Narrow) Kept
+actOf Key.Up = Does (Rows false Narrow) Kept
 actOf Key.Unknown = Unknown
 
 -- what a key does with a text, a count and a caret

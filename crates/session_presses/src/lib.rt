@@ -5,6 +5,7 @@ use motions::Moved;
 use session_keys::Key;
 use text_moves::Way;
 use vertical::Sticky;
+use widths::Ambiguous;
 use word_rounds::Motion;
 ghost use mathlib.Core.Path.{_≡_};
 ghost use mathlib.Core.Bool.{false};
@@ -47,11 +48,15 @@ fn word(big: bool, motion: Motion) -> Act
     Act::Does(m, Column::Cleared)
 }
 
-// Up or down, by the sticky column that there is.
+// Up or down, by the sticky column that there is. A session has no setting for widths: narrow.
 fn rows(down: bool) -> Act
-    ensures { λ r. ⌜ r ≡ Act.Does (Move.Rows down) Column.Kept ⌝ }
+    ensures { λ r. ⌜ r ≡ Act.Does (Move.Rows down Ambiguous.Narrow) Column.Kept ⌝ }
 {
-    Act::Does(Move::Rows { down: down }, Column::Kept)
+    let m = Move::Rows {
+        down: down,
+        ambiguous: Ambiguous::Narrow,
+    };
+    Act::Does(m, Column::Kept)
 }
 
 // What each key does.

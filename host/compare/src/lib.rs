@@ -3,7 +3,8 @@
 use oracle::Outcome;
 use oracle::case::{Case, FILLER};
 use tsivareza::{
-    self as lib, Columns, Enter, Kept, Keywords, Offsets, Room, ScreenKept, Seek, Steps, Vertical, Viewport, Word, Words, bytes,
+    self as lib, Ambiguous, Columns, Enter, Kept, Keywords, Offsets, Room, ScreenKept, Seek, Steps, Vertical, Viewport, Word, Words,
+    bytes,
 };
 
 /// The answer on code points, which the one on bytes must equal where it was asked for.
@@ -42,6 +43,7 @@ fn moved(k: Result<lib::Caret, u32>) -> Outcome {
 /// What the library answers: on code points, and with a room on bytes too.
 pub fn port(case: &Case, mut room: Option<&mut Room>) -> Outcome {
     let (text, line, list, x, col) = (&case.text, &case.line, &case.list, case.character, case.column);
+    let (name, ambiguous) = named(case);
     let k = lib::Caret { row: case.caret.row, col: case.caret.col, sticky: case.caret.sticky };
     if let Some(&(_, which)) = lib::MOTIONS.iter().find(|(name, _)| *name == case.call.name) {
         let on_bytes = room.map(|room| room.motion(which, &bytes(text), k, case.count));
@@ -50,15 +52,15 @@ pub fn port(case: &Case, mut room: Option<&mut Room>) -> Outcome {
     if let Some(which) = vertical(case) {
         let (folds, count, tabstop) = (&case.folds[..], case.count, case.tabstop);
         let on_bytes =
-            room.map(|room| room.vertical(which, &bytes(text), k, Steps { folds: &bytes(folds), count, tabstop }));
-        return moved(both(case, lib::vertical(which, text, k, Steps { folds, count, tabstop }), on_bytes));
+            room.map(|room| room.vertical_as(which, &bytes(text), k, Steps { folds: &bytes(folds), count, tabstop }, ambiguous));
+        return moved(both(case, lib::vertical_as(which, text, k, Steps { folds, count, tabstop }, ambiguous), on_bytes));
     }
     if let Some(which) = screen_kept(case) {
         let (folds, count, tabstop) = (&case.folds[..], case.count, case.tabstop);
         let k = Kept { caret: k, offset: case.offset };
         let on_bytes =
-            room.map(|room| room.screen_kept(which, &bytes(text), k, Steps { folds: &bytes(folds), count, tabstop }));
-        let moved = both(case, lib::screen_kept(which, text, k, Steps { folds, count, tabstop }), on_bytes);
+            room.map(|room| room.screen_kept_as(which, &bytes(text), k, Steps { folds: &bytes(folds), count, tabstop }, ambiguous));
+        let moved = both(case, lib::screen_kept_as(which, text, k, Steps { folds, count, tabstop }, ambiguous), on_bytes);
         return moved.map_or_else(Outcome::Refused, |k| Outcome::Kept(caret(k.caret), k.offset));
     }
     if let Some(which) = viewport(case) {
@@ -77,11 +79,11 @@ pub fn port(case: &Case, mut room: Option<&mut Room>) -> Outcome {
         let on_bytes = room.as_mut().map(|room| room.keywords(asked, &bytes(list)));
         both(case, lib::keywords(asked, list), on_bytes)
     };
-    match case.call.name {
+    match name {
         "is_scalar" => return Outcome::Truth(lib::is_scalar(x)),
         "is_white" => return fact(lib::is_white(x)),
         "is_letter" => return fact(lib::is_letter(x)),
-        "width" => return number(lib::width(x)),
+        "width" => return number(lib::width_as(x, ambiguous)),
         "parse" => return number(keywords(Keywords::Parse)),
         "matches" => return truth(keywords(Keywords::Matches(x))),
         "is_keyword_char" => return truth(keywords(Keywords::IsKeywordChar(x))),
@@ -97,10 +99,10 @@ pub fn port(case: &Case, mut room: Option<&mut Room>) -> Outcome {
         _ => {}
     }
     let mut columns = |asked| {
-        let on_bytes = room.as_mut().map(|room| room.columns(asked, &bytes(line), case.tabstop));
-        number(both(case, lib::columns(asked, line, case.tabstop), on_bytes))
+        let on_bytes = room.as_mut().map(|room| room.columns_as(asked, &bytes(line), case.tabstop, ambiguous));
+        number(both(case, lib::columns_as(asked, line, case.tabstop, ambiguous), on_bytes))
     };
-    match case.call.name {
+    match name {
         "visual_col_to_char_col" => return columns(Columns::VisualColToCharCol(col)),
         "char_col_to_visual_col" => return columns(Columns::CharColToVisualCol(col)),
         "cursor_visual_col" => return columns(Columns::CursorVisualCol(col)),
@@ -108,11 +110,11 @@ pub fn port(case: &Case, mut room: Option<&mut Room>) -> Outcome {
         _ => {}
     }
     let mut offsets = |asked| {
-        let on_bytes = room.as_mut().map(|room| room.offsets(asked, &bytes(line)));
-        number(both(case, lib::offsets(asked, line), on_bytes))
+        let on_bytes = room.as_mut().map(|room| room.offsets_as(asked, &bytes(line), ambiguous));
+        number(both(case, lib::offsets_as(asked, line, ambiguous), on_bytes))
     };
     let (start, end) = (case.start, case.end);
-    match case.call.name {
+    match name {
         "char_col_for_visual_offset" => return offsets(Offsets::CharColForVisualOffset { start, end, offset: col }),
         "visual_offset_for_char_col" => return offsets(Offsets::VisualOffsetForCharCol { start, col }),
         _ => {}
@@ -122,7 +124,7 @@ pub fn port(case: &Case, mut room: Option<&mut Room>) -> Outcome {
         let sought = both(case, lib::seek(which, text, k), on_bytes);
         sought.map_or_else(Outcome::Refused, |(found, k)| Outcome::Told(found, caret(k)))
     };
-    match case.call.name {
+    match name {
         "match_bracket" => seek(Seek::MatchBracket),
         "find_char_on_line" => {
             seek(Seek::FindCharOnLine { x, forward: case.forward, till: case.till, skip_adjacent: case.skip })
@@ -153,6 +155,12 @@ pub fn port(case: &Case, mut room: Option<&mut Room>) -> Outcome {
     }
 }
 
+/// The name of a call without the flag, and the setting.
+fn named(case: &Case) -> (&'static str, Ambiguous) {
+    let name = case.call.name;
+    oracle::wide::stem(name).map_or((name, Ambiguous::Narrow), |stem| (stem, Ambiguous::Wide))
+}
+
 fn word(case: &Case) -> Option<Word> {
     match case.call.name {
         "move_word_fwd" => Some(Word::Fwd),
@@ -165,7 +173,7 @@ fn word(case: &Case) -> Option<Word> {
 
 fn vertical(case: &Case) -> Option<Vertical> {
     let (mode, width) = (mode(case), case.view.width);
-    match case.call.name {
+    match named(case).0 {
         "move_up" => Some(Vertical::Up),
         "move_down" => Some(Vertical::Down),
         "move_screen_up" => Some(Vertical::ScreenUp { mode, width }),
@@ -176,7 +184,7 @@ fn vertical(case: &Case) -> Option<Vertical> {
 
 fn screen_kept(case: &Case) -> Option<ScreenKept> {
     let (mode, width) = (mode(case), case.view.width);
-    match case.call.name {
+    match named(case).0 {
         "move_screen_up_kept" => Some(ScreenKept::Up { mode, width }),
         "move_screen_down_kept" => Some(ScreenKept::Down { mode, width }),
         _ => None,
@@ -203,12 +211,12 @@ fn mode(case: &Case) -> lib::Wrap {
 
 /// `wrap_segments`, the places lent for segments watched.
 fn wrapped(case: &Case, room: Option<&mut Room>) -> Outcome {
-    let (mode, line, width) = (mode(case), &case.line, case.view.width);
+    let (mode, line, width, ambiguous) = (mode(case), &case.line, case.view.width, named(case).1);
     let mut segments = vec![FILLER; case.room as usize];
-    let on_points = lib::wrap_segments(line, width, mode, &mut segments);
+    let on_points = lib::wrap_segments_as(line, width, mode, &mut segments, ambiguous);
     if let Some(room) = room {
         let mut again = vec![FILLER; case.room as usize];
-        let on_bytes = room.wrap_segments(&bytes(line), width, mode, &mut again);
+        let on_bytes = room.wrap_segments_as(&bytes(line), width, mode, &mut again, ambiguous);
         let _ = both(case, (on_points, &segments), Some((on_bytes, &again)));
     }
     if on_points.is_err() {

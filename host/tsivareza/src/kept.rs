@@ -1,6 +1,6 @@
 //! The screen moves that remember their offset within a segment.
 
-use crate::{Caret, Room, Steps, Wrap, answer, raw};
+use crate::{Ambiguous, Caret, Room, Steps, Wrap, answer, raw};
 
 /// A caret with the offset within a segment that it keeps, where it keeps one. What every other motion answers keeps none.
 #[derive(Clone, Copy, Debug, PartialEq, Eq)]
@@ -17,11 +17,12 @@ pub enum ScreenKept {
 }
 
 impl ScreenKept {
-    fn numbers(self) -> (u32, u32, u16) {
-        match self {
+    fn numbers(self, ambiguous: Ambiguous) -> (u32, u32, u16) {
+        let (op, mode, width) = match self {
             ScreenKept::Up { mode, width } => (0, mode as u32, width),
             ScreenKept::Down { mode, width } => (1, mode as u32, width),
-        }
+        };
+        (ambiguous.flagged(op), mode, width)
     }
 }
 
@@ -49,7 +50,12 @@ impl Kept {
 /// assert_eq!(screen_kept(down, &text, at(2, Some(1)), steps), Ok(at(4, Some(1))));
 /// ```
 pub fn screen_kept(which: ScreenKept, text: &[u32], k: Kept, steps: Steps) -> Result<Kept, u32> {
-    let ((op, mode, width), [row, col, held, sticky, kept, offset]) = (which.numbers(), k.numbers());
+    screen_kept_as(which, text, k, steps, Ambiguous::Narrow)
+}
+
+/// The same under a setting for widths.
+pub fn screen_kept_as(which: ScreenKept, text: &[u32], k: Kept, steps: Steps, ambiguous: Ambiguous) -> Result<Kept, u32> {
+    let ((op, mode, width), [row, col, held, sticky, kept, offset]) = (which.numbers(ambiguous), k.numbers());
     let Steps { folds, count, tabstop } = steps;
     answer(|out| unsafe {
         raw::tsivareza_screen_kept_u32(
@@ -77,7 +83,18 @@ pub fn screen_kept(which: ScreenKept, text: &[u32], k: Kept, steps: Steps) -> Re
 impl Room {
     /// The room takes the code points of the text and the numbers of the folds.
     pub fn screen_kept(&mut self, which: ScreenKept, text: &[u8], k: Kept, steps: Steps<u8>) -> Result<Kept, u32> {
-        let ((op, mode, width), [row, col, held, sticky, kept, offset]) = (which.numbers(), k.numbers());
+        self.screen_kept_as(which, text, k, steps, Ambiguous::Narrow)
+    }
+
+    pub fn screen_kept_as(
+        &mut self,
+        which: ScreenKept,
+        text: &[u8],
+        k: Kept,
+        steps: Steps<u8>,
+        ambiguous: Ambiguous,
+    ) -> Result<Kept, u32> {
+        let ((op, mode, width), [row, col, held, sticky, kept, offset]) = (which.numbers(ambiguous), k.numbers());
         let Steps { folds, count, tabstop } = steps;
         let (points, most) = (self.0.as_mut_ptr(), self.0.len());
         answer(|out| unsafe {

@@ -31,9 +31,9 @@ struct Papers;
 
 pub use encodings::{utf8_decode, utf8_encode};
 pub use inner::{Kind, Range, Ranges, inner_pair};
-pub use kept::{Kept, ScreenKept, screen_kept};
+pub use kept::{Kept, ScreenKept, screen_kept, screen_kept_as};
 pub use signs::{Enter, enter, without_plus};
-pub use upright::{Steps, Vertical, Viewport, vertical, viewport};
+pub use upright::{Steps, Vertical, Viewport, vertical, vertical_as, viewport};
 
 /// What the places for an answer hold before a call; a refusal leaves them so.
 const UNTOUCHED: u32 = 0x5EED_5EED;
@@ -101,6 +101,40 @@ impl Room {
     }
 }
 
+// ── Widths ──────────────────────────────────────────────────────────
+
+/// How a screen shows the characters of class A (Ambiguous) of EastAsianWidth.txt, as arrows and the degree sign: by
+/// their width, or in two cells where that is one. The calls on widths have a form that takes it, with `_as` at the end
+/// of its name; the others are narrow.
+///
+/// ```
+/// use tsivareza::{Ambiguous, Caret, Columns, Steps, Vertical, columns_as, vertical_as, width_as};
+/// assert_eq!((width_as(0x2192, Ambiguous::Narrow), width_as(0x2192, Ambiguous::Wide)), (Ok(1), Ok(2)));
+/// let arrow_b = [0x2192, 0x62];
+/// assert_eq!(columns_as(Columns::CharColToVisualCol(1), &arrow_b, 8, Ambiguous::Wide), Ok(2));
+/// let text = [&arrow_b[..], &[0x0A, 0x61, 0x62, 0x63]].concat();
+/// let (k, steps) = (Caret { row: 0, col: 1, sticky: None }, Steps { folds: &[], count: 1, tabstop: 8 });
+/// let down = |a| vertical_as(Vertical::Down, &text, k, steps, a).map(|k| (k.row, k.col, k.sticky));
+/// assert_eq!(down(Ambiguous::Narrow), Ok((1, 1, Some(1))));
+/// assert_eq!(down(Ambiguous::Wide), Ok((1, 2, Some(2))));
+/// ```
+#[derive(Clone, Copy, Debug, Default, PartialEq, Eq)]
+pub enum Ambiguous {
+    #[default]
+    Narrow,
+    Wide,
+}
+
+impl Ambiguous {
+    /// The number of a call, with the flag where the setting is wide.
+    fn flagged(self, op: u32) -> u32 {
+        match self {
+            Ambiguous::Narrow => op,
+            Ambiguous::Wide => op + 256,
+        }
+    }
+}
+
 // ── Characters ──────────────────────────────────────────────────────
 
 fn character(op: u32, x: u32) -> Result<u32, u32> {
@@ -145,7 +179,12 @@ pub fn is_letter(x: u32) -> Result<bool, u32> {
 /// assert_eq!(tsivareza::width(0x110000), Err(2));
 /// ```
 pub fn width(x: u32) -> Result<u32, u32> {
-    character(3, x)
+    width_as(x, Ambiguous::Narrow)
+}
+
+/// The same under a setting.
+pub fn width_as(x: u32, ambiguous: Ambiguous) -> Result<u32, u32> {
+    character(ambiguous.flagged(3), x)
 }
 
 // ── Rows ────────────────────────────────────────────────────────────
@@ -212,24 +251,34 @@ pub enum Columns {
 }
 
 impl Columns {
-    fn numbers(self) -> (u32, u32) {
-        match self {
+    fn numbers(self, ambiguous: Ambiguous) -> (u32, u32) {
+        let (op, col) = match self {
             Columns::VisualColToCharCol(col) => (0, col),
             Columns::CharColToVisualCol(col) => (1, col),
             Columns::CursorVisualCol(col) => (2, col),
             Columns::LeadingVisualWidth => (3, 0),
-        }
+        };
+        (ambiguous.flagged(op), col)
     }
 }
 
 pub fn columns(asked: Columns, row: &[u32], tabstop: u32) -> Result<u32, u32> {
-    let (op, col) = asked.numbers();
+    columns_as(asked, row, tabstop, Ambiguous::Narrow)
+}
+
+/// The same under a setting; `LeadingVisualWidth` is the same under both.
+pub fn columns_as(asked: Columns, row: &[u32], tabstop: u32, ambiguous: Ambiguous) -> Result<u32, u32> {
+    let (op, col) = asked.numbers(ambiguous);
     number(|out| unsafe { raw::tsivareza_columns_u32(op, row.as_ptr(), row.len(), col, tabstop, out) })
 }
 
 impl Room {
     pub fn columns(&mut self, asked: Columns, row: &[u8], tabstop: u32) -> Result<u32, u32> {
-        let ((op, col), room) = (asked.numbers(), &mut self.0);
+        self.columns_as(asked, row, tabstop, Ambiguous::Narrow)
+    }
+
+    pub fn columns_as(&mut self, asked: Columns, row: &[u8], tabstop: u32, ambiguous: Ambiguous) -> Result<u32, u32> {
+        let ((op, col), room) = (asked.numbers(ambiguous), &mut self.0);
         number(|out| unsafe {
             raw::tsivareza_columns(op, row.as_ptr(), row.len(), room.as_mut_ptr(), room.len(), col, tabstop, out)
         })
@@ -248,9 +297,15 @@ pub enum Wrap {
 
 /// The number of segments; they stand at the front of `segments`, start and end of each.
 pub fn wrap_segments(row: &[u32], width: u16, mode: Wrap, segments: &mut [u32]) -> Result<u32, u32> {
+    wrap_segments_as(row, width, mode, segments, Ambiguous::Narrow)
+}
+
+/// The same under a setting.
+pub fn wrap_segments_as(row: &[u32], width: u16, mode: Wrap, segments: &mut [u32], ambiguous: Ambiguous) -> Result<u32, u32> {
+    let mode = ambiguous.flagged(mode as u32);
     number(|out| unsafe {
         let (places, len) = (segments.as_mut_ptr(), segments.len());
-        raw::tsivareza_wrap_segments_u32(mode as u32, row.as_ptr(), row.len(), width, places, len, out)
+        raw::tsivareza_wrap_segments_u32(mode, row.as_ptr(), row.len(), width, places, len, out)
     })
 }
 
@@ -262,16 +317,21 @@ pub enum Offsets {
 }
 
 impl Offsets {
-    fn numbers(self) -> (u32, u32, u32, u32) {
+    fn numbers(self, ambiguous: Ambiguous) -> (u32, u32, u32, u32) {
         match self {
-            Offsets::CharColForVisualOffset { start, end, offset } => (0, start, end, offset),
-            Offsets::VisualOffsetForCharCol { start, col } => (1, start, 0, col),
+            Offsets::CharColForVisualOffset { start, end, offset } => (ambiguous.flagged(0), start, end, offset),
+            Offsets::VisualOffsetForCharCol { start, col } => (ambiguous.flagged(1), start, 0, col),
         }
     }
 }
 
 pub fn offsets(asked: Offsets, row: &[u32]) -> Result<u32, u32> {
-    let (op, start, end, at) = asked.numbers();
+    offsets_as(asked, row, Ambiguous::Narrow)
+}
+
+/// The same under a setting.
+pub fn offsets_as(asked: Offsets, row: &[u32], ambiguous: Ambiguous) -> Result<u32, u32> {
+    let (op, start, end, at) = asked.numbers(ambiguous);
     number(|out| unsafe { raw::tsivareza_offsets_u32(op, row.as_ptr(), row.len(), start, end, at, out) })
 }
 
@@ -281,16 +341,31 @@ pub fn segment_for_col(segments: &[u32], col: u32) -> Result<u32, u32> {
 
 impl Room {
     pub fn wrap_segments(&mut self, row: &[u8], width: u16, mode: Wrap, segments: &mut [u32]) -> Result<u32, u32> {
-        let room = &mut self.0;
+        self.wrap_segments_as(row, width, mode, segments, Ambiguous::Narrow)
+    }
+
+    pub fn wrap_segments_as(
+        &mut self,
+        row: &[u8],
+        width: u16,
+        mode: Wrap,
+        segments: &mut [u32],
+        ambiguous: Ambiguous,
+    ) -> Result<u32, u32> {
+        let (mode, room) = (ambiguous.flagged(mode as u32), &mut self.0);
         number(|out| unsafe {
             let (places, len) = (segments.as_mut_ptr(), segments.len());
             let (points, most) = (room.as_mut_ptr(), room.len());
-            raw::tsivareza_wrap_segments(mode as u32, row.as_ptr(), row.len(), points, most, width, places, len, out)
+            raw::tsivareza_wrap_segments(mode, row.as_ptr(), row.len(), points, most, width, places, len, out)
         })
     }
 
     pub fn offsets(&mut self, asked: Offsets, row: &[u8]) -> Result<u32, u32> {
-        let ((op, start, end, at), room) = (asked.numbers(), &mut self.0);
+        self.offsets_as(asked, row, Ambiguous::Narrow)
+    }
+
+    pub fn offsets_as(&mut self, asked: Offsets, row: &[u8], ambiguous: Ambiguous) -> Result<u32, u32> {
+        let ((op, start, end, at), room) = (asked.numbers(ambiguous), &mut self.0);
         number(|out| unsafe {
             raw::tsivareza_offsets(op, row.as_ptr(), row.len(), room.as_mut_ptr(), room.len(), start, end, at, out)
         })

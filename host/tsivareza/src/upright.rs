@@ -1,6 +1,6 @@
 //! Up, down, the screen and the viewport.
 
-use crate::{Caret, Room, Wrap, answer, raw};
+use crate::{Ambiguous, Caret, Room, Wrap, answer, raw};
 
 /// A motion by visible rows, or under wrap by segments.
 #[derive(Clone, Copy, Debug)]
@@ -13,13 +13,14 @@ pub enum Vertical {
 }
 
 impl Vertical {
-    fn numbers(self) -> (u32, u32, u16) {
-        match self {
+    fn numbers(self, ambiguous: Ambiguous) -> (u32, u32, u16) {
+        let (op, mode, width) = match self {
             Vertical::Up => (0, 0, 0),
             Vertical::Down => (1, 0, 0),
             Vertical::ScreenUp { mode, width } => (2, mode as u32, width),
             Vertical::ScreenDown { mode, width } => (3, mode as u32, width),
-        }
+        };
+        (ambiguous.flagged(op), mode, width)
     }
 }
 
@@ -41,7 +42,12 @@ pub struct Steps<'a, T = u32> {
 /// assert_eq!(vertical(Vertical::Down, &text, k, steps), Ok(Caret { row: 1, col: 0, sticky: Some(0) }));
 /// ```
 pub fn vertical(which: Vertical, text: &[u32], k: Caret, steps: Steps) -> Result<Caret, u32> {
-    let ((op, mode, width), (held, sticky)) = (which.numbers(), k.held());
+    vertical_as(which, text, k, steps, Ambiguous::Narrow)
+}
+
+/// The same under a setting for widths.
+pub fn vertical_as(which: Vertical, text: &[u32], k: Caret, steps: Steps, ambiguous: Ambiguous) -> Result<Caret, u32> {
+    let ((op, mode, width), (held, sticky)) = (which.numbers(ambiguous), k.held());
     let Steps { folds, count, tabstop } = steps;
     answer(|out| unsafe {
         raw::tsivareza_vertical_u32(
@@ -95,7 +101,18 @@ pub fn viewport(which: Viewport, text: &[u32], k: Caret) -> Result<Caret, u32> {
 impl Room {
     /// The room takes the code points of the text and the numbers of the folds.
     pub fn vertical(&mut self, which: Vertical, text: &[u8], k: Caret, steps: Steps<u8>) -> Result<Caret, u32> {
-        let ((op, mode, width), (held, sticky)) = (which.numbers(), k.held());
+        self.vertical_as(which, text, k, steps, Ambiguous::Narrow)
+    }
+
+    pub fn vertical_as(
+        &mut self,
+        which: Vertical,
+        text: &[u8],
+        k: Caret,
+        steps: Steps<u8>,
+        ambiguous: Ambiguous,
+    ) -> Result<Caret, u32> {
+        let ((op, mode, width), (held, sticky)) = (which.numbers(ambiguous), k.held());
         let Steps { folds, count, tabstop } = steps;
         let (points, most) = (self.0.as_mut_ptr(), self.0.len());
         answer(|out| unsafe {

@@ -1,9 +1,9 @@
-//! What this Rust and its unicode-width say of every scalar value: letters, white space, widths.
+//! What this Rust and its unicode-width say of every scalar value: letters, white space, widths, and widths under wide by class A.
 //!
 //! Prints each fact's ranges of scalar values, both ends in, one to a line, and how many they are in
 //! total, as the program `scalars` does. A width of 1 is left out, and `None` (a control character)
 //! is read as 1, as document 01 says. With the argument `versions` it prints the Unicode versions
-//! first. Uses std and unicode_width alone.
+//! first. Uses std, unicode_width and the class alone.
 
 use unicode_width::UnicodeWidthChar;
 
@@ -47,7 +47,10 @@ fn main() {
     let mut widths: Vec<usize> = scalars().map(width).filter(|&w| w != 1).collect();
     widths.sort_unstable();
     widths.dedup();
-    for w in widths {
+    for &w in &widths {
         show(&format!("width {w}"), |c| width(c) == w);
+    }
+    for w in widths {
+        show(&format!("wide {w}"), |c| oracle::wide::width(c) as usize == w);
     }
 }

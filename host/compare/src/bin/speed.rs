@@ -201,6 +201,31 @@ fn letters() -> Result<(), String> {
     Ok(())
 }
 
+/// The calls on widths on ASCII, under narrow and under wide.
+fn widths() -> Result<(), String> {
+    println!("\n## ASCII under narrow and under wide\n\n| Code points | Call | Narrow | Wide | Ratio |\n|---|---|---|---|---|");
+    let ascii = |row: &[u32]| -> Vec<u32> { row.iter().map(|&x| if x < 0x80 { x } else { 0x61 + x % 26 }).collect() };
+    for (_, n) in &SIZES[..2] {
+        for name in generate::calls(&[])?.iter().filter_map(|call| oracle::wide::stem(call.name)) {
+            let times = |name: &str| -> Result<f64, String> {
+                let mut case = case(oracle::case::call(name)?, *n, 1);
+                (case.text, case.line, case.room) = (ascii(&case.text), ascii(&case.line), *n as u32);
+                Ok((0..5).map(|_| best(|| drop(black_box(port(black_box(&case), None))))).fold(f64::MAX, f64::min))
+            };
+            if name == "width" {
+                let text = ascii(&prose(*n, false));
+                let wide: Fact = |x| tsivareza::width_as(x, tsivareza::Ambiguous::Wide).unwrap_or(2);
+                let (narrow, wide) = (through(&text, facts("width").expect("a fact").0), through(&text, wide));
+                println!("| {n} | `width`, each of them | {} | {} | {:.2} |", shown(narrow), shown(wide), wide / narrow);
+                continue;
+            }
+            let (narrow, wide) = (times(name)?, times(&format!("{name}_wide"))?);
+            println!("| {n} | `{name}` | {} | {} | {:.2} |", shown(narrow), shown(wide), wide / narrow);
+        }
+    }
+    Ok(())
+}
+
 /// What a process of this program prints, or nothing where it takes too long.
 fn ask(words: &[&str]) -> Option<Vec<f64>> {
     let this = std::env::current_exe().expect("this program");
@@ -231,8 +256,9 @@ fn table() -> Result<(), String> {
         let size = n.to_string();
         for call in generate::calls(&[])? {
             let sized = [Input::Text, Input::Line, Input::Segments].iter().any(|x| call.takes.contains(x));
-            // the given Rust has no `inner_pair`: `pairs` times it
-            if (!sized && n != SIZES[0].1) || call.takes.contains(&Input::Kind) {
+            // the given Rust has no `inner_pair` and no wide: `pairs` and `widths` time them
+            let ours = call.takes.contains(&Input::Kind) || oracle::wide::stem(call.name).is_some();
+            if (!sized && n != SIZES[0].1) || ours {
                 continue;
             }
             let counts: &[u32] = if call.takes.contains(&Input::Count) { &[1, u32::MAX] } else { &[0] };
@@ -270,7 +296,8 @@ fn main() {
         Some("alone") => alone(&words[1], number(2) as usize, number(3) as u32),
         Some("pairs") => pairs(),
         Some("letters") => letters(),
-        _ => table().and_then(|()| letters()).map(|()| check()).and_then(|()| growth()).and_then(|()| pairs()),
+        Some("widths") => widths(),
+        _ => table().and_then(|()| letters()).map(|()| check()).and_then(|()| growth()).and_then(|()| pairs()).and_then(|()| widths()),
     };
     if let Err(why) = done {
         eprintln!("speed: {why}");

@@ -17,8 +17,8 @@ unfolding uprightOf
 upright-of-spec =
     tie.close
     (tie.spec
-    (λ c κs. search needs) (λ c κs. search needs)
-    (λ c. rw (c .match .keys1))
-    (λ c. rw (c .match .keys2))
+    (λ c κs. search needs) (λ c κs. search needs) (λ c κs. search needs) (λ c κs. search needs)
+    (λ c. rw (c .before .match .keys1) (c .rows .ensures))
+    (λ c. rw (c .before .match .keys2) (c .rows2 .ensures))
     (λ c. rw (c .before .match .keys3) (c .screen .ensures))
     (λ c. rw (c .before .match .keys4) (c .screen2 .ensures)) none)

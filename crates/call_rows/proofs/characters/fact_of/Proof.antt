@@ -33,8 +33,14 @@ returns-4 c =
 returns-5 : tie.Need-returns-5
 unfolding fact
 returns-5 c =
+    let m = c .before .before in
+    rw (m .match .keys5) (c .tested4 .ensures ∙ ap (tested (m .before .args .x)) (c .before .width2 .ensures))
+
+returns-6 : tie.Need-returns-6
+unfolding fact
+returns-6 c =
     let m = c .match .rest in
-    rw (ne-eqb _ 0 (m .0 .0 .0 .1), ne-eqb _ 1 (m .0 .0 .1), ne-eqb _ 2 (m .0 .1), ne-eqb _ 3 (m .1))
+    rw (ne-eqb _ 0 (m .0 .0 .0 .0 .1), ne-eqb _ 1 (m .0 .0 .0 .1), ne-eqb _ 2 (m .0 .0 .1), ne-eqb _ 3 (m .0 .1), ne-eqb _ 259 (m .1))
 
 pub fact-of-spec : {M : Type 1} → statement M
 fact-of-spec =
@@ -50,8 +56,11 @@ fact-of-spec =
     (λ c κs. search needs)
     (λ c κs. search needs)
     (λ c κs. search needs)
+    (λ c κs. search needs)
+    (λ c κs. search needs)
     returns
     returns-2
     returns-3
     returns-4
-    returns-5)
+    returns-5
+    returns-6)

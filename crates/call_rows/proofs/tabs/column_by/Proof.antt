@@ -2,28 +2,28 @@
 use mathlib.Core.Path.{ap, _∙_}
 use borrow.Author.Needs.{needs}
 use borrow.Author.Tests.{ne-eqb}
-use Rattle.call_rows.specs.Tabs.{toldColumn, tabColumn}
+use Rattle.call_rows.specs.Tabs.{toldColumn, tabColumnUnder}
 use Rattle.call_rows.proofs.tabs.column_by.Statement.{statement}
 use Rattle.call_rows.proofs.tabs.column_by.Tie as tie
 
 returns : tie.Need-returns
-unfolding tabColumn
+unfolding tabColumnUnder
 returns c = rw (c .before .before .match .keys1) (c .told-column .ensures ∙ ap toldColumn (c .before .visual-col-to-char-col .ensures))
 
 returns-2 : tie.Need-returns-2
-unfolding tabColumn
+unfolding tabColumnUnder
 returns-2 c = rw (c .before .before .match .keys2) (c .told-column2 .ensures ∙ ap toldColumn (c .before .char-col-to-visual-col .ensures))
 
 returns-3 : tie.Need-returns-3
-unfolding tabColumn
+unfolding tabColumnUnder
 returns-3 c = rw (c .before .before .match .keys3) (c .told-column3 .ensures ∙ ap toldColumn (c .before .cursor-visual-col .ensures))
 
 returns-4 : tie.Need-returns-4
-unfolding tabColumn
+unfolding tabColumnUnder
 returns-4 c = rw (c .before .before .match .keys4) (c .told-column4 .ensures ∙ ap toldColumn (c .before .leading-visual-width .ensures))
 
 returns-5 : tie.Need-returns-5
-unfolding tabColumn
+unfolding tabColumnUnder
 returns-5 c =
     let m = c .match .rest in
     rw (ne-eqb _ 0 (m .0 .0 .0 .1), ne-eqb _ 1 (m .0 .0 .1), ne-eqb _ 2 (m .0 .1), ne-eqb _ 3 (m .1))

@@ -6,9 +6,11 @@ use Rattle.call_rows.proofs.wraps.wrap_segments.Tie as tie
 
 returns : tie.Need-returns
 returns c =
-    let s = c .before .before .before .before .segments-by .ensures in
+    let at-answer = c .before .before .before .before in
+    let at-setting = at-answer .before .before in
+    let s = rw (at-setting .setting-of .ensures, at-setting .before .plain-of .ensures) at (at-answer .segments-by .ensures) in
     (replied-as (s .answers) (c .reply .ensures), s .leaves)
 
 pub wrap-segments-spec : {M : Type 1} → statement M
 wrap-segments-spec =
-    tie.close (tie.spec (λ c κs. search needs) (λ c κs. search needs) (λ c. search needs) returns)
+    tie.close (tie.spec (λ c κs. search needs) (λ c κs. search needs) (λ c κs. search needs) (λ c κs. search needs) (λ c. search needs) returns)

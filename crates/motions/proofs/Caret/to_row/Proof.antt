@@ -1,7 +1,7 @@
 -- `Caret::to_row` meets its contract: without an offset the target is that of `gj` and `gk`, and it becomes a caret. Assumes nothing.
 use mathlib.Core.Path.{ap, _∙_}
 use borrow.Author.Needs.{needs}
-use Rattle.chars.specs.Width.{widthOf}
+use Rattle.widths.specs.Widths.{widthAs}
 use Rattle.screen.specs.declared.Kept.{Kept}
 use Rattle.screen.specs.declared.Offset.the-variants.{Absent}
 use Rattle.screen.proofs.Keeping.{absent-target}
@@ -18,7 +18,7 @@ caret-at-requires c κs =
     let given = start .args in
     target-fits (given .self)
     (upright-ready (given .t .now) (given .folds .now) (given .tabstop) (given .self) (given .e) (start .pre .0) (start .pre .1) (start .pre .2))
-    (given .mode) (given .width) (given .down) (given .count) Absent _ (led .led .ensures)
+    (given .ambiguous) (given .mode) (given .width) (given .down) (given .count) Absent _ (led .led .ensures)
 
 returns : tie.Need-returns
 returns c =
@@ -26,7 +26,7 @@ returns c =
     let given = led .before .before .before .args in
     c .caret-at .ensures
     ∙ ap (λ (p : Kept). atTarget (p .target)) (led .led .ensures)
-    ∙ ap atTarget (absent-target widthOf (given .t .now) (given .folds .now) (given .tabstop) (given .mode) (given .width) (given .down) (given .count)
+    ∙ ap atTarget (absent-target (widthAs (given .ambiguous)) (given .t .now) (given .folds .now) (given .tabstop) (given .mode) (given .width) (given .down) (given .count)
     (given .self .row) (given .self .col) (given .self .sticky))
 
 pub to-row-spec : {M : Type 1} → statement M

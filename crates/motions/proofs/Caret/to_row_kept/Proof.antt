@@ -16,7 +16,7 @@ cast-with c =
       arith,
       target-fits (given .self)
           (upright-ready (given .t .now) (given .folds .now) (given .tabstop) (given .self) (given .e) (start .pre .0) (start .pre .1) (start .pre .2))
-          (given .mode) (given .width) (given .down) (given .count) (given .self .offset) _ (led .led .ensures),
+          (given .ambiguous) (given .mode) (given .width) (given .down) (given .count) (given .self .offset) _ (led .led .ensures),
     )
 
 cast-with-2 : tie.Need-cast-with-2
@@ -28,7 +28,7 @@ cast-with-2 c =
       arith,
       target-fits (given .self)
           (upright-ready (given .t .now) (given .folds .now) (given .tabstop) (given .self) (given .e) (start .pre .0) (start .pre .1) (start .pre .2))
-          (given .mode) (given .width) (given .down) (given .count) (given .self .offset) _ (led .led .ensures),
+          (given .ambiguous) (given .mode) (given .width) (given .down) (given .count) (given .self .offset) _ (led .led .ensures),
     )
 
 returns : tie.Need-returns

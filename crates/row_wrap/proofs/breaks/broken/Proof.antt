@@ -1,22 +1,15 @@
--- `row_wrap::breaks::broken` meets its contract: the tables that it lends are those of the definitions. Assumes nothing.
+-- `row_wrap::breaks::broken` meets its contract, setting by setting. Assumes nothing.
 use borrow.Author.Needs.{needs}
-use mathlib.Core.Path.{refl}
-use Rattle.chars.specs.White.{whites}
-use Rattle.chars.specs.Width.{zeroWidths, doubleWidths}
-use Rattle.chars.proofs.Lent.{width-lent, widths-lent}
 use Rattle.row_wrap.proofs.breaks.broken.Statement.{statement}
 use Rattle.row_wrap.proofs.breaks.broken.Tie as tie
 
-fit-segments-requires : tie.Need-fit-segments-requires
-unfolding whites zeroWidths doubleWidths
-fit-segments-requires c κs = (record { widths = widths-lent refl refl; whites-are = refl }, c .before .before .before .before .before .before .pre)
-
 returns : tie.Need-returns
-unfolding zeroWidths doubleWidths
-returns c = rw (← width-lent refl refl) (c .before .before .fit-segments .ensures)
+returns c = rw (c .before .before .before .before .enum-told .given .1) (c .before .before .narrow-broken .ensures)
+
+returns-2 : tie.Need-returns-2
+returns-2 c = rw (c .before .before .before .before .enum-told2 .given .1) (c .before .before .wide-broken .ensures)
 
 pub broken-spec : {M : Type 1} → statement M
 broken-spec =
     tie.close
-    (tie.spec (λ c. search needs) (λ c. search needs) (λ c. search needs) fit-segments-requires
-    (λ c. search needs) returns)
+    (tie.spec (λ c. search needs) (λ c κs. search needs) (λ c. search needs) (λ c κs. search needs) (λ c. search needs) returns (λ c. search needs) returns-2)

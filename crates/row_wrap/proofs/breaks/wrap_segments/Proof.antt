@@ -3,7 +3,7 @@ use borrow.Author.Needs.{needs}
 use mathlib.Core.Bool.{Bool}
 use mathlib.Core.Path.{sym, ap, _∙_}
 use Rattle.chars.specs.White.{isWhite}
-use Rattle.chars.specs.Width.{widthOf}
+use Rattle.widths.specs.Widths.{widthAs}
 use Rattle.row_check.proofs.Answers.{accepted-brief}
 use Rattle.row_wrap.proofs.Room.{wrapped-refused, wrapped-is, segments-whole, segments-broken}
 use Rattle.row_wrap.specs.Calls.{rowSegments}
@@ -11,7 +11,7 @@ use Rattle.row_wrap.proofs.breaks.wrap_segments.Statement.{statement}
 use Rattle.row_wrap.proofs.breaks.wrap_segments.Tie as tie
 
 returns : tie.Need-returns
-returns c = wrapped-refused _ _ _ (c .before .row-refusal .ensures) _ (c .if1 .taken)
+returns c = wrapped-refused _ _ _ _ (c .before .row-refusal .ensures) _ (c .if1 .taken)
 
 whole-requires : tie.Need-whole-requires
 whole-requires c κs = accepted-brief _ (sym (c .before .before .before .before .row-refusal .ensures) ∙ c .before .before .before .if1 .left)
@@ -19,8 +19,9 @@ whole-requires c κs = accepted-brief _ (sym (c .before .before .before .before 
 returns-2 : tie.Need-returns-2
 returns-2 c =
     let s = c .before .before .before .before in
-    let whole = segments-whole widthOf isWhite _ _ _ (sym (s .before .is-whole .ensures) ∙ s .if2 .taken) in
-    wrapped-is _ _ _ (s .before .before .before .row-refusal .ensures) (s .before .before .if1 .left) whole (c .before .before .whole .ensures)
+    let a = s .before .before .before .before .before .before .args in
+    let whole = segments-whole (widthAs (a .ambiguous)) isWhite _ _ _ (sym (s .before .is-whole .ensures) ∙ s .if2 .taken) in
+    wrapped-is _ _ _ _ (s .before .before .before .row-refusal .ensures) (s .before .before .if1 .left) whole (c .before .before .whole .ensures)
 
 broken-requires : tie.Need-broken-requires
 broken-requires c κs = accepted-brief _ (sym (c .before .before .before .before .before .row-refusal .ensures) ∙ c .before .before .before .before .if1 .left)
@@ -29,9 +30,9 @@ returns-3 : tie.Need-returns-3
 returns-3 c =
     let s = c .before .before .before .before .before in
     let a = s .before .before .before .before .before .before .args in
-    let parts = segments-broken widthOf isWhite _ _ _ (sym (s .before .is-whole .ensures) ∙ s .if2 .left) in
-    let word = ap (λ (b : Bool). rowSegments widthOf b (a .width) (a .row .now)) (sym (c .before .before .before .before .is-word .ensures)) in
-    wrapped-is _ _ _ (s .before .before .before .row-refusal .ensures) (s .before .before .if1 .left)
+    let parts = segments-broken (widthAs (a .ambiguous)) isWhite _ _ _ (sym (s .before .is-whole .ensures) ∙ s .if2 .left) in
+    let word = ap (λ (b : Bool). rowSegments (widthAs (a .ambiguous)) b (a .width) (a .row .now)) (sym (c .before .before .before .before .is-word .ensures)) in
+    wrapped-is _ _ _ _ (s .before .before .before .row-refusal .ensures) (s .before .before .if1 .left)
     (parts ∙ word) (c .before .before .broken .ensures)
 
 pub wrap-segments-spec : {M : Type 1} → statement M

@@ -1,0 +1,7 @@
+pub mod WideTable
+pub mod ClassedTable
+pub mod Flips
+pub mod Stretches
+pub mod Tables
+pub mod Lent
+pub mod Laws

@@ -1,0 +1,15 @@
+-- `widths::wide_width` meets its contract: before U+00A1 no character is of the class, and so the width is the same. Assumes nothing.
+use mathlib.Core.Path.{_∙_}
+use borrow.Author.Needs.{needs}
+use Rattle.widths.specs.Widths.{widthAs}
+use Rattle.widths.proofs.Lent.{class-low}
+use Rattle.widths.proofs.Laws.{wide-same}
+use Rattle.widths.proofs.wide_width.Statement.{statement}
+use Rattle.widths.proofs.wide_width.Tie as tie
+
+returns : tie.Need-returns
+unfolding widthAs
+returns c = let x = c .before .before .args .x in c .width .ensures ∙ wide-same x (class-low x (c .before .if1 .taken))
+
+pub wide-width-spec : {M : Type 1} → statement M
+wide-width-spec = tie.close (tie.spec (λ c κs. search needs) returns (λ c κs. search needs) (λ c. search needs))
