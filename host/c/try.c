@@ -123,6 +123,18 @@ int main(void) {
     SAYS("without_plus on bytes", tsivareza_without_plus(signed_bytes, 8, room, 2, written, 1, out), 1);
     REFUSES("too little room for a list", tsivareza_without_plus_u32(signed_list, 4, written, 2, out), 14);
 
+    /* Edits: three code points in five places, and a fold over both rows. */
+    uint32_t page[] = {'a', 10, 'b', 0, 0}, fold[] = {0, 1, 1}, caret[] = {0, 1, 1, 7, 0, 0}, sizes[] = {3, 1};
+    static const uint32_t put[] = {'x', 10}, longer[] = {'a', 'x', 10, 10, 'b'}, shorter[] = {'a', 'b', 0, 0, 0};
+    static const uint32_t shifted[] = {1, 0, 0, 0, 0, 0}, returned[] = {0, 1, 0, 0, 0, 0}, five[] = {5, 1}, two[] = {2, 0};
+    expect("insert", tsivareza_insert_u32(page, 5, fold, 3, put, 2, 0, 1, caret, sizes), 0, page, longer, 5);
+    expect("the caret after an insert", 0, 0, caret, shifted, 6);
+    expect("the sizes after an insert", fold[1], 2, sizes, five, 2);
+    expect("no room", tsivareza_insert_u32(page, 5, fold, 3, put, 1, 0, 1, caret, sizes), 12, page, longer, 5);
+    expect("delete", tsivareza_delete(page, 5, fold, 3, 0, 1, 2, 0, caret, sizes), 0, page, shorter, 5);
+    expect("the caret after a delete", 0, 0, caret, returned, 6);
+    expect("the sizes after a delete", fold[1], 0, sizes, two, 2);
+
     /* 101, 102 and 100, each before the next and before 4; the room is written to from 100 on. */
     static const uint32_t kept[] = {7, 7, 7, 7, 7}, filled[] = {'(', '[', ')', ']', 7};
     for (int i = 0; i < 5; i++) room[i] = 7;

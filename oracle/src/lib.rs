@@ -1,7 +1,7 @@
 //! What the given Rust answers, on plain values: the judge of the port's answers.
 //!
 //! `calls` has one function per public call, `refusals` the refusal table of document 01, written
-//! apart from it, `pairs`, `plus` and `kept` what document 02 adds on pairs, on plus signs and on screen moves that remember,
+//! apart from it, `pairs`, `plus`, `kept` and `edits` what document 02 adds on pairs, on plus signs, on screen moves that remember and on edits,
 //! from its words, `case` a call with its inputs as one line of text, `generate` cases from a seed and small families,
 //! `replay` the list that the program `replay` runs, `session` document 01's
 //! session over the given motions, `utf8` RFC 3629's tables and `std::str`, `wide` the calls on widths under the setting
@@ -9,6 +9,7 @@
 
 pub mod calls;
 pub mod case;
+pub mod edits;
 pub mod generate;
 pub mod kept;
 pub mod pairs;

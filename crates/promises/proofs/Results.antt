@@ -1,9 +1,40 @@
 -- No input of a public call has two results. Assumes nothing.
 use Prim.Native.Nat.{ℕ}
-use mathlib.Core.Path.{ap, sym, _∙_}
-use mathlib.Core.List.{_++_}
+use mathlib.Core.Path.{_≡_, ap, sym, _∙_}
+use mathlib.Core.List.{List, _++_}
+use native.Mathlib.Decide.{ℕ-discrete}
 use lib.ListN.{drop}
+use Rattle.text.specs.declared.Position.{Position}
+use Rattle.call_bytes.specs.Reply.{unfitOne}
+use Rattle.call_edits.specs.Bytes.{EditsFilled}
 use Rattle.promises.specs.Results.{OneResult}
+
+-- an edit on bytes: of those that are fit, and of those that are not
+filled-one : {buf fold : List ℕ} {p : Position} {s room caret sizes : List ℕ} {x y : ℕ × List ℕ × List ℕ × List ℕ × List ℕ × List ℕ} →
+    Dec (unfitOne s room ≡ 0) → EditsFilled buf fold p s room caret sizes (x .0) (x .1) (x .2) (x .3) (x .4) (x .5) →
+    EditsFilled buf fold p s room caret sizes (y .0) (y .1) (y .2) (y .3) (y .4) (y .5) → x ≡ y
+filled-one (yes z) a b =
+    let u = a .edited z in
+    let v = b .edited z in
+    λ i. (
+      (u .caret-left .numbered ∙ sym (v .caret-left .numbered)) i,
+      (u .text-left ∙ sym (v .text-left)) i,
+      (u .folds-left ∙ sym (v .folds-left)) i,
+      (a .room-left ∙ sym (b .room-left)) i,
+      (u .caret-left .out-left ∙ sym (v .caret-left .out-left)) i,
+      (u .sizes-left .out-left ∙ sym (v .sizes-left .out-left)) i,
+    )
+filled-one (no n) a b =
+    let u = a .unfit n in
+    let v = b .unfit n in
+    λ i. (
+      (u .numbered ∙ sym (v .numbered)) i,
+      (u .text-kept ∙ sym (v .text-kept)) i,
+      (u .folds-kept ∙ sym (v .folds-kept)) i,
+      (a .room-left ∙ sym (b .room-left)) i,
+      (u .caret-kept ∙ sym (v .caret-kept)) i,
+      (u .sizes-kept ∙ sym (v .sizes-kept)) i,
+    )
 
 pub one-result : OneResult
 one-result =
@@ -33,4 +64,13 @@ one-result =
         (p .1 ∙ sym (q .1)) i,
       );
       printed = λ out s x y p q. let e = p .count ∙ sym (q .count) in λ i. (e i, (p .front ∙ ap (λ (n : ℕ). s ++ drop n out) e ∙ sym (q .front)) i);
+      edited = λ buf fold s p q c k x y a b. λ i. ((a .answer ∙ sym (b .answer)) i, (a .text ∙ sym (b .text)) i, (a .folds ∙ sym (b .folds)) i);
+      host-edited = λ buf fold p q c caret sizes x y a b. λ i. (
+        (a .caret-left .numbered ∙ sym (b .caret-left .numbered)) i,
+        (a .text-left ∙ sym (b .text-left)) i,
+        (a .folds-left ∙ sym (b .folds-left)) i,
+        (a .caret-left .out-left ∙ sym (b .caret-left .out-left)) i,
+        (a .sizes-left .out-left ∙ sym (b .sizes-left .out-left)) i,
+      );
+      edited-filled = λ buf fold p s room caret sizes x y a b. filled-one (ℕ-discrete (unfitOne s room) 0) a b;
     }

@@ -10,6 +10,13 @@ use Rattle.row_wrap.specs.Calls.{Wraps}
 use Rattle.session.specs.Written.{Printed}
 use Rattle.call_bytes.specs.Reply.{Reply, Replied, Answered}
 use Rattle.call_bytes.specs.Joined.{AnsweredAll}
+use Rattle.text.specs.declared.Position.{Position}
+use Rattle.motions.specs.declared.Caret.{Caret}
+use Rattle.edit_checks.specs.declared.Sizes.{Sizes}
+use Rattle.edits.specs.declared.Edited.{Edited}
+use Rattle.edits.specs.Edits.{EditsTo}
+use Rattle.call_edits.specs.Edits.{HostEdits}
+use Rattle.call_edits.specs.Bytes.{EditsFilled}
 
 -- a contract allows one result at most
 abbrev pub One : {A : Type 0} → (A → Type 0) → Type 0
@@ -33,3 +40,10 @@ pub record OneResult : Type 1 where
       One (λ (x : ℕ × List ℕ × List ℕ × List ℕ). Answered s room out m (x .0) (x .1) (x .2) × (x .3 ≡ left))
   -- a session: how many bytes it prints, and the places for them
   pub printed : (out s : List ℕ) → One (λ (x : ℕ × List ℕ). Printed out s (x .0) (x .1))
+  -- an edit: the answer, and what both buffers hold, place by place; for hosts the number, the buffers, the caret and the sizes, and on bytes the room
+  pub edited : (buf fold : List ℕ) (s : Sizes) (p q : Position) (c : List ℕ) (k : Caret) →
+      One (λ (x : Edited × List ℕ × List ℕ). EditsTo buf fold s p q c k (x .0) (x .1) (x .2))
+  pub host-edited : (buf fold : List ℕ) (p q : Position) (c caret sizes : List ℕ) →
+      One (λ (x : ℕ × List ℕ × List ℕ × List ℕ × List ℕ). HostEdits buf fold p q c caret sizes (x .0) (x .1) (x .2) (x .3) (x .4))
+  pub edited-filled : (buf fold : List ℕ) (p : Position) (s room caret sizes : List ℕ) →
+      One (λ (x : ℕ × List ℕ × List ℕ × List ℕ × List ℕ × List ℕ). EditsFilled buf fold p s room caret sizes (x .0) (x .1) (x .2) (x .3) (x .4) (x .5))

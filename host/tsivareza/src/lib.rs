@@ -15,6 +15,7 @@
 //! assert_eq!(room.content_row_count(&tsivareza::bytes(&[0x61, 0x0A])), Ok(1));
 //! ```
 
+mod edits;
 mod encodings;
 mod inner;
 mod kept;
@@ -29,6 +30,7 @@ mod upright;
 #[doc = include_str!("../../../docs/LISTS.md")]
 struct Papers;
 
+pub use edits::Page;
 pub use encodings::{utf8_decode, utf8_encode};
 pub use inner::{Kind, Range, Ranges, inner_pair};
 pub use kept::{Kept, ScreenKept, screen_kept, screen_kept_as};

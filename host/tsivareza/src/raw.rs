@@ -195,6 +195,44 @@ unsafe extern "C" {
         out: *mut [u32; 3],
     ) -> u32;
 
+    pub fn tsivareza_insert(
+        text: *mut u32,
+        text_len: usize,
+        folds: *mut u32,
+        folds_len: usize,
+        points: *const u8,
+        points_len: usize,
+        room: *mut u32,
+        room_len: usize,
+        row: u32,
+        col: u32,
+        caret: *mut [u32; 6],
+        sizes: *mut [u32; 2],
+    ) -> u32;
+    pub fn tsivareza_insert_u32(
+        text: *mut u32,
+        text_len: usize,
+        folds: *mut u32,
+        folds_len: usize,
+        points: *const u32,
+        points_len: usize,
+        row: u32,
+        col: u32,
+        caret: *mut [u32; 6],
+        sizes: *mut [u32; 2],
+    ) -> u32;
+    pub fn tsivareza_delete(
+        text: *mut u32,
+        text_len: usize,
+        folds: *mut u32,
+        folds_len: usize,
+        row: u32,
+        col: u32,
+        end_row: u32,
+        end_col: u32,
+        caret: *mut [u32; 6],
+        sizes: *mut [u32; 2],
+    ) -> u32;
     pub fn tsivareza_inner_pair(
         kind: u32,
         text: *const u8,

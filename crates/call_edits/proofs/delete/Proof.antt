@@ -1,0 +1,28 @@
+-- `call_edits::delete` meets its contract: what the edit leaves is shown. Assumes nothing.
+use mathlib.Core.List.{[]}
+use borrow.Author.Needs.{needs}
+use Rattle.call_edits.specs.Edits.{positionAt}
+use Rattle.call_edits.proofs.Shown.{host-fits, host-edits}
+use Rattle.call_edits.proofs.delete.Statement.{statement}
+use Rattle.call_edits.proofs.delete.Tie as tie
+
+show-requires : tie.Need-show-requires
+show-requires c κs =
+    let done = c .before .before .before .before .before .before in
+    let sized = done .before .before .before in
+    let taken = sized .before .before in
+    let a = taken .before .before .before .before .args in
+    host-fits (a.text .now) (a.folds .now) (sized .sizes-in .result) (positionAt a.row a.col) (positionAt a.end-row a.end-col) [] (taken .caret-in .result)
+    (done .delete .result) (done .delete .ensures .answer)
+
+returns : tie.Need-returns
+returns c =
+    let done = c .before .before .before .before .before .before .before in
+    let sized = done .before .before .before in
+    let taken = sized .before .before in
+    host-edits (done .delete .ensures) (taken .caret-in .ensures) (sized .sizes-in .ensures) (c .show .ensures .0) (c .show .ensures .1)
+
+pub delete-spec : {M : Type 1} → statement M
+delete-spec =
+    tie.close
+    (tie.spec (λ c κs. search needs) (λ c κs. search needs) (λ c κs. search needs) show-requires (λ c. search needs) (λ c. search needs) returns)

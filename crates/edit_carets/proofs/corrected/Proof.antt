@@ -1,0 +1,22 @@
+-- `edit_carets::corrected` meets its contract: the caret's position is moved, and all else is cleared. Assumes nothing.
+use mathlib.Core.Path.{ap, _∙_}
+use native.Mathlib.Omega.{arith}
+use borrow.Author.Needs.{needs}
+use Rattle.text.specs.declared.Position.{Position}
+use Rattle.edit_carets.specs.Carets.{clearedAt}
+use Rattle.edit_carets.proofs.Follows.{moved-fits}
+use Rattle.edit_carets.proofs.corrected.Statement.{statement}
+use Rattle.edit_carets.proofs.corrected.Tie as tie
+
+cleared-requires : tie.Need-cleared-requires
+cleared-requires c κs =
+    let start = c .before .before .before in
+    let f = moved-fits (start .args .k) (start .args .c) (start .pre) (omega arith) (omega arith) in
+    let e = c .moved .ensures in
+    (omega (arith, f .0, ap (λ (y : Position). y .row) e), omega (arith, f .1, ap (λ (y : Position). y .col) e))
+
+returns : tie.Need-returns
+returns c = c .cleared .ensures ∙ ap clearedAt (c .before .moved .ensures)
+
+pub corrected-spec : {M : Type 1} → statement M
+corrected-spec = tie.close (tie.spec (λ c. search needs) (λ c. search needs) (λ c κs. search needs) cleared-requires returns)

@@ -1,0 +1,96 @@
+-- `edit_checks::stretch` meets its contract: the two positions, and then their order. Assumes nothing.
+use mathlib.Core.Path.{sym, _∙_}
+use Prim.Native.Nat.{_+_, _<_, _^_}
+use native.Mathlib.Omega.{arith}
+use borrow.Author.Needs.{needs}
+use Rattle.text.proofs.Stands.{first-line}
+use Rattle.edit_checks.specs.Refusals.{stretchRefusal}
+use Rattle.edit_checks.proofs.Spots.{out-outside, in-inside, in-line, in-fits, checked-refused, stretch-first, stretch-second, stretch-order}
+use Rattle.edit_checks.proofs.Spots.{stretch-none}
+use Rattle.edit_checks.proofs.stretch.Statement.{statement}
+use Rattle.edit_checks.proofs.stretch.Tie as tie
+
+spot-in-requires : tie.Need-spot-in-requires
+spot-in-requires c κs = (first-line _, c .before .pre .0)
+
+-- the first position stands outside
+returns : tie.Need-returns
+returns c =
+    let found = c .before .before .before in
+    let a = found .before .before .args in
+    let t = a.t .now in
+    checked-refused t a.p a.q (stretchRefusal t a.p a.q) 11 _ (c .refused .ensures)
+    (stretch-first t a.p a.q (out-outside t a.p (sym (found .spot-in .ensures) ∙ c .before .enum-told .given .1))) (λ z. omega (arith, z))
+
+spot-in-requires-2 : tie.Need-spot-in-requires-2
+spot-in-requires-2 c κs =
+    let found = c .before .before .before in
+    let start = found .before .before in
+    (in-line (start .args .t .now) (start .args .p) (c .before .l .given .0 .0) (sym (found .spot-in .ensures) ∙ c .before .l .given .1), start .pre .0)
+
+-- the second
+returns-2 : tie.Need-returns-2
+returns-2 c =
+    let next = c .before .before .before in
+    let first = next .before .before in
+    let found = first .before .before in
+    let a = found .before .before .args in
+    let t = a.t .now in
+    let in-p = in-inside t a.p (first .l .given .0 .0) (sym (found .spot-in .ensures) ∙ first .l .given .1) in
+    checked-refused t a.p a.q (stretchRefusal t a.p a.q) 11 _ (c .refused2 .ensures)
+    (stretch-second t a.p a.q (in-p .0) (out-outside t a.q (sym (next .spot-in2 .ensures) ∙ c .before .enum-told2 .given .1))) (λ z. omega (arith, z))
+
+-- the second before the first
+returns-3 : tie.Need-returns-3
+returns-3 c =
+    let asked = c .before .before in
+    let second = asked .before .before in
+    let next = second .before .before in
+    let first = next .before .before in
+    let found = first .before .before in
+    let a = found .before .before .args in
+    let t = a.t .now in
+    let in-p = in-inside t a.p (first .l .given .0 .0) (sym (found .spot-in .ensures) ∙ first .l .given .1) in
+    let in-q = in-inside t a.q (second .m .given .0 .0) (sym (next .spot-in2 .ensures) ∙ second .m .given .1) in
+    checked-refused t a.p a.q (stretchRefusal t a.p a.q) 11 _ (c .refused3 .ensures)
+    (stretch-order t a.p a.q (in-p .0) (in-q .0) _ (sym (asked .is-before .ensures) ∙ c .before .if1 .taken)) (λ z. omega (arith, z))
+
+add-t11 : tie.Need-add-t11
+add-t11 c =
+    let asked = c .before .before .before in
+    let second = asked .before .before in
+    let next = second .before .before in
+    let first = next .before .before in
+    let found = first .before .before in
+    let a = found .before .before .args in
+    omega (arith, in-fits (a.t .now) a.p (first .l .given .0 .0) (sym (found .spot-in .ensures) ∙ first .l .given .1))
+
+add-t12 : tie.Need-add-t12
+add-t12 c =
+    let asked = c .before .before .before .before .before in
+    let second = asked .before .before in
+    let next = second .before .before in
+    let start = next .before .before .before .before .before .before in
+    let a = start .args in
+    let h = in-fits (a.t .now) a.q (second .m .given .0 .0) (sym (next .spot-in2 .ensures) ∙ second .m .given .1) in
+    let w : second .m .given .0 .0 .start + a.q .col < 2 ^ 64 = omega (arith, h, start .pre .1) in
+    record { fits = w }
+
+returns-4 : tie.Need-returns-4
+returns-4 c =
+    let asked = c .before .before .before .before .before in
+    let second = asked .before .before in
+    let next = second .before .before in
+    let first = next .before .before in
+    let found = first .before .before in
+    let a = found .before .before .args in
+    let t = a.t .now in
+    let in-p = in-inside t a.p (first .l .given .0 .0) (sym (found .spot-in .ensures) ∙ first .l .given .1) in
+    let in-q = in-inside t a.q (second .m .given .0 .0) (sym (next .spot-in2 .ensures) ∙ second .m .given .1) in
+    stretch-none t a.p a.q (first .l .given .0 .0) (second .m .given .0 .0) in-p in-q (sym (asked .is-before .ensures) ∙ c .before .before .before .before .if1 .left)
+
+pub stretch-spec : {M : Type 1} → statement M
+stretch-spec =
+    tie.close
+    (tie.spec spot-in-requires (λ c. search needs) (λ c. search needs) (λ c κs. search needs) returns spot-in-requires-2 (λ c. search needs)
+    (λ c. search needs) (λ c κs. search needs) returns-2 (λ c κs. search needs) (λ c κs. search needs) returns-3 add-t11 add-t12 returns-4)

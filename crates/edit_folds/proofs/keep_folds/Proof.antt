@@ -1,0 +1,93 @@
+-- `edit_folds::keep_folds` meets its contract. The invariant of its loop: i folds are passed, and the w of them that are kept stand at the front.
+-- The measure is the number of folds less i. Assumes nothing.
+use Prim.Native.Nat.{_+_, _*_, _-_}
+use mathlib.Core.Path.{sym, _∙_}
+use native.Mathlib.Omega.{arith}
+use Rattle.edit_folds.specs.Folds.{mappedRow}
+use Rattle.edit_folds.proofs.Mapped.{Moved, moved-none, moved-read, moved-lost, moved-kept, moved-all}
+use borrow.Author.Needs.{needs}
+use Rattle.edit_folds.proofs.keep_folds.Statement.{statement}
+use Rattle.edit_folds.proofs.keep_folds.Tie as tie
+
+abbrev Inv-loop : tie.InvT-loop
+Inv-loop folds₀ n r1 r2 k w₀ i₀ folds w i = Moved (mappedRow r1 r2 k) folds₀ n i w folds
+
+abbrev μ-loop : tie.MeasureT-loop
+μ-loop folds₀ n r1 r2 k w₀ i₀ folds w i = n - i
+
+loop-holds : tie.Need-loop-holds Inv-loop μ-loop
+loop-holds c = moved-none _ _ _ (omega arith)
+
+-- the rows of a fold can be raised: what is read is still the old row
+map-row-requires : tie.Need-map-row-requires Inv-loop μ-loop
+map-row-requires c κs =
+    let l = c .before .before .before .before .loop in
+    let start = c .before .before .before .before .before .before in
+    let at = 3 * l.i in
+    (omega arith, omega (arith, moved-read l.inv at (omega arith), start .pre .1 .room at (omega arith)))
+
+map-row-requires-2 : tie.Need-map-row-requires-2 Inv-loop μ-loop
+map-row-requires-2 c κs =
+    let l = c .before .before .before .before .before .loop in
+    let start = c .before .before .before .before .before .before .before in
+    let at = 3 * l.i + 1 in
+    (omega arith, omega (arith, moved-read l.inv at (omega arith), start .pre .1 .room at (omega arith)))
+
+-- the fold is lost
+loop-again : tie.Need-loop-again Inv-loop μ-loop
+loop-again c =
+    let lost = c .before in
+    let y = lost .before in
+    let x = y .before in
+    let test = x .before .before .before .before in
+    moved-lost (test .before .loop .inv) (test .loop-test .taken) (x .map-row .ensures) (y .map-row2 .ensures)
+    (sym (lost .is-lost .ensures) ∙ c .if1 .taken)
+
+-- the fold is kept
+loop-again-2 : tie.Need-loop-again-2 Inv-loop μ-loop
+loop-again-2 c =
+    let put = c .before .before in
+    let left = put .before .before in
+    let lost = left .before in
+    let y = lost .before in
+    let x = y .before in
+    let test = x .before .before .before .before in
+    moved-kept (test .before .loop .inv) (test .loop-test .taken) (x .map-row .ensures) (y .map-row2 .ensures)
+    (sym (lost .is-lost .ensures) ∙ left .if1 .left)
+    (put .put-fold .ensures)
+
+returns : tie.Need-returns Inv-loop μ-loop
+returns c = moved-all (c .before .loop .inv) (c .loop-test .left)
+
+pub keep-folds-spec : {M : Type 1} → statement M
+keep-folds-spec =
+    tie.close
+    (tie.spec
+    Inv-loop
+    μ-loop
+    loop-holds
+    (λ c. search needs)
+    (λ c. search needs)
+    (λ c. search needs)
+    (λ c. search needs)
+    (λ c. search needs)
+    (λ c. search needs)
+    (λ c. search needs)
+    (λ c. search needs)
+    (λ c. search needs)
+    (λ c. search needs)
+    (λ c. search needs)
+    map-row-requires
+    map-row-requires-2
+    (λ c κs. search needs)
+    (λ c. search needs)
+    (λ c. search needs)
+    loop-again
+    (λ c. search needs)
+    (λ c κs. search needs)
+    (λ c. search needs)
+    (λ c. search needs)
+    (λ c. search needs)
+    loop-again-2
+    (λ c. search needs)
+    returns)

@@ -1,0 +1,8 @@
+-- The laws of edits: see `specs/Laws.antt`.
+pub mod Texts
+pub mod FoldLists
+pub mod After
+pub mod Back
+pub mod Staying
+pub mod Running
+pub mod Examples

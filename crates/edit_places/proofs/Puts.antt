@@ -1,0 +1,120 @@
+-- Laws of writing over a part of a list, place by place: upwards (`Up`) and downwards (`Down`). They are the invariants of the loops.
+-- Assumes nothing.
+use mathlib.Core.Path.{_≡_, refl, ap, sym, _∙_}
+use mathlib.Core.List.{List, _∷_, _++_, append-assoc, append-nil}
+use Prim.Native.Nat.{ℕ, suc, _+_, _-_, _≤_, _<_}
+use native.Mathlib.Numerals.{add-one}
+use native.Mathlib.Nat.{add-zero, add-suc}
+use native.Mathlib.Omega.{arith}
+use lib.ListN.{length, getD, set, take, drop, length-set, length-replicate, getD-replicate, take-append-drop, List·getD-append}
+use lib.Seq.{take-suc, drop-cons, append-snoc, set-at, take-all, length-take-le, drop-length, getD-append-add, getD-take, getD-drop, paste-zero, paste-suc, length-paste-head}
+use Rattle.edit_places.specs.Replaced.{replaced, zeros, Over}
+
+-- the first k of s stand in e from place at on
+pub record Up (e : List ℕ) (at : ℕ) (s : List ℕ) (k : ℕ) (buf : List ℕ) : Type 0 where
+  pub some : k ≤ length s
+  pub fits : at + length s ≤ length e
+  pub left : buf ≡ replaced e at (at + k) (take k s)
+  pub size : length buf ≡ length e
+
+pub up-none : (e : List ℕ) (at : ℕ) (s : List ℕ) → at + length s ≤ length e → Up e at s 0 e
+unfolding replaced
+up-none e at s h = record { some = omega arith; fits = h; left = paste-zero e at s; size = refl }
+
+module _ {e s buf : List ℕ} {at k : ℕ} (u : Up e at s k buf) where
+  pub up-next : {v : ℕ} → k < length s → v ≡ getD s k 0 → Up e at s (k + 1) (set buf (at + k) v)
+  unfolding replaced
+  up-next {v} h q =
+      record {
+        some = omega arith;
+        fits = u .fits;
+        left = rw (u .left, q, add-one k) (paste-suc e at s k 0 (omega (arith, u .fits)) h);
+        size = length-set buf (at + k) v ∙ u .size;
+      }
+
+  pub up-all : length s ≤ k → Over e at s buf
+  unfolding replaced
+  up-all h =
+      let q : k ≡ length s = omega (arith, u .some) in
+      record { left = rw (q, take-all (length s) s (omega arith)) at (u .left); size = u .size }
+
+  -- what lies behind is as it was
+  pub up-read : (j : ℕ) → at + k ≤ j → getD buf j 0 ≡ getD e j 0
+  unfolding replaced
+  up-read j h =
+      let p = take at e ++ take k s in
+      let n : length p ≡ at + k = length-paste-head e at s k (omega (arith, u .fits)) (u .some) in
+      let w : j ≡ length p + (j - (at + k)) = omega arith in
+      let x : j ≡ (at + k) + (j - (at + k)) = omega arith in
+      rw (u .left) (
+      ap (λ (i : ℕ). getD (p ++ drop (at + k) e) i 0) w ∙ getD-append-add p (drop (at + k) e) (j - (at + k)) 0
+      ∙ getD-drop (at + k) e (j - (at + k)) 0 ∙ ap (λ (i : ℕ). getD e i 0) (sym x)
+      )
+
+-- s stands in e from place at on, but for its first k
+pub record Down (e : List ℕ) (at : ℕ) (s : List ℕ) (k : ℕ) (buf : List ℕ) : Type 0 where
+  pub some : k ≤ length s
+  pub fits : at + length s ≤ length e
+  pub left : buf ≡ take (at + k) e ++ drop k s ++ drop (at + length s) e
+  pub size : length buf ≡ length e
+
+pub down-none : (e : List ℕ) (at : ℕ) (s : List ℕ) (k : ℕ) → k ≡ length s → at + length s ≤ length e → Down e at s k e
+down-none e at s k q h =
+    record {
+      some = omega arith;
+      fits = h;
+      left = rw (q, drop-length s, append-nil (take (at + length s) e)) (sym (take-append-drop (at + length s) e));
+      size = refl;
+    }
+
+-- a store below what is written already
+set-below : (e s r : List ℕ) (at j : ℕ) → j < length s → at + length s ≤ length e →
+    set (take (at + suc j) e ++ drop (suc j) s ++ r) (at + j) (getD s j 0) ≡ take (at + j) e ++ drop j s ++ r
+set-below e s r at j h k =
+    let p = take (at + j) e in
+    let x = getD e (at + j) 0 in
+    let v = getD s j 0 in
+    let q = drop (suc j) s in
+    rw (add-suc at j, take-suc e (at + j) 0 (omega arith), drop-cons s j 0 h, append-snoc p x q, append-assoc p (x ∷ q) r, append-assoc p (v ∷ q) r)
+    (set-at p x (q ++ r) v (at + j) (length-take-le (at + j) e (omega arith)))
+
+module _ {e s buf : List ℕ} {at k : ℕ} (d : Down e at s k buf) where
+  pub down-next : {v : ℕ} → 0 < k → v ≡ getD s (k - 1) 0 → Down e at s (k - 1) (set buf (at + (k - 1)) v)
+  down-next {v} h q =
+      let n : k ≡ suc (k - 1) = omega arith in
+      record {
+        some = omega (arith, d .some);
+        fits = d .fits;
+        left =
+            rw (d .left, q) (
+            ap (λ (i : ℕ). set (take (at + i) e ++ drop i s ++ drop (at + length s) e) (at + (k - 1)) (getD s (k - 1) 0)) n
+            ∙ set-below e s (drop (at + length s) e) at (k - 1) (omega (arith, d .some)) (d .fits)
+            );
+        size = length-set buf (at + (k - 1)) v ∙ d .size;
+      }
+
+  pub down-all : k ≤ 0 → Over e at s buf
+  unfolding replaced
+  down-all h =
+      let q : k ≡ 0 = omega arith in
+      record { left = rw (q, add-zero at) at (d .left); size = d .size }
+
+  -- what lies before is as it was
+  pub down-read : (j : ℕ) → j < at + k → getD buf j 0 ≡ getD e j 0
+  down-read j h =
+      let n = length-take-le (at + k) e (omega (arith, d .some, d .fits)) in
+      rw (d .left, append-assoc (take (at + k) e) (drop k s) (drop (at + length s) e)) (
+      List·getD-append (take (at + k) e) (drop k s ++ drop (at + length s) e) 0 j (omega arith) ∙ getD-take (at + k) e j 0 h
+      )
+
+-- what stands at place k of a part
+pub part-read : (e : List ℕ) (len b k : ℕ) → b + k < len → getD (drop b (take len e)) k 0 ≡ getD e (b + k) 0
+part-read e len b k h = getD-drop b (take len e) k 0 ∙ getD-take len e (b + k) 0 h
+
+pub length-zeros : (n : ℕ) → length (zeros n) ≡ n
+unfolding zeros
+length-zeros n = length-replicate n 0
+
+pub zeros-read : (n k : ℕ) → k < n → 0 ≡ getD (zeros n) k 0
+unfolding zeros
+zeros-read n k h = sym (getD-replicate n k 0 0 h)

@@ -1,0 +1,57 @@
+-- `gaps::close_up` meets its contract. The invariant of its loop: the first k of the part are moved. The measure is the part's length less k.
+-- A read stands behind what is written, since a + k ≤ b + k. Assumes nothing.
+use Prim.Native.Nat.{_+_, _-_, _≤_}
+use mathlib.Core.Path.{sym, _∙_}
+use native.Mathlib.Omega.{arith}
+use lib.ListN.{take, drop}
+use lib.Seq.{length-slice}
+use Rattle.edit_places.proofs.Puts.{Up, up-none, up-next, up-all, up-read, part-read}
+use borrow.Author.Needs.{needs}
+use Rattle.edit_places.proofs.gaps.close_up.Statement.{statement}
+use Rattle.edit_places.proofs.gaps.close_up.Tie as tie
+
+abbrev Inv-loop : tie.InvT-loop
+Inv-loop buf₀ len a b n k₀ buf k = (k ≤ len - b) × Up buf₀ a (drop b (take len buf₀)) k buf
+
+abbrev μ-loop : tie.MeasureT-loop
+μ-loop buf₀ len a b n k₀ buf k = len - b - k
+
+loop-holds : tie.Need-loop-holds Inv-loop μ-loop
+loop-holds c =
+    let a = c .args in
+    let n = length-slice a.b a.len (a.buf .now) (omega arith) in
+    (omega arith, up-none _ _ _ (omega arith))
+
+loop-again : tie.Need-loop-again Inv-loop μ-loop
+loop-again c =
+    let l = c .before .before .loop in
+    let a = c .before .before .before .args in
+    let n = length-slice a.b a.len (a.buf .now) (omega arith) in
+    let read = up-read (l.inv .1) (a.b + l.k) (omega arith) in
+    (omega arith, up-next (l.inv .1) (omega arith) (read ∙ sym (part-read (a.buf .now) a.len a.b l.k (omega arith))))
+
+returns : tie.Need-returns Inv-loop μ-loop
+returns c =
+    let a = c .before .before .args in
+    let n = length-slice a.b a.len (a.buf .now) (omega arith) in
+    up-all (c .before .loop .inv .1) (omega arith)
+
+pub close-up-spec : {M : Type 1} → statement M
+close-up-spec =
+    tie.close
+    (tie.spec
+    Inv-loop
+    μ-loop
+    (λ c. search needs)
+    loop-holds
+    (λ c. search needs)
+    (λ c. search needs)
+    (λ c. search needs)
+    (λ c. search needs)
+    (λ c. search needs)
+    (λ c. search needs)
+    (λ c. search needs)
+    (λ c. search needs)
+    loop-again
+    (λ c. search needs)
+    returns)

@@ -1,0 +1,54 @@
+-- `gaps::open_gap` meets its contract. The invariant of its loop: all but the first k of the part are moved. The measure is k.
+-- A read stands before what is written: with k the new one, a + k < a + m + (k + 1). Assumes nothing.
+use Prim.Native.Nat.{_+_, _-_, _≤_}
+use mathlib.Core.Path.{sym, _∙_}
+use native.Mathlib.Omega.{arith}
+use lib.ListN.{take, drop}
+use lib.Seq.{length-slice}
+use Rattle.edit_places.proofs.Puts.{Down, down-none, down-next, down-all, down-read, part-read}
+use borrow.Author.Needs.{needs}
+use Rattle.edit_places.proofs.gaps.open_gap.Statement.{statement}
+use Rattle.edit_places.proofs.gaps.open_gap.Tie as tie
+
+abbrev Inv-loop : tie.InvT-loop
+Inv-loop buf₀ len a m k₀ buf k = (k ≤ len - a) × Down buf₀ (a + m) (drop a (take len buf₀)) k buf
+
+abbrev μ-loop : tie.MeasureT-loop
+μ-loop buf₀ len a m k₀ buf k = k
+
+loop-holds : tie.Need-loop-holds Inv-loop μ-loop
+loop-holds c =
+    let a = c .args in
+    let n = length-slice a.a a.len (a.buf .now) (omega arith) in
+    (omega arith, down-none _ _ _ _ (sym n) (omega arith))
+
+loop-again : tie.Need-loop-again Inv-loop μ-loop
+loop-again c =
+    let l = c .before .before .loop in
+    let a = c .before .before .before .args in
+    let read = down-read (l.inv .1) (a.a + (l.k - 1)) (omega arith) in
+    (omega arith, down-next (l.inv .1) (omega arith) (read ∙ sym (part-read (a.buf .now) a.len a.a (l.k - 1) (omega arith))))
+
+returns : tie.Need-returns Inv-loop μ-loop
+returns c = down-all (c .before .loop .inv .1) (c .loop-test .left)
+
+pub open-gap-spec : {M : Type 1} → statement M
+open-gap-spec =
+    tie.close
+    (tie.spec
+    Inv-loop
+    μ-loop
+    (λ c. search needs)
+    loop-holds
+    (λ c. search needs)
+    (λ c. search needs)
+    (λ c. search needs)
+    (λ c. search needs)
+    (λ c. search needs)
+    (λ c. search needs)
+    (λ c. search needs)
+    (λ c. search needs)
+    (λ c. search needs)
+    loop-again
+    (λ c. search needs)
+    returns)

@@ -1,0 +1,43 @@
+-- `put::put_zeros` meets its contract. The invariant of its loop: the first k zeros are written. The measure is their number less k.
+-- Assumes nothing.
+use Prim.Native.Nat.{_-_, _≤_}
+use native.Mathlib.Omega.{arith}
+use Rattle.edit_places.specs.Replaced.{zeros}
+use Rattle.edit_places.proofs.Puts.{Up, up-none, up-next, up-all, length-zeros, zeros-read}
+use borrow.Author.Needs.{needs}
+use Rattle.edit_places.proofs.put.put_zeros.Statement.{statement}
+use Rattle.edit_places.proofs.put.put_zeros.Tie as tie
+
+abbrev Inv-loop : tie.InvT-loop
+Inv-loop buf₀ at n k₀ buf k = (k ≤ n) × Up buf₀ at (zeros n) k buf
+
+abbrev μ-loop : tie.MeasureT-loop
+μ-loop buf₀ at n k₀ buf k = n - k
+
+loop-holds : tie.Need-loop-holds Inv-loop μ-loop
+loop-holds c = (omega arith, up-none _ _ _ (simp length-zeros (c .pre)))
+
+loop-again : tie.Need-loop-again Inv-loop μ-loop
+loop-again c =
+    let l = c .before .loop in
+    let n = c .before .before .args .n in
+    (omega arith, up-next (l.inv .1) (simp length-zeros (c .loop-test .taken)) (zeros-read n l.k (c .loop-test .taken)))
+
+returns : tie.Need-returns Inv-loop μ-loop
+returns c = up-all (c .before .loop .inv .1) (simp length-zeros (c .loop-test .left))
+
+pub put-zeros-spec : {M : Type 1} → statement M
+put-zeros-spec =
+    tie.close
+    (tie.spec
+    Inv-loop
+    μ-loop
+    loop-holds
+    (λ c. search needs)
+    (λ c. search needs)
+    (λ c. search needs)
+    (λ c. search needs)
+    (λ c. search needs)
+    loop-again
+    (λ c. search needs)
+    returns)
