@@ -135,6 +135,18 @@ int main(void) {
     expect("the caret after a delete", 0, 0, caret, returned, 6);
     expect("the sizes after a delete", fold[1], 0, sizes, two, 2);
 
+    /* Folds in a file and back; a byte changed is refused, and leaves everything. */
+    static const uint32_t folded[] = {0, 1, 1};
+    static uint8_t file[512];
+    uint32_t folds[3] = {7, 7, 7};
+    SAYS("folds_write", tsivareza_folds_write_u32(branch, 10, folded, 3, file, 512, out), 512);
+    SAYS("folds_read", tsivareza_folds_read_u32(branch, 10, file, 512, folds, 3, out), 1);
+    expect("the folds read", 0, 0, folds, folded, 3);
+    REFUSES("a file cut off", tsivareza_folds_read_u32(branch, 10, file, 511, folds, 3, out), 18);
+    file[8] = 0;
+    REFUSES("a byte changed", tsivareza_folds_read_u32(branch, 10, file, 512, folds, 3, out), 19);
+    REFUSES("too little room for a file", tsivareza_folds_write_u32(branch, 10, folded, 3, file, 511, out), 14);
+
     /* 101, 102 and 100, each before the next and before 4; the room is written to from 100 on. */
     static const uint32_t kept[] = {7, 7, 7, 7, 7}, filled[] = {'(', '[', ')', ']', 7};
     for (int i = 0; i < 5; i++) room[i] = 7;

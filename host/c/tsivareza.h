@@ -273,6 +273,22 @@ uint32_t tsivareza_utf8_encode_u32(const uint32_t *points, size_t points_len, ui
 uint32_t tsivareza_utf8_encode(const uint8_t *points, size_t points_len, uint32_t *room,
                                size_t room_len, uint8_t *bytes, size_t bytes_len, uint32_t out[1]);
 
+/* Folds in a file, in blocks of 512 bytes: puts the file of folds over a text at the start of `file`,
+ * and how many bytes it has into out[0]; 1 to 3, 5, and then 14, too little room. Reads it back: puts
+ * the folds at the start of `folds`, and how many there are into out[0]; 1 to 3, 18 a length that
+ * isn't 1 to 5 blocks, 19 a sum that doesn't fit, 20 any other rule of the layout broken, 5 against
+ * the text, and then 14. The file is bytes in either form. */
+uint32_t tsivareza_folds_write_u32(const uint32_t *text, size_t text_len, const uint32_t *folds,
+                                   size_t folds_len, uint8_t *file, size_t file_len, uint32_t out[1]);
+uint32_t tsivareza_folds_write(const uint8_t *text, size_t text_len, const uint8_t *folds,
+                               size_t folds_len, uint32_t *room, size_t room_len, uint8_t *file,
+                               size_t file_len, uint32_t out[1]);
+uint32_t tsivareza_folds_read_u32(const uint32_t *text, size_t text_len, const uint8_t *file,
+                                  size_t file_len, uint32_t *folds, size_t folds_len, uint32_t out[1]);
+uint32_t tsivareza_folds_read(const uint8_t *text, size_t text_len, const uint8_t *file,
+                              size_t file_len, uint32_t *room, size_t room_len, uint32_t *folds,
+                              size_t folds_len, uint32_t out[1]);
+
 /* A session: command rows, a row with only a full stop, and a text, to the lines that they print.
  * Answers how many bytes of `out` those are; there is always room. */
 enum { TSIVAREZA_SESSION_ROOM = 393240 };

@@ -1,7 +1,8 @@
 //! What the given Rust answers, on plain values: the judge of the port's answers.
 //!
 //! `calls` has one function per public call, `refusals` the refusal table of document 01, written
-//! apart from it, `pairs`, `plus`, `kept` and `edits` what document 02 adds on pairs, on plus signs, on screen moves that remember and on edits,
+//! apart from it, `pairs`, `plus`, `kept`, `edits` and `fold_file` what document 02 adds on pairs, on plus signs, on screen moves that remember,
+//! on edits and on fold files,
 //! from its words, `case` a call with its inputs as one line of text, `generate` cases from a seed and small families,
 //! `replay` the list that the program `replay` runs, `session` document 01's
 //! session over the given motions, `utf8` RFC 3629's tables and `std::str`, `wide` the calls on widths under the setting
@@ -10,6 +11,7 @@
 pub mod calls;
 pub mod case;
 pub mod edits;
+pub mod fold_file;
 pub mod generate;
 pub mod kept;
 pub mod pairs;

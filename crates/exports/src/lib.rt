@@ -14,6 +14,7 @@
 mod characters;
 mod edits;
 mod encodings;
+mod fold_files;
 mod inners;
 mod kept;
 mod lists;

@@ -17,6 +17,7 @@
 
 mod edits;
 mod encodings;
+mod fold_files;
 mod inner;
 mod kept;
 mod raw;
@@ -32,6 +33,7 @@ struct Papers;
 
 pub use edits::Page;
 pub use encodings::{utf8_decode, utf8_encode};
+pub use fold_files::{folds_read, folds_write};
 pub use inner::{Kind, Range, Ranges, inner_pair};
 pub use kept::{Kept, ScreenKept, screen_kept, screen_kept_as};
 pub use signs::{Enter, enter, without_plus};

@@ -414,5 +414,46 @@ unsafe extern "C" {
         out: *mut [u32; 1],
     ) -> u32;
 
+    pub fn tsivareza_folds_write_u32(
+        text: *const u32,
+        text_len: usize,
+        folds: *const u32,
+        folds_len: usize,
+        file: *mut u8,
+        file_len: usize,
+        out: *mut [u32; 1],
+    ) -> u32;
+    pub fn tsivareza_folds_write(
+        text: *const u8,
+        text_len: usize,
+        folds: *const u8,
+        folds_len: usize,
+        room: *mut u32,
+        room_len: usize,
+        file: *mut u8,
+        file_len: usize,
+        out: *mut [u32; 1],
+    ) -> u32;
+    pub fn tsivareza_folds_read_u32(
+        text: *const u32,
+        text_len: usize,
+        file: *const u8,
+        file_len: usize,
+        folds: *mut u32,
+        folds_len: usize,
+        out: *mut [u32; 1],
+    ) -> u32;
+    pub fn tsivareza_folds_read(
+        text: *const u8,
+        text_len: usize,
+        file: *const u8,
+        file_len: usize,
+        room: *mut u32,
+        room_len: usize,
+        folds: *mut u32,
+        folds_len: usize,
+        out: *mut [u32; 1],
+    ) -> u32;
+
     pub fn tsivareza_session(input: *const u8, input_len: usize, out: *mut [u8; 393240]) -> usize;
 }

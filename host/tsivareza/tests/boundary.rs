@@ -161,3 +161,44 @@ fn a_list_with_a_retired_sign_leaves_what_is_lent() {
     assert_eq!(written, [0x35, 0x2C, 0x34, BEFORE]);
     assert_eq!(tsivareza::enter(Enter::Matches(4), &written[..3]), Ok(1));
 }
+
+#[test]
+fn fold_files_refuse_before_they_write() {
+    let text = [0x61, 0x0A, 0x62];
+    let mut file = [9; 513];
+    assert_eq!(tsivareza::folds_write(&[0x0D], &[0, 1, 1], &mut file), Err(3));
+    assert_eq!(tsivareza::folds_write(&text, &[0, 1], &mut file), Err(5));
+    assert_eq!(tsivareza::folds_write(&text, &[0, 1, 1], &mut file[..511]), Err(14));
+    assert_eq!(Room::new(9).folds_write(&[0x61, 0, 0], &[], &mut file), Err(101));
+    assert_eq!(Room::new(5).folds_write(&tsivareza::bytes(&text), &tsivareza::bytes(&[0, 1, 1]), &mut file), Err(102));
+    assert_eq!(file, [9; 513]);
+    assert_eq!(Room::new(6).folds_write(&tsivareza::bytes(&text), &tsivareza::bytes(&[0, 1, 1]), &mut file), Ok(512));
+    assert_eq!((file[4], file[8], file[12], file[512]), (0, 1, 1, 9));
+    let file = &mut file[..512];
+    let mut folds = [7; 3];
+    assert_eq!(tsivareza::folds_read(&text, &file[..511], &mut folds), Err(18));
+    assert_eq!(tsivareza::folds_read(&[0x61], file, &mut folds), Err(5));
+    assert_eq!(tsivareza::folds_read(&text, file, &mut folds[..2]), Err(14));
+    file[100] = 1;
+    assert_eq!(tsivareza::folds_read(&text, file, &mut folds), Err(19));
+    file[510] += 1;
+    assert_eq!(tsivareza::folds_read(&text, file, &mut folds), Err(20));
+    assert_eq!(Room::new(2).folds_read(&tsivareza::bytes(&text), file, &mut folds), Err(102));
+    assert_eq!(folds, [7; 3]);
+}
+
+/// The stored files of 0, 1, 56, 57 and 256 folds: fold i is (i, i + i % 44, i % 2), over 300 rows.
+#[test]
+fn stored_fold_files_are_written_and_read() {
+    let text = [10; 299];
+    for n in [0_u32, 1, 56, 57, 256] {
+        let list: Vec<u32> = (0..n).flat_map(|i| [i, i + i % 44, i % 2]).collect();
+        let stored = std::fs::read(format!("{}/../folds/{n}.folds", env!("CARGO_MANIFEST_DIR"))).unwrap();
+        let mut file = vec![0xA5; stored.len()];
+        assert_eq!(tsivareza::folds_write(&text, &list, &mut file), Ok(stored.len() as u32), "{n}");
+        assert_eq!(file, stored, "{n}");
+        let mut folds = vec![7; list.len()];
+        assert_eq!(tsivareza::folds_read(&text, &stored, &mut folds), Ok(n));
+        assert_eq!(folds, list);
+    }
+}

@@ -1,0 +1,44 @@
+-- `folds_read` meets its contract, by the answers of `read_folds`. Assumes nothing.
+use mathlib.Core.Path.{sym, _∙_}
+use native.Mathlib.Omega.{arith}
+use borrow.Author.Needs.{needs}
+use Rattle.fold_laws.proofs.Accepted.{loaded-most}
+use Rattle.call_fold_file.proofs.Told.{read-folds, read-refused}
+use Rattle.call_fold_file.proofs.folds_read.Statement.{statement}
+use Rattle.call_fold_file.proofs.folds_read.Tie as tie
+
+returns : tie.Need-returns
+returns c =
+    let answered = c .before .before .before .before .before .before .before in
+    let a = answered .before .before .before .before .before .args in (
+      read-folds (a .text .now) (a .file .now) (a .folds .now) _
+          (sym (answered .read-folds .ensures .0) ∙ c .before .before .before .n .given .1) (c .reply .ensures),
+      answered .read-folds .ensures .1,
+    )
+
+returns-2 : tie.Need-returns-2
+returns-2 c =
+    let answered = c .before .before .before .before .before .before .before in
+    let a = answered .before .before .before .before .before .args in (
+      read-refused (a .text .now) (a .file .now) (a .folds .now) _
+          (sym (answered .read-folds .ensures .0) ∙ c .before .before .before .f .given .1) (c .reply2 .ensures),
+      answered .read-folds .ensures .1,
+    )
+
+pub folds-read-spec : {M : Type 1} → statement M
+folds-read-spec =
+    tie.close
+    (tie.spec
+    (λ c κs. search needs)
+    (λ c. search needs)
+    (λ c.
+    let answered = c .before .before .before .before .before in
+    let a = answered .before .before .before .before .before .args in
+    omega (arith, loaded-most (a .text .now) (a .file .now) _ _ (sym (answered .read-folds .ensures .0) ∙ c .before .n .given .1)))
+    (λ c κs. search needs)
+    (λ c. search needs)
+    (λ c κs. search needs)
+    (λ c. search needs)
+    returns
+    (λ c. search needs)
+    returns-2)

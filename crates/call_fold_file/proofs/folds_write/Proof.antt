@@ -1,0 +1,44 @@
+-- `folds_write` meets its contract, by the answers of `write_folds`. Assumes nothing.
+use mathlib.Core.Path.{sym, _∙_}
+use native.Mathlib.Omega.{arith}
+use borrow.Author.Needs.{needs}
+use Rattle.fold_laws.proofs.Accepted.{written-most}
+use Rattle.call_fold_file.proofs.Told.{write-bytes, write-refused}
+use Rattle.call_fold_file.proofs.folds_write.Statement.{statement}
+use Rattle.call_fold_file.proofs.folds_write.Tie as tie
+
+returns : tie.Need-returns
+returns c =
+    let answered = c .before .before .before .before .before .before .before in
+    let a = answered .before .before .before .before .before .args in (
+      write-bytes (a .text .now) (a .folds .now) (a .file .now) _
+          (sym (answered .write-folds .ensures .0) ∙ c .before .before .before .n .given .1) (c .reply .ensures),
+      answered .write-folds .ensures .1,
+    )
+
+returns-2 : tie.Need-returns-2
+returns-2 c =
+    let answered = c .before .before .before .before .before .before .before in
+    let a = answered .before .before .before .before .before .args in (
+      write-refused (a .text .now) (a .folds .now) (a .file .now) _
+          (sym (answered .write-folds .ensures .0) ∙ c .before .before .before .f .given .1) (c .reply2 .ensures),
+      answered .write-folds .ensures .1,
+    )
+
+pub folds-write-spec : {M : Type 1} → statement M
+folds-write-spec =
+    tie.close
+    (tie.spec
+    (λ c κs. search needs)
+    (λ c. search needs)
+    (λ c.
+    let answered = c .before .before .before .before .before in
+    let a = answered .before .before .before .before .before .args in
+    omega (arith, written-most (a .text .now) (a .folds .now) _ _ (sym (answered .write-folds .ensures .0) ∙ c .before .n .given .1)))
+    (λ c κs. search needs)
+    (λ c. search needs)
+    (λ c κs. search needs)
+    (λ c. search needs)
+    returns
+    (λ c. search needs)
+    returns-2)

@@ -1,0 +1,40 @@
+-- `tsivareza_folds_read` meets its contract: the room is filled, and the call on code points answers. Assumes nothing.
+use mathlib.Core.List.{List}
+use Prim.Native.Nat.{ℕ}
+use borrow.Author.Needs.{needs}
+use Rattle.fold_reader.specs.Reading.{loadedIn}
+use Rattle.call_fold_file.specs.FoldFiles.{reads}
+use Rattle.call_bytes.proofs.Replies.{answered-unfit, front-count, answered-one, kept-unfit, left-fit}
+use Rattle.exports.proofs.fold_files.tsivareza_folds_read.Statement.{statement}
+use Rattle.exports.proofs.fold_files.tsivareza_folds_read.Tie as tie
+
+-- what was lent is unfit
+returns : tie.Need-returns
+returns c =
+    let f = c .before .before .before .fill .ensures in
+    (answered-unfit f (c .if1 .taken), kept-unfit f (c .if1 .taken) _ _)
+
+-- the call on code points answers
+returns-2 : tie.Need-returns-2
+returns-2 c =
+    let b = c .before .before .before .before .before .before in
+    let a = b .before .before .before .before .before .before .before .before .before .args in
+    let f = b .before .before .before .fill .ensures in
+    let s = c .before .before .folds-read .ensures in (
+      answered-one f (λ (t : List ℕ). reads t (a .file .now) (a .folds .now)) (b .if1 .left) (s .0),
+      left-fit f (λ (t : List ℕ). loadedIn t (a .file .now) (a .folds .now)) (b .if1 .left) _ (s .1),
+    )
+
+pub tsivareza-folds-read-spec : {M : Type 1} → statement M
+tsivareza-folds-read-spec =
+    tie.close
+    (tie.spec
+    (λ c κs. search needs)
+    (λ c. search needs)
+    returns
+    (λ c. c .before .before .before .fill .ensures .fit (c .if1 .left) .within)
+    (λ c. front-count (c .before .before .before .before .fill .ensures) (c .before .if1 .left))
+    (λ c κs. search needs)
+    (λ c. search needs)
+    (λ c. search needs)
+    returns-2)

@@ -1,0 +1,51 @@
+-- `tsivareza_folds_write` meets its contract: the room is filled, and the call on code points answers. What is left of the file is told as a reply that
+-- is always an answer. Assumes nothing.
+use mathlib.Core.Path.{refl}
+use mathlib.Core.List.{List}
+use Prim.Native.Nat.{ℕ}
+use native.Mathlib.Omega.{arith}
+use borrow.Author.Needs.{needs}
+use Rattle.fold_writer.specs.Writing.{writtenIn}
+use Rattle.call_fold_file.specs.FoldFiles.{writes}
+use Rattle.call_bytes.specs.Reply.{answer}
+use Rattle.call_bytes.proofs.Joins.{first-length}
+use Rattle.call_bytes.proofs.Twos.{two-unfit, joined-two}
+use Rattle.exports.proofs.fold_files.tsivareza_folds_write.Statement.{statement}
+use Rattle.exports.proofs.fold_files.tsivareza_folds_write.Tie as tie
+
+-- what was lent is unfit
+returns : tie.Need-returns
+returns c =
+    let f = c .before .before .before .fill-two .ensures in
+    (two-unfit f (c .if1 .taken), two-unfit f (c .if1 .taken) {m = answer _} .out-left)
+
+-- the parts of the room
+text-length : tie.Need-slice-aggregate-folds-write
+text-length c =
+    let b2 = c .before .before in
+    first-length (b2 .before .before .before .fill-two .ensures) (b2 .if1 .left)
+
+folds-end : tie.Need-part-folds-write-end
+folds-end c =
+    let b2 = c .before .before in
+    omega (arith, b2 .before .before .before .fill-two .ensures .fit (b2 .if1 .left) .within)
+
+-- the call on code points answers
+returns-2 : tie.Need-returns-2
+returns-2 c =
+    let called = c .before .before in
+    let fit = called .before .before .before .before .before .before in
+    let filled = fit .before .before .before .fill-two .ensures in
+    let a = fit .before .before .before .before .before .before .before .before .before .args in
+    let s = called .folds-write .ensures in (
+      joined-two filled (λ (t : List ℕ) (v : List ℕ). writes t v (a .file .now)) (fit .if1 .left) _ refl (s .0),
+      joined-two filled (λ (t : List ℕ) (v : List ℕ). answer (writtenIn t v (a .file .now))) (fit .if1 .left) {out = a .file .now} {r = 0} _ refl
+          (record { numbered = refl; out-left = s .1 })
+          .out-left,
+    )
+
+pub tsivareza-folds-write-spec : {M : Type 1} → statement M
+tsivareza-folds-write-spec =
+    tie.close
+    (tie.spec (λ c κs. search needs) (λ c. search needs) returns (λ c. search needs) text-length (λ c. search needs) (λ c. search needs)
+    (λ c. search needs) folds-end (λ c κs. search needs) (λ c. search needs) (λ c. search needs) returns-2)

@@ -1,0 +1,5 @@
+pub mod Cuts
+pub mod Files
+pub mod Numbers
+pub mod Rules
+pub mod Toward

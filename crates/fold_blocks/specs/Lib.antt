@@ -1,0 +1,4 @@
+pub mod Bytes
+pub mod Files
+pub mod Listed
+pub mod Layout

@@ -1,0 +1,133 @@
+-- The file of folds keeps every rule, and the folds that it lists are those it was written of. Assumes nothing.
+use mathlib.Core.Path.{_≡_, refl, ap, sym, _∙_}
+use mathlib.Core.List.{List, [], _∷_, _++_}
+use mathlib.Core.Bool.{Bool, true, false, _||_}
+use Prim.Native.Nat.{ℕ, zero, suc, _+_, _*_, _-_, _/_, _%_, _≤_, _<_}
+use native.Mathlib.Omega.{arith}
+use lib.ListN.{length, take, drop, length-take, length-drop, take-append-drop}
+use lib.Seq.{take-at, drop-at}
+use borrow.Author.Tests.{eq-eqb, ne-eqb, le-ltb}
+use Rattle.lists.specs.Lists.{any}
+use Rattle.fold_blocks.specs.Files.{countIn, blocksFor, block, blocks, fileOf}
+use Rattle.fold_blocks.specs.Listed.{cut, blocksOf, foldsIn, countOf, listed, countAll}
+use Rattle.fold_blocks.specs.Layout.{isTorn, isUncut, breaks, broken, isBroken, layoutRefusal}
+use Rattle.fold_blocks.proofs.Files.{length-block, length-file, blocks-few, blocks-some, blocks-none}
+use Rattle.fold_blocks.proofs.Rules.{Keeps, kept}
+use Rattle.fold_laws.proofs.Numbers.{Small, small-take, small-drop}
+use Rattle.fold_laws.proofs.Blocks.{block-number, block-count, block-total, block-whole, block-unused, block-entries}
+
+take-most : (l : List ℕ) → length (take 168 l) ≤ 168
+take-most l = omega (arith, length-take 168 l)
+
+-- the first of the blocks, cut off again
+module _ (n k left : ℕ) (l : List ℕ) where
+  cut-blocks : cut (suc left) (blocks n k (suc left) l) ≡ block n k (take 168 l) ∷ cut left (blocks n (k + 1) left (drop 168 l))
+  unfolding cut blocks
+  cut-blocks =
+      let first = block n k (take 168 l) in
+      let size = length-block n k (take 168 l) (take-most l) in
+      rw (take-at first _ 512 size, drop-at first _ 512 size)
+
+cut-none : (n k : ℕ) (l : List ℕ) → cut 0 (blocks n k 0 l) ≡ []
+unfolding cut
+cut-none n k l = refl
+
+-- how many folds stand in the first block and behind it
+count-parts : (l : List ℕ) → countIn (take 168 l) + countIn (drop 168 l) ≡ countIn l
+count-parts l = omega (arith, length-take 168 l, length-drop 168 l)
+
+pub written-whole : (n k left : ℕ) (l : List ℕ) → any isTorn (cut left (blocks n k left l)) ≡ false
+unfolding any
+written-whole n k zero l = rw (cut-none n k l)
+written-whole n k (suc left) l =
+    rw (cut-blocks n k left l, block-whole n k (take 168 l) (take-most l), written-whole n (k + 1) left (drop 168 l))
+
+pub written-count : (n k left : ℕ) (l : List ℕ) → countIn l ≤ 56 * left → countAll (cut left (blocks n k left l)) ≡ countIn l
+unfolding countAll
+written-count n k zero l h = rw (cut-none n k l) (omega arith)
+written-count n k (suc left) l h =
+    rw (
+      cut-blocks n k left l,
+      block-count n k (take 168 l) (take-most l),
+      written-count n (k + 1) left (drop 168 l) (omega (arith, length-drop 168 l)),
+    )
+    (count-parts l)
+
+pub written-listed : (n k left : ℕ) (l : List ℕ) → Small l → countIn l ≤ 56 * left → listed (cut left (blocks n k left l)) ≡ l
+unfolding listed Small
+written-listed n k zero [] s h = rw (cut-none n k [])
+written-listed n k zero (a ∷ []) s h = absurd s
+written-listed n k zero (a ∷ b ∷ []) s h = absurd s
+written-listed n k zero (a ∷ b ∷ c ∷ l) s h = absurd (omega arith)
+written-listed n k (suc left) l s h =
+    rw (
+      cut-blocks n k left l,
+      block-entries n k (take 168 l) (take-most l) (small-take 56 l s),
+      written-listed n (k + 1) left (drop 168 l) (small-drop 56 l s) (omega (arith, length-drop 168 l)),
+    )
+    (take-append-drop 168 l)
+
+-- every block but the last is full, and the last is not empty unless it is the only one
+pub written-kept :
+    (many n k left : ℕ) (l : List ℕ) → k + left ≡ many → many < 65536 → n < 65536 → countIn l ≤ 56 * left → (1 < many → 0 < left → 56 * left < countIn l + 56) →
+    broken many n k (cut left (blocks n k left l)) ≡ false
+unfolding broken
+written-kept many n k zero l e m t h g = rw (cut-none n k l)
+written-kept many n k (suc left) l e m t h g =
+    let p = take 168 l in
+    let few = take-most l in
+    let b = block n k p in
+    let count : countOf b ≡ countIn p = block-count n k p few in
+    let w : Keeps many n k b =
+    record {
+      number = block-number n k p few (omega arith);
+      few = omega (arith, count);
+      full = λ x. omega (arith, count, length-take 168 l, g (omega arith) (omega arith));
+      some = λ x. omega (arith, count, length-take 168 l, g x (omega arith));
+      unused = block-unused n k p few;
+      total = block-total n k p few t;
+    } in
+    rw (cut-blocks n k left l, kept many n k b w)
+    (written-kept many n (k + 1) left (drop 168 l) (omega arith) m t (omega (arith, length-drop 168 l))
+    (λ x y. omega (arith, length-drop 168 l, g x (omega arith))))
+
+module _ (l : List ℕ) (h : countIn l ≤ 280) where
+  fits : (countIn l ≤ 56 * blocksFor (countIn l)) × (1 < blocksFor (countIn l) → 56 * blocksFor (countIn l) < countIn l + 56)
+  fits = go (countIn l) refl
+    where
+      go : (n : ℕ) → countIn l ≡ n → (countIn l ≤ 56 * blocksFor (countIn l)) × (1 < blocksFor (countIn l) → 56 * blocksFor (countIn l) < countIn l + 56)
+      go zero e = let one = blocks-none (countIn l) e in (omega arith, λ x. omega arith)
+      go (suc n) e = let some = blocks-some (countIn l) (omega arith) in (omega arith, λ x. omega arith)
+
+  file-blocks : length (fileOf l) / 512 ≡ blocksFor (countIn l)
+  file-blocks = omega (arith, length-file l)
+
+  file-is : fileOf l ≡ blocks (countIn l) 0 (blocksFor (countIn l)) l
+  unfolding fileOf
+  file-is = refl
+
+  pub file-cut : blocksOf (fileOf l) ≡ cut (blocksFor (countIn l)) (blocks (countIn l) 0 (blocksFor (countIn l)) l)
+  unfolding fileOf
+  file-cut = ap (λ (m : ℕ). cut m (fileOf l)) file-blocks
+
+  pub file-taken : layoutRefusal (fileOf l) ≡ 0
+  unfolding layoutRefusal isUncut
+  file-taken =
+      let few = blocks-few (countIn l) h in
+      let size = length-file l in
+      let m = blocksFor (countIn l) in
+      let whole : length (fileOf l) % 512 ≡ 0 = omega arith in
+      let counted : countAll (blocksOf (fileOf l)) ≡ countIn l = ap countAll file-cut ∙ written-count (countIn l) 0 m l (fits .0) in
+      rw (
+        eq-eqb (length (fileOf l) % 512) 0 whole,
+        ne-eqb (length (fileOf l)) 0 (λ z. omega arith),
+        le-ltb 2560 (length (fileOf l)) (omega arith),
+        counted,
+        file-blocks,
+        ap (cut m) file-is,
+        written-whole (countIn l) 0 m l,
+        written-kept m (countIn l) 0 m l (omega arith) (omega arith) (omega arith) (fits .0) (λ x y. fits .1 x),
+      )
+
+  pub file-listed : Small l → foldsIn (fileOf l) ≡ l
+  file-listed s = ap listed file-cut ∙ written-listed (countIn l) 0 (blocksFor (countIn l)) l s (fits .0)

@@ -1,0 +1,61 @@
+-- `entries::take_entries` meets its contract. The invariant of its loop: what is written, with the entries to come, comes to the whole. The measure is how
+-- many are left. Assumes nothing.
+use Prim.Native.Nat.{_+_, _*_, _-_, _≤_}
+use native.Mathlib.Omega.{arith}
+use borrow.Author.Needs.{needs}
+use lib.ListN.{drop}
+use Rattle.fold_blocks.specs.Bytes.{entryAt, entriesIn}
+use Rattle.fold_blocks.proofs.Rules.{length-entries-in}
+use Rattle.fold_blocks.proofs.Toward.{Toward, toward-room, toward-on, toward-end}
+use Rattle.fold_reader.proofs.Takes.{entries-from, taking-start, entries-on, entries-done}
+use Rattle.fold_reader.proofs.entries.take_entries.Statement.{statement}
+use Rattle.fold_reader.proofs.entries.take_entries.Tie as tie
+
+abbrev Inv-loop : tie.InvT-loop
+Inv-loop block count out₀ at next₀ i₀ out next i =
+    (i ≤ count) × Toward out₀ at (entriesIn count (drop 4 block)) out next (entries-from block count i)
+
+abbrev μ-loop : tie.MeasureT-loop
+μ-loop block count out₀ at next₀ i₀ out next i = count - i
+
+loop-holds : tie.Need-loop-holds Inv-loop μ-loop
+loop-holds c = (omega arith, taking-start (c .before .before .args .block .now) (c .before .before .args .count) _ _)
+
+take-entry-requires : tie.Need-take-entry-requires Inv-loop μ-loop
+take-entry-requires c κs =
+    let at-loop = c .before .before in
+    let entry = at-loop .before .before .before in
+    let a = entry .args in
+    let l = a .block .now in
+    let i = at-loop .loop .i in
+    let here = entries-on l (a .count) i (c .before .loop-test .taken) in (
+      omega (arith, entry .pre .0, c .before .loop-test .taken),
+      omega (
+        arith,
+        toward-room (entryAt l (4 + 9 * i)) (entries-from l (a .count) (i + 1)) (at-loop .loop .inv .1) here,
+        length-entries-in (a .count) (drop 4 l),
+        entry .pre .1,
+      ),
+    )
+
+loop-again : tie.Need-loop-again Inv-loop μ-loop
+loop-again c =
+    let at-loop = c .before .before .before .before .before in
+    let a = at-loop .before .before .before .args in
+    let l = a .block .now in
+    let i = at-loop .loop .i in (
+      omega (arith, c .before .before .before .before .loop-test .taken),
+      toward-on (entryAt l (4 + 9 * i)) (entries-from l (a .count) (i + 1)) (at-loop .loop .inv .1)
+          (entries-on l (a .count) i (c .before .before .before .before .loop-test .taken)) (c .before .before .take-entry .ensures),
+    )
+
+returns : tie.Need-returns Inv-loop μ-loop
+returns c =
+    let a = c .before .before .before .before .args in
+    toward-end (c .before .loop .inv .1) (entries-done (a .block .now) (a .count) (c .before .loop .i) (c .loop-test .left))
+
+pub take-entries-spec : {M : Type 1} → statement M
+take-entries-spec =
+    tie.close
+    (tie.spec Inv-loop μ-loop loop-holds (λ c. search needs) (λ c. search needs) take-entry-requires (λ c. search needs)
+    (λ c. search needs) loop-again (λ c. c .before .loop .inv .1 .size) returns)

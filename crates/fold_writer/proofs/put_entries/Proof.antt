@@ -1,0 +1,62 @@
+-- `put_entries` meets its contract. The invariant of its loop: what is written, with the entries to come, comes to the whole. The measure is what is
+-- left of the folds. Assumes nothing.
+use Prim.Native.Nat.{_+_, _-_, _≤_}
+use mathlib.Core.List.{_++_}
+use native.Mathlib.Omega.{arith}
+use borrow.Author.Needs.{needs}
+use lib.ListN.{length, getD, drop}
+use Rattle.fold_blocks.specs.Bytes.{one, four, entries}
+use Rattle.fold_blocks.proofs.Files.{length-entries, entries-at, entries-end}
+use Rattle.fold_blocks.proofs.Toward.{Toward, toward-start, toward-room, toward-on, toward-end}
+use Rattle.fold_writer.proofs.put_entries.Statement.{statement}
+use Rattle.fold_writer.proofs.put_entries.Tie as tie
+
+abbrev Inv-loop : tie.InvT-loop
+Inv-loop out₀ at folds next₀ i₀ out next i = (i ≤ length folds) × Toward out₀ at (entries folds) out next (entries (drop i folds))
+
+abbrev μ-loop : tie.MeasureT-loop
+μ-loop out₀ at folds next₀ i₀ out next i = length folds - i
+
+loop-holds : tie.Need-loop-holds Inv-loop μ-loop
+loop-holds c = (omega arith, toward-start _ _ _)
+
+put-entry-requires : tie.Need-put-entry-requires Inv-loop μ-loop
+put-entry-requires c κs =
+    let at-loop = c .before .before .before .before .before in
+    let args = at-loop .before .before .before .args in
+    let l = args .folds .now in
+    let i = at-loop .loop .i in
+    let next = entries-at l i (c .before .before .before .before .loop-test .taken) in
+    let piece = four (getD l i 0) ++ four (getD l (i + 1) 0) ++ one (getD l (i + 2) 0) in
+    omega (arith, toward-room piece (entries (drop (i + 3) l)) (at-loop .loop .inv .1) next, length-entries l, at-loop .before .before .before .pre)
+
+loop-again : tie.Need-loop-again Inv-loop μ-loop
+loop-again c =
+    let tested = c .before .before .before .before .before .before .before in
+    let at-loop = tested .before in
+    let l = at-loop .before .before .before .args .folds .now in
+    let i = at-loop .loop .i in (
+      omega (arith, tested .loop-test .taken),
+      toward-on (four (getD l i 0) ++ four (getD l (i + 1) 0) ++ one (getD l (i + 2) 0)) (entries (drop (i + 3) l)) (at-loop .loop .inv .1)
+          (entries-at l i (tested .loop-test .taken)) (c .before .before .put-entry .ensures),
+    )
+
+returns : tie.Need-returns Inv-loop μ-loop
+returns c =
+    toward-end (c .before .loop .inv .1) (entries-end (c .before .before .before .before .args .folds .now) (c .before .loop .i) (c .loop-test .left))
+
+pub put-entries-spec : {M : Type 1} → statement M
+put-entries-spec =
+    tie.close
+    (tie.spec
+    Inv-loop
+    μ-loop
+    loop-holds
+    (λ c. search needs) (λ c. search needs) (λ c. search needs) (λ c. search needs) (λ c. search needs) (λ c. search needs)
+    (λ c. search needs) (λ c. search needs) (λ c. search needs)
+    put-entry-requires
+    (λ c. search needs)
+    (λ c. search needs)
+    loop-again
+    (λ c. c .before .loop .inv .1 .size)
+    returns)
