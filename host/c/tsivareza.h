@@ -136,11 +136,12 @@ uint32_t tsivareza_inner_pair(uint32_t kind, const uint8_t *text, size_t text_le
                               size_t room_len, uint32_t row, uint32_t col, uint32_t out[9]);
 
 /* Edits of a text at the start of the buffer `text`, with its folds at the start of the buffer `folds`.
- * sizes: how many code points and how many folds they hold; caret: row, column, 1 and the sticky column
- * where it has one, and two numbers that are 0. Both are read, and hold the new numbers where the answer
- * is 0; else nothing has changed. Insert puts `points` at a position, delete takes away what stands from a
- * position up to another. Places that become free are 0. Refused in this order: 1, 2, 3 (text or points),
- * 4 (the caret), 5, 11 (a position outside the text, or the second before the first), 12 (too long). */
+ * sizes: how many code points and how many folds they hold; caret: row, column, held, sticky, and `kept`
+ * and `offset` of the screen moves that remember; an edit clears the last four. Both are read, and hold
+ * the new numbers where the answer is 0; else nothing has changed. Insert puts `points` at a position,
+ * delete takes away what stands from a position up to another. Places that become free are 0. Refused in
+ * this order: 1, 2, 3 (text or points), 4 (the caret), 5, 11 (a position outside the text, or the second
+ * before the first), 12 (too long). */
 uint32_t tsivareza_insert_u32(uint32_t *text, size_t text_len, uint32_t *folds, size_t folds_len,
                               const uint32_t *points, size_t points_len, uint32_t row, uint32_t col,
                               uint32_t caret[6], uint32_t sizes[2]);

@@ -3,7 +3,8 @@
 use crate::{Room, raw};
 
 /// A text and its folds at the start of two buffers, a caret and the sizes: how many code points and how many folds the
-/// buffers hold. The caret is row, column, 1 and the sticky column where it has one, and two numbers that are 0.
+/// buffers hold. The caret is row, column, 1 and the sticky column where it has one, and 1 and the offset within a segment
+/// where it keeps one; an edit clears the last four.
 #[derive(Clone, Debug, PartialEq, Eq)]
 pub struct Page {
     pub text: Vec<u32>,

@@ -130,6 +130,68 @@ fn check() {
     println!("\n## The check of a text, 1,048,576 code points\n");
     println!("Adding them up takes {}, the check {}: {:.1} times that.", shown(read), shown(plain), plain / read);
     println!("With a code point from U+2028 on it takes {}: {:.1} times.", shown(high), high / read);
+    let within = ["move_left", "move_line_end", "move_first_non_blank", "find_char_on_line"].map(|name| {
+        let case = case(oracle::case::call(name).expect("a call"), SIZES[2].1, 1);
+        best(|| drop(black_box(port(black_box(&case), None))))
+    });
+    let (least, most) = within.iter().fold((f64::MAX, 0.0_f64), |(a, b), &x| (a.min(x), b.max(x)));
+    let ratios = (least / plain, most / plain);
+    println!("A motion within a row in the middle takes {} to {}: {:.1} to {:.1} times the check.", shown(least), shown(most), ratios.0, ratios.1);
+}
+
+/// An edit as a host makes it on a `Vec`, with document 01's checks of text and position: `splice` in place of the library.
+fn spliced(text: &mut Vec<u32>, (row, col): (usize, usize), taken: usize, points: &[u32]) -> Result<(), u32> {
+    let broken = |x: &u32| matches!(x, 0x0B..=0x0D | 0x85 | 0x2028 | 0x2029);
+    let wrong = |x: &u32| char::from_u32(*x).is_none();
+    if text.len().max(points.len()) > 1_048_576 {
+        return Err(1);
+    }
+    if text.iter().any(wrong) || points.iter().any(wrong) {
+        return Err(2);
+    }
+    if text.iter().any(broken) || points.iter().any(broken) {
+        return Err(3);
+    }
+    let start = match row {
+        0 => 0,
+        _ => 1 + text.iter().enumerate().filter(|(_, x)| **x == 0x0A).nth(row - 1).ok_or(11_u32)?.0,
+    };
+    if text[start..].iter().position(|x| *x == 0x0A).unwrap_or(text.len() - start) < col {
+        return Err(11);
+    }
+    text.splice(start + col..start + col + taken, points.iter().copied());
+    Ok(())
+}
+
+/// Ten code points put into the middle of a text and taken out again, by the library and by `splice` on a `Vec`.
+fn edits() {
+    println!("\n## Edits in the middle of a text\n\n| Code points | Edit | Library | `splice` | Ratio |\n|---|---|---|---|---|");
+    let points = [0x61; 10];
+    for (_, n) in SIZES.map(|(what, n)| (what, n - 10)) {
+        let text = prose(n, false);
+        let at = ((n / 120) as u32, 5);
+        let room = vec![0; 10];
+        let mut page = tsivareza::Page { text: [text.clone(), room].concat(), folds: vec![], caret: [0; 6], sizes: [n as u32, 0] };
+        let mut vec = text;
+        let place = (at.0 as usize, at.1 as usize);
+        let least = |times: &[f64]| times.iter().copied().fold(f64::MAX, f64::min);
+        let timed = |call: &mut dyn FnMut()| {
+            let start = Instant::now();
+            call();
+            start.elapsed().as_nanos() as f64
+        };
+        let mut all: [Vec<f64>; 4] = Default::default();
+        for _ in 0..15 {
+            all[0].push(timed(&mut || black_box(page.insert(&points, at)).expect("an insert")));
+            all[1].push(timed(&mut || black_box(spliced(&mut vec, place, 0, &points)).expect("an insert")));
+            all[2].push(timed(&mut || black_box(page.delete(at, (at.0, at.1 + 10))).expect("a delete")));
+            all[3].push(timed(&mut || black_box(spliced(&mut vec, place, 10, &[])).expect("a delete")));
+        }
+        for (what, ours, theirs) in [("insert", &all[0], &all[1]), ("delete", &all[2], &all[3])] {
+            let (ours, theirs) = (least(ours), least(theirs));
+            println!("| {n} | {what} of 10 | {} | {} | {:.2} |", shown(ours), shown(theirs), ours / theirs);
+        }
+    }
 }
 
 /// What could grow faster than the text: one row of many segments, and many folds over many rows.
@@ -256,8 +318,10 @@ fn table() -> Result<(), String> {
         let size = n.to_string();
         for call in generate::calls(&[])? {
             let sized = [Input::Text, Input::Line, Input::Segments].iter().any(|x| call.takes.contains(x));
-            // the given Rust has no `inner_pair` and no wide: `pairs` and `widths` time them
-            let ours = call.takes.contains(&Input::Kind) || oracle::wide::stem(call.name).is_some();
+            // what the given Rust does not have: `pairs` and `widths` time some of it
+            let ours = [Input::Kind, Input::Offset].iter().any(|x| call.takes.contains(x))
+                || oracle::wide::stem(call.name).is_some()
+                || ["enter", "enter_matches", "without_plus"].contains(&call.name);
             if (!sized && n != SIZES[0].1) || ours {
                 continue;
             }
@@ -297,7 +361,15 @@ fn main() {
         Some("pairs") => pairs(),
         Some("letters") => letters(),
         Some("widths") => widths(),
-        _ => table().and_then(|()| letters()).map(|()| check()).and_then(|()| growth()).and_then(|()| pairs()).and_then(|()| widths()),
+        Some("edits") => Ok(edits()),
+        Some("check") => Ok(check()),
+        _ => table()
+            .and_then(|()| letters())
+            .map(|()| check())
+            .and_then(|()| growth())
+            .and_then(|()| pairs())
+            .and_then(|()| widths())
+            .map(|()| edits()),
     };
     if let Err(why) = done {
         eprintln!("speed: {why}");
