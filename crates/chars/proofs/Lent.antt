@@ -4,19 +4,24 @@ use mathlib.Core.Path.{_≡_, ap, _∙_}
 use mathlib.Core.List.{List}
 use native.Mathlib.Decide.{ℕ-discrete}
 use native.Mathlib.Omega.{arith}
+use lib.Dec.{eqb}
 use borrow.Author.Tests.{ne-eqb, le-leb, le-ltb}
+use Rattle.ranges.specs.Ranges.{inTable}
 use Rattle.chars.specs.Width.{zeroWidths, doubleWidths, widthBy, widthOf, lowWidth, Widths}
 use Rattle.chars.proofs.Tables.{zero-widths-ascend, double-widths-ascend, zero-width-low, double-width-low}
 
--- below U+0300 the tables hold U+0000 alone
+-- below U+0300 only U+0000 has no cell
+pub zeros-low : (x : ℕ) → x < 0x300 → inTable x zeroWidths ≡ eqb x 0
+zeros-low x h = go (ℕ-discrete x 0)
+  where
+    go : Dec (x ≡ 0) → inTable x zeroWidths ≡ eqb x 0
+    go (yes e) = rw (zero-width-low x h, e)
+    go (no n) = rw (zero-width-low x h, le-leb 0 x (omega arith), le-ltb x 1 (omega arith), ne-eqb x 0 n)
+
+-- and nothing has two
 pub width-low : (x : ℕ) → x < 0x300 → widthOf x ≡ lowWidth x
 unfolding widthOf widthBy
-width-low x h = go (ℕ-discrete x 0)
-  where
-    go : Dec (x ≡ 0) → widthBy zeroWidths doubleWidths x ≡ lowWidth x
-    go (yes e) = rw (zero-width-low x h, e)
-    go (no n) =
-        rw (zero-width-low x h, le-leb 0 x (omega arith), le-ltb x 1 (omega arith), double-width-low x (omega arith), ne-eqb x 0 n)
+width-low x h = rw (zeros-low x h, double-width-low x (omega arith))
 
 module _ {zeros doubles : List ℕ} (none : zeros ≡ zeroWidths) (two : doubles ≡ doubleWidths) where
   -- the width by tables that are the generated ones
@@ -33,5 +38,5 @@ module _ {zeros doubles : List ℕ} (none : zeros ≡ zeroWidths) (two : doubles
       record {
         zeros-ascend = rw none zero-widths-ascend;
         doubles-ascend = rw two double-widths-ascend;
-        low = λ x h. rw width-lent (width-low x (omega arith));
+        low = λ x h. rw none (zeros-low x h);
       }

@@ -1,3 +1,4 @@
 pub mod Facts
 pub mod Tables
+pub mod Before
 pub mod Lent

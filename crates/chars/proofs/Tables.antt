@@ -1,13 +1,10 @@
 -- The rule of each table, over the whole table: its bounds ascend, so that no range is empty and no two overlap or touch.
 -- And what a table holds below a bound is what its bounds before that one hold. Assumes nothing.
 use Prim.Native.Nat.{ℕ, _<_}
-use mathlib.Core.Path.{_≡_, refl, _∙_}
-use mathlib.Core.Bool.{false, and-false}
+use mathlib.Core.Path.{_≡_, refl}
 use mathlib.Core.List.{[], _∷_}
-use native.Mathlib.Omega.{arith}
-use lib.Dec.{T, leb}
+use lib.Dec.{T}
 use lib.ListN.{drop}
-use borrow.Author.Tests.{le-ltb}
 use Rattle.ranges.specs.Ranges.{inTable, ascending}
 use Rattle.ranges.proofs.Bounds.{table-low}
 use Rattle.chars.specs.White.{whites, isWhite}
@@ -26,25 +23,10 @@ unfolding doubleWidths
 double-widths-ascend = tt
 
 module _ (x : ℕ) where
-  pub white-ascii : x < 0x80 → isWhite x ≡ inTable x (0x9 ∷ 0xe ∷ 0x20 ∷ 0x21 ∷ [])
+  pub white-low : x < 0x1680 → isWhite x ≡ inTable x (0x9 ∷ 0xe ∷ 0x20 ∷ 0x21 ∷ 0x85 ∷ 0x86 ∷ 0xa0 ∷ 0xa1 ∷ [])
   unfolding isWhite whites
-  white-ascii h = table-low x (0x9 ∷ 0xe ∷ 0x20 ∷ 0x21 ∷ []) 0x85 (drop 5 whites) whites refl whites-ascend (omega arith)
-
-  -- between U+00A0 and U+1680
-  pub white-none : 0xa0 < x → x < 0x1680 → isWhite x ≡ false
-  unfolding isWhite whites
-  white-none low high =
-      table-low x (0x9 ∷ 0xe ∷ 0x20 ∷ 0x21 ∷ 0x85 ∷ 0x86 ∷ 0xa0 ∷ 0xa1 ∷ []) 0x1680 (drop 9 whites) whites refl whites-ascend high
-      ∙ rw (
-        le-ltb x 0xe (omega arith),
-        le-ltb x 0x21 (omega arith),
-        le-ltb x 0x86 (omega arith),
-        le-ltb x 0xa1 (omega arith),
-        and-false (leb 0x9 x),
-        and-false (leb 0x20 x),
-        and-false (leb 0x85 x),
-        and-false (leb 0xa0 x),
-      )
+  white-low h =
+      table-low x (0x9 ∷ 0xe ∷ 0x20 ∷ 0x21 ∷ 0x85 ∷ 0x86 ∷ 0xa0 ∷ 0xa1 ∷ []) 0x1680 (drop 9 whites) whites refl whites-ascend h
 
   pub zero-width-low : x < 0x300 → inTable x zeroWidths ≡ inTable x (0 ∷ 1 ∷ [])
   unfolding zeroWidths

@@ -1,11 +1,11 @@
--- What the contracts of `src/widths.rt` and of every walk over widths cite: the width in cells, by tables of the widths other than 1.
+-- What the contracts of `src/cell_widths.rt` and of every walk over widths cite: the width in cells, by tables of the widths other than 1.
 -- Document 01, "Character facts". Definitions only; that no width is above 4 is `width-most` in `proofs/Facts.antt`, and that the generated
 -- tables are as `Widths` says is `widths-lent` in `proofs/Lent.antt`. Assumes nothing.
 use Prim.Native.Nat.{ℕ, _<_}
 use mathlib.Core.Path.{_≡_}
-use mathlib.Core.List.{List}
-use mathlib.Core.Bool.{cond}
-use lib.Dec.{T, eqb}
+use mathlib.Core.List.{List, [], _∷_}
+use mathlib.Core.Bool.{Bool, false, cond}
+use lib.Dec.{T, eqb, ltb}
 use Rattle.ranges.specs.Ranges.{inTable, ascending}
 unfoldable pub use Rattle.chars.specs.WidthTables.{zeroWidths, doubleWidths}
 
@@ -21,8 +21,13 @@ widthOf = widthBy zeroWidths doubleWidths
 abbrev pub lowWidth : ℕ → ℕ
 lowWidth x = cond (eqb x 0) 0 1
 
--- all that a walk requires of the tables that it is lent: each ascends, and of ASCII they hold U+0000 alone, with no cell
+-- x is below the first number of a table, so in none of its ranges
+unfoldable pub startsAfter : List ℕ → ℕ → Bool
+startsAfter [] x = false
+startsAfter (b ∷ bs) x = ltb x b
+
+-- all that a walk requires of the tables that it is lent: each ascends, and below U+0300 only U+0000 has no cell
 pub record Widths (zeros doubles : List ℕ) : Type 0 where
   pub zeros-ascend : T (ascending zeros)
   pub doubles-ascend : T (ascending doubles)
-  pub low : (x : ℕ) → x < 0x80 → widthBy zeros doubles x ≡ lowWidth x
+  pub low : (x : ℕ) → x < 0x300 → inTable x zeros ≡ eqb x 0

@@ -27,21 +27,23 @@ pub const WHITE: [u32; 20] = [
     0x3001,
 ];
 
-// Whether x, an ASCII character, is white space.
-fn ascii_white(x: u32) -> bool
-    requires { ⌜ x < 0x80 ⌝ }
+// Whether x, below U+1680, is white space: the first four ranges of the list, compared without a
+// branch. Most characters of a text stand here, and the list is not built for them.
+fn low_white(x: u32) -> bool
+    requires { ⌜ x < 0x1680 ⌝ }
     ensures { λ r. ⌜ r ≡ isWhite x ⌝ }
 {
-    ((0x9 <= x) & (x < 0xe)) | ((0x20 <= x) & (x < 0x21))
+    ((0x9 <= x) & (x < 0xe))
+        | (((0x20 <= x) & (x < 0x21)) | (((0x85 <= x) & (x < 0x86)) | ((0xa0 <= x) & (x < 0xa1))))
 }
 
-// Whether x is white space, by the table WHITE that is lent: it answers for all but ASCII.
+// Whether x is white space, by the table WHITE that is lent: it answers from U+1680 on.
 pub fn white_in(white: &[u32], x: u32) -> bool
     requires { ⌜ now white ≡ whites ⌝ }
     ensures { λ r. ⌜ r ≡ isWhite x ⌝ }
 {
-    if x < 0x80 {
-        return ascii_white(x);
+    if x < 0x1680 {
+        return low_white(x);
     }
     ranges::in_table(white, x)
 }
@@ -53,25 +55,10 @@ fn high_white(x: u32) -> bool
     white_in(&WHITE, x)
 }
 
-// The same below U+1680. Behind U+00A0 the list has nothing there, where most letters stand, and it
-// is not built.
-fn low_white(x: u32) -> bool
-    requires { ⌜ x < 0x1680 ⌝ }
-    ensures { λ r. ⌜ r ≡ isWhite x ⌝ }
-{
-    if x > 0xa0 {
-        return false;
-    }
-    high_white(x)
-}
-
 // Whether x is white space.
 pub fn is_white(x: u32) -> bool
     ensures { λ r. ⌜ r ≡ isWhite x ⌝ }
 {
-    if x < 0x80 {
-        return ascii_white(x);
-    }
     if x < 0x1680 {
         return low_white(x);
     }

@@ -12,6 +12,7 @@ use Rattle.folds.specs.Folds.{anyFold, badFold, foldHides, hidden}
 use Rattle.folds.specs.Cover.{coverOf}
 use Rattle.folds.specs.declared.Span.{Span}
 use Rattle.folds.specs.declared.Span.the-variants.{Of, NoSpan}
+use Rattle.lists.proofs.Both.{both}
 use Rattle.lists.proofs.Lists.{drop-at}
 
 -- three numbers at an index
@@ -69,15 +70,11 @@ pub or-right : (a b : Bool) → (a || b) ≡ false → b ≡ false
 or-right true b e = cc
 or-right false b e = e
 
-and-parts : (a b : Bool) → (a && b) ≡ true → (a ≡ true) × (b ≡ true)
-and-parts true b e = (refl, e)
-and-parts false b e = (e, cc)
-
 -- a fold that hides a row hides all of its rows
 fold-hides : (row s e k : ℕ) → foldHides row s e k ≡ true → (s < row) × (row ≤ e) × ((x : ℕ) → s < x → x ≤ e → foldHides x s e k ≡ true)
 fold-hides row s e k h =
-    let p = and-parts (eqb k 1) (ltb s row && leb row e) h in
-    let q = and-parts (ltb s row) (leb row e) (p .1) in
+    let p = both (eqb k 1) (ltb s row && leb row e) h in
+    let q = both (ltb s row) (leb row e) (p .1) in
     (ltb-true _ _ (q .0), leb-true _ _ (q .1), λ x l m. rw (p .0, lt-ltb s x l, le-leb x e m))
 
 pub cover-covers : (folds : List ℕ) (row : ℕ) → Covers folds row (coverOf folds row)

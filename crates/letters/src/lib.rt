@@ -10,21 +10,12 @@ mod letter_table;
 pub use letter_table::LETTER_LENGTHS;
 pub use letter_table::LETTER_STARTS;
 
-// Whether x, below U+00AA, is a letter: A to Z or a to z.
+// Whether x, below U+00AA, is a letter: A to Z or a to z, compared without a branch.
 fn low_letter(x: u32) -> bool
     requires { ⌜ x < 0xaa ⌝ }
     ensures { λ r. ⌜ r ≡ isLetter x ⌝ }
 {
-    if x < 65 {
-        return false;
-    }
-    if x < 91 {
-        return true;
-    }
-    if x < 97 {
-        return false;
-    }
-    x < 123
+    ((65 <= x) & (x < 91)) | ((97 <= x) & (x < 123))
 }
 
 // Whether x, from U+00AA up to U+02C1, is a letter: the Latin letters beyond ASCII.

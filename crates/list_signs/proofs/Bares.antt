@@ -5,6 +5,7 @@ use mathlib.Core.Bool.{Bool, true, false, not, true≢false}
 use Prim.Native.Nat.{ℕ, suc, _+_}
 use lib.Dec.{eqb}
 use lib.ListN.{length, replicate, length-replicate, replicate-append-replicate}
+use Rattle.lists.proofs.Both.{both}
 use Rattle.lists.specs.Lists.{split}
 use Rattle.list_parts.specs.Parts.{trimStart, trim}
 use Rattle.list_parts.specs.declared.numbers.Number.{Number}
@@ -21,7 +22,7 @@ use Rattle.list_signs.proofs.PartMarks.{part-length}
 use Rattle.list_signs.proofs.PartLaws.{Same}
 use Rattle.list_signs.proofs.SameLaws.{same-trimmed}
 use Rattle.list_signs.proofs.TrimLaws.{trim-twice, start-of-trim, trim-around}
-use Rattle.list_signs.proofs.WhiteLaws.{and-split, split-part, before-white, end-white}
+use Rattle.list_signs.proofs.WhiteLaws.{split-part, before-white, end-white}
 use Rattle.list_signs.proofs.WithoutLaws.{without-none, without-append}
 
 -- a part without its signs: its white space stays around what it is trimmed to
@@ -73,8 +74,8 @@ part-comma : (p : List ℕ) (ms : List Bool) → noComma p ≡ true → noComma 
 unfolding noComma without
 part-comma [] ms h = refl
 part-comma (x ∷ p) [] h = h
-part-comma (x ∷ p) (true ∷ ms) h = part-comma p ms (and-split (not (eqb x 44)) (noComma p) h .1)
-part-comma (x ∷ p) (false ∷ ms) h = let s = and-split (not (eqb x 44)) (noComma p) h in rw (s .0) (part-comma p ms (s .1))
+part-comma (x ∷ p) (true ∷ ms) h = part-comma p ms (both (not (eqb x 44)) (noComma p) h .1)
+part-comma (x ∷ p) (false ∷ ms) h = let s = both (not (eqb x 44)) (noComma p) h in rw (s .0) (part-comma p ms (s .1))
 
 bares-some : (ps : List (List ℕ)) → Some ps → Some (bares ps)
 unfolding bares Some
@@ -84,7 +85,7 @@ bares-some (p ∷ ps) s = no-cons _ _
 bares-no-commas : (ps : List (List ℕ)) → noCommas ps ≡ true → noCommas (bares ps) ≡ true
 unfolding bares noCommas
 bares-no-commas [] h = refl
-bares-no-commas (p ∷ ps) h = let s = and-split (noComma p) (noCommas ps) h in rw (part-comma p (partSigns p) (s .0)) (bares-no-commas ps (s .1))
+bares-no-commas (p ∷ ps) h = let s = both (noComma p) (noCommas ps) h in rw (part-comma p (partSigns p) (s .0)) (bares-no-commas ps (s .1))
 
 bares-joined : (ps : List (List ℕ)) → without (joined ps) (signsIn ps) ≡ joined (bares ps)
 unfolding joined bares signsIn without

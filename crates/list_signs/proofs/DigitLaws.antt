@@ -7,6 +7,7 @@ use native.Mathlib.Omega.{arith}
 use lib.Dec.{eqb, leb}
 use lib.ListN.{length}
 use borrow.Author.Tests.{ne-eqb, leb-true, le-ltb, lt-leb}
+use Rattle.lists.proofs.Both.{both}
 use Rattle.lists.specs.Codes.{isDigit}
 use Rattle.lists.specs.Lists.{upTo}
 use Rattle.chars.specs.White.{whites, isWhite}
@@ -14,11 +15,11 @@ use Rattle.list_parts.specs.declared.numbers.Number.the-variants.{Value, Not}
 use Rattle.list_parts.specs.Numbers.{allDigits, digitsOf, numberOf}
 use Rattle.list_signs.specs.Signs.{none, leading, isValue}
 use Rattle.list_signs.specs.Plain.{without}
-use Rattle.list_signs.proofs.WhiteLaws.{noWhite, and-split}
+use Rattle.list_signs.proofs.WhiteLaws.{noWhite}
 use Rattle.list_signs.proofs.WithoutLaws.{without-none}
 
 digit-bounds : (x : ℕ) → isDigit x ≡ true → (48 ≤ x) × (x ≤ 57)
-digit-bounds x e = let s = and-split (leb 48 x) (leb x 57) e in (leb-true 48 x (s .0), leb-true x 57 (s .1))
+digit-bounds x e = let s = both (leb 48 x) (leb x 57) e in (leb-true 48 x (s .0), leb-true x 57 (s .1))
 
 digit-not-white : (x : ℕ) → isDigit x ≡ true → isWhite x ≡ false
 unfolding isWhite whites
@@ -43,13 +44,13 @@ digit-not-white x e =
 pub digits-no-white : (p : List ℕ) → allDigits p ≡ true → noWhite p ≡ true
 unfolding allDigits noWhite
 digits-no-white [] h = refl
-digits-no-white (x ∷ p) h = let s = and-split (isDigit x) (allDigits p) h in rw (digit-not-white x (s .0)) (digits-no-white p (s .1))
+digits-no-white (x ∷ p) h = let s = both (isDigit x) (allDigits p) h in rw (digit-not-white x (s .0)) (digits-no-white p (s .1))
 
 pub digits-no-minus : (p r : List ℕ) → allDigits p ≡ true → upTo 45 (p ++ (45 ∷ r)) ≡ length p
 unfolding allDigits upTo
 digits-no-minus [] r h = refl
 digits-no-minus (x ∷ p) r h =
-    let s = and-split (isDigit x) (allDigits p) h in
+    let s = both (isDigit x) (allDigits p) h in
     let b = digit-bounds x (s .0) in
     rw (ne-eqb x 45 (λ (e : x ≡ 45). omega (arith, b .0))) (ap suc (digits-no-minus p r (s .1)))
 
@@ -57,7 +58,7 @@ pub digits-up-to : (p : List ℕ) → allDigits p ≡ true → upTo 45 p ≡ len
 unfolding allDigits upTo
 digits-up-to [] h = refl
 digits-up-to (x ∷ p) h =
-    let s = and-split (isDigit x) (allDigits p) h in
+    let s = both (isDigit x) (allDigits p) h in
     let b = digit-bounds x (s .0) in
     rw (ne-eqb x 45 (λ (e : x ≡ 45). omega (arith, b .0))) (ap suc (digits-up-to p (s .1)))
 
@@ -86,7 +87,7 @@ unfolding allDigits
 first-digit [] n e = absurd (true≢false (sym (ap isValue e)))
 first-digit (x ∷ p) n e =
     let d = value-digits (x ∷ p) n e .0 in
-    let b = digit-bounds x (and-split (isDigit x) (allDigits p) d .0) in
+    let b = digit-bounds x (both (isDigit x) (allDigits p) d .0) in
     let other = ne-eqb x 43 (λ (w : x ≡ 43). omega (arith, b .0)) in
     (rw other e, rw other)
 

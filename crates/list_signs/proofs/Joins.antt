@@ -7,10 +7,10 @@ use native.Mathlib.Omega.{arith}
 use lib.Dec.{eqb}
 use lib.ListN.{length, length-append}
 use borrow.Author.Tests.{eqb-true, not-true}
+use Rattle.lists.proofs.Both.{both}
 use Rattle.lists.specs.Lists.{onFirst, split}
 use Rattle.list_signs.specs.Signs.{partSigns, signsIn, signs}
 use Rattle.list_signs.proofs.PartMarks.{part-length}
-use Rattle.list_signs.proofs.WhiteLaws.{and-split}
 
 unfoldable pub joined : List (List ℕ) → List ℕ
 joined [] = []
@@ -79,22 +79,22 @@ split-part-comma : (p r : List ℕ) → noComma p ≡ true → split 44 (p ++ (4
 unfolding split onFirst noComma
 split-part-comma [] r h = refl
 split-part-comma (x ∷ p) r h =
-    let s = and-split (not (eqb x 44)) (noComma p) h in
+    let s = both (not (eqb x 44)) (noComma p) h in
     rw (not-true (eqb x 44) (s .0)) (ap (onFirst x) (split-part-comma p r (s .1)))
 
 split-part-end : (p : List ℕ) → noComma p ≡ true → split 44 p ≡ p ∷ []
 unfolding split onFirst noComma
 split-part-end [] h = refl
 split-part-end (x ∷ p) h =
-    let s = and-split (not (eqb x 44)) (noComma p) h in
+    let s = both (not (eqb x 44)) (noComma p) h in
     rw (not-true (eqb x 44) (s .0)) (ap (onFirst x) (split-part-end p (s .1)))
 
 pub split-joined : (ps : List (List ℕ)) → Some ps → noCommas ps ≡ true → split 44 (joined ps) ≡ ps
 unfolding joined noCommas Some
 split-joined [] s h = absurd (s refl)
-split-joined (p ∷ []) s h = split-part-end p (and-split (noComma p) true h .0)
+split-joined (p ∷ []) s h = split-part-end p (both (noComma p) true h .0)
 split-joined (p ∷ q ∷ ps) s h =
-    let n = and-split (noComma p) (noComma q && noCommas ps) h in
+    let n = both (noComma p) (noComma q && noCommas ps) h in
     split-part-comma p (joined (q ∷ ps)) (n .0) ∙ ap (λ (r : List (List ℕ)). p ∷ r) (split-joined (q ∷ ps) (no-cons q ps) (n .1))
 
 -- a mark for each code point of parts that are joined, and for their end

@@ -9,13 +9,13 @@ use native.Mathlib.Omega.{arith}
 use lib.Dec.{eqb}
 use lib.ListN.{length, getD, take, drop, set, replicate, length-append, length-replicate, length-drop, length-set, replicate-append-replicate}
 use lib.Seq.{length-take-le, getD-take, getD-drop, set-append-left}
+use Rattle.lists.proofs.Both.{both}
 use Rattle.lists.specs.Lists.{upTo}
 use Rattle.list_parts.specs.Numbers.{numberOf}
 use Rattle.list_tokens.specs.Grammar.{isToken, rangeOf}
 use Rattle.list_signs.specs.Signs.{none, leading, isValue, keptSigns}
 use Rattle.list_signs.specs.Marks.{leads, seconds, marked}
 use Rattle.list_signs.proofs.RangeLaws.{no-range, both-range}
-use Rattle.list_signs.proofs.WhiteLaws.{and-split}
 
 pub length-marked : (b : Bool) (k : ℕ) (ms : List Bool) → length (marked b k ms) ≡ length ms
 length-marked true k ms = length-set ms k true
@@ -66,7 +66,7 @@ range-inside p e = go (decLt (upTo 45 p) (length p))
     go : Dec (upTo 45 p < length p) → (0 < upTo 45 p) × (upTo 45 p < length p)
     go (no n) = absurd (true≢false (sym e ∙ no-range p (upTo 45 p) at (omega arith)))
     go (yes h) =
-        let first = and-split _ _ (sym (both-range p (upTo 45 p) at h) ∙ e) .0 in
+        let first = both _ _ (sym (both-range p (upTo 45 p) at h) ∙ e) .0 in
         let some = range-value (take (upTo 45 p) p) first in
         (omega (arith, some, length-take-le (upTo 45 p) p (omega arith)), h)
 

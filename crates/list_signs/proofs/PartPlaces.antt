@@ -8,20 +8,21 @@ use native.Mathlib.Nat.{zero-add}
 use lib.Dec.{eqb}
 use lib.ListN.{length, getD, List·getD-eq-default}
 use borrow.Author.Tests.{ne-eqb}
+use Rattle.lists.proofs.Both.{both}
 use Rattle.lists.specs.Lists.{upTo}
 use Rattle.chars.specs.White.{whites, isWhite}
 use Rattle.list_parts.specs.Parts.{trim}
 use Rattle.list_signs.specs.Signs.{before, behind}
 use native.Mathlib.Decide.{decLt}
 use Rattle.list_signs.specs.Marks.{leads, seconds}
-use Rattle.list_signs.proofs.WhiteLaws.{allWhite, and-split, before-white, split-part}
+use Rattle.list_signs.proofs.WhiteLaws.{allWhite, before-white, split-part}
 
 -- a value that is no white space is sought past it
 pub up-to-white : (x : ℕ) (w q : List ℕ) → isWhite x ≡ false → allWhite w ≡ true → upTo x (w ++ q) ≡ length w + upTo x q
 unfolding upTo allWhite
 up-to-white x [] q n h = sym (zero-add _)
 up-to-white x (y ∷ w) q n h =
-    let s = and-split (isWhite y) (allWhite w) h in
+    let s = both (isWhite y) (allWhite w) h in
     let other : y ≡ x → ⊥ = λ e. true≢false (sym (s .0) ∙ ap isWhite e ∙ n) in
     let rest = up-to-white x w q n (s .1) in
     rw (ne-eqb y x other) (omega (arith, rest))
@@ -59,7 +60,7 @@ lead-place p e = go (trim p) refl e
     go : (t : List ℕ) → trim p ≡ t → leads t ≡ true → (upTo 43 p ≡ length (before p) + 0) × (0 < length (trim p))
     go [] w f = absurd (true≢false (sym f))
     go (x ∷ t) w f =
-        let plus = and-split (eqb x 43) _ f .0 in
+        let plus = both (eqb x 43) _ f .0 in
         let z : upTo 43 (trim p) ≡ 0 = rw (w, plus) in
         let some : 0 < length (trim p) = rw w (omega arith) in
         (part-place 43 p plus-not-white (omega arith) ∙ ap (λ (k : ℕ). length (before p) + k) z, some)
@@ -70,7 +71,7 @@ pub second-place :
 second-place p e = go (decLt (upTo 45 (trim p) + 1) (length (trim p)))
   where
     plus : eqb (getD (trim p) (upTo 45 (trim p) + 1) 0) 43 ≡ true
-    plus = and-split _ _ e .0
+    plus = both _ _ e .0
 
     go :
         Dec (upTo 45 (trim p) + 1 < length (trim p)) →

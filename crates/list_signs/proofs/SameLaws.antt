@@ -7,6 +7,7 @@ use native.Mathlib.Numerals.{add-one}
 use native.Mathlib.Omega.{arith}
 use lib.ListN.{length, take, drop}
 use lib.Seq.{split-at, length-take-le}
+use Rattle.lists.proofs.Both.{both}
 use Rattle.lists.specs.Lists.{upTo}
 use Rattle.chars.specs.White.{isWhite}
 use Rattle.list_parts.specs.declared.numbers.Number.the-variants.{Value}
@@ -21,7 +22,7 @@ use Rattle.list_signs.proofs.RangeLaws.{range-both, no-range}
 use Rattle.list_signs.proofs.PartLaws.{Same, leading-length, up-to-found, value-of, range-token, range-signs, number-token}
 use Rattle.list_signs.proofs.PartPlaces.{minus-not-white}
 use Rattle.list_signs.proofs.TrimLaws.{start-none, trim-none}
-use Rattle.list_signs.proofs.WhiteLaws.{noWhite, and-split}
+use Rattle.list_signs.proofs.WhiteLaws.{noWhite}
 use Rattle.list_signs.proofs.WithoutLaws.{without-none, without-append}
 
 -- the same of u, which is t without its signs
@@ -32,7 +33,7 @@ same-by t u w a b c d = record { token = rw w a; bare = rw w b; trimmed = rw w c
 no-white-range : (a b : List ℕ) → noWhite a ≡ true → noWhite b ≡ true → noWhite (a ++ (45 ∷ b)) ≡ true
 unfolding noWhite
 no-white-range [] b h k = rw minus-not-white k
-no-white-range (x ∷ a) b h k = let s = and-split (not (isWhite x)) (noWhite a) h in rw (s .0) (no-white-range a b (s .1) k)
+no-white-range (x ∷ a) b h k = let s = both (not (isWhite x)) (noWhite a) h in rw (s .0) (no-white-range a b (s .1) k)
 
 -- a range a-b
 same-range : (a b : List ℕ) (lo hi : ℕ) → upTo 45 (a ++ (45 ∷ b)) ≡ length a → numberOf a ≡ Value lo → numberOf b ≡ Value hi → Same (a ++ (45 ∷ b))
@@ -83,7 +84,7 @@ same-trimmed t a b = go (isToken (rangeOf t)) refl (isValue (numberOf t)) refl
         let size : length (take d t) ≡ d = length-take-le d t (omega (arith, i .1)) in
         let found : t ≡ take d t ++ (45 ∷ drop (d + 1) t) =
         split-at t d 0 (i .1) ∙ rw (up-to-found 45 t (i .1), add-one d) in
-        let both = and-split _ _ (sym (range-both t (i .1)) ∙ r) in
+        let both = both _ _ (sym (range-both t (i .1)) ∙ r) in
         let lo = value-of (numberOf (take d t)) (both .0) in
         let hi = value-of (numberOf (drop (d + 1) t)) (both .1) in
         let u : upTo 45 (take d t ++ (45 ∷ drop (d + 1) t)) ≡ length (take d t) = ap (upTo 45) (sym found) ∙ sym size in

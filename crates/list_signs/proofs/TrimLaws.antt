@@ -6,14 +6,15 @@ use Prim.Native.Nat.{ℕ, suc, _≤_}
 use native.Mathlib.Omega.{arith}
 use lib.ListN.{length, drop}
 use borrow.Author.Tests.{not-true}
+use Rattle.lists.proofs.Both.{both}
 use Rattle.chars.specs.White.{isWhite}
 use Rattle.list_parts.specs.Parts.{trimStart, keepLast, trimEnd, trim}
-use Rattle.list_signs.proofs.WhiteLaws.{allWhite, noWhite, and-split, split-end, end-white, start-skip, start-all, end-skip}
+use Rattle.list_signs.proofs.WhiteLaws.{allWhite, noWhite, split-end, end-white, start-skip, start-all, end-skip}
 
 pub start-none : (p : List ℕ) → noWhite p ≡ true → trimStart p ≡ p
 unfolding trimStart noWhite
 start-none [] h = refl
-start-none (x ∷ p) h = rw (not-true (isWhite x) (and-split (not (isWhite x)) (noWhite p) h .0))
+start-none (x ∷ p) h = rw (not-true (isWhite x) (both (not (isWhite x)) (noWhite p) h .0))
 
 keep-other : (x : ℕ) (q : List ℕ) → isWhite x ≡ false → keepLast x q ≡ x ∷ q
 keep-other x [] e = rw e
@@ -23,7 +24,7 @@ end-none : (p : List ℕ) → noWhite p ≡ true → trimEnd p ≡ p
 unfolding trimEnd noWhite
 end-none [] h = refl
 end-none (x ∷ p) h =
-    let s = and-split (not (isWhite x)) (noWhite p) h in
+    let s = both (not (isWhite x)) (noWhite p) h in
     ap (keepLast x) (end-none p (s .1)) ∙ keep-other x p (not-true (isWhite x) (s .0))
 
 -- what has no white space in it is trimmed

@@ -1,10 +1,11 @@
 -- White space around a part: it is all before and behind what the part is trimmed to, and a value that is none is sought past it. Assumes nothing.
-use mathlib.Core.Path.{_≡_, refl, ap, sym, _∙_}
+use mathlib.Core.Path.{_≡_, refl, ap, _∙_}
 use mathlib.Core.List.{List, [], _∷_, _++_}
-use mathlib.Core.Bool.{Bool, true, false, cond, not, _&&_, true≢false}
+use mathlib.Core.Bool.{Bool, true, false, cond, not, _&&_}
 use Prim.Native.Nat.{ℕ}
 use native.Mathlib.Omega.{arith}
 use lib.ListN.{length, drop}
+use Rattle.lists.proofs.Both.{both}
 use Rattle.chars.specs.White.{isWhite}
 use Rattle.list_parts.specs.Parts.{trimStart, keepLast, trimEnd, trim}
 use Rattle.list_signs.specs.Signs.{before, behind}
@@ -17,10 +18,6 @@ allWhite (x ∷ w) = isWhite x && allWhite w
 unfoldable pub noWhite : List ℕ → Bool
 noWhite [] = true
 noWhite (x ∷ p) = not (isWhite x) && noWhite p
-
-pub and-split : (a b : Bool) → (a && b) ≡ true → (a ≡ true) × (b ≡ true)
-and-split true b e = (refl, e)
-and-split false b e = absurd (true≢false (sym e))
 
 pub before-white : (p : List ℕ) → allWhite (before p) ≡ true
 unfolding before allWhite
@@ -66,17 +63,17 @@ end-white q = end-of q .white
 pub start-skip : (w q : List ℕ) → allWhite w ≡ true → trimStart (w ++ q) ≡ trimStart q
 unfolding trimStart allWhite
 start-skip [] q h = refl
-start-skip (x ∷ w) q h = let s = and-split (isWhite x) (allWhite w) h in rw (s .0) (start-skip w q (s .1))
+start-skip (x ∷ w) q h = let s = both (isWhite x) (allWhite w) h in rw (s .0) (start-skip w q (s .1))
 
 pub start-all : (w : List ℕ) → allWhite w ≡ true → trimStart w ≡ []
 unfolding trimStart allWhite
 start-all [] h = refl
-start-all (x ∷ w) h = let s = and-split (isWhite x) (allWhite w) h in rw (s .0) (start-all w (s .1))
+start-all (x ∷ w) h = let s = both (isWhite x) (allWhite w) h in rw (s .0) (start-all w (s .1))
 
 end-all : (w : List ℕ) → allWhite w ≡ true → trimEnd w ≡ []
 unfolding trimEnd allWhite
 end-all [] h = refl
-end-all (x ∷ w) h = let s = and-split (isWhite x) (allWhite w) h in rw (end-all w (s .1), s .0)
+end-all (x ∷ w) h = let s = both (isWhite x) (allWhite w) h in rw (end-all w (s .1), s .0)
 
 pub end-skip : (q w : List ℕ) → allWhite w ≡ true → trimEnd (q ++ w) ≡ trimEnd q
 unfolding trimEnd

@@ -1,5 +1,6 @@
 -- Laws of plain lists, which the proofs of the crates above cite.
 pub mod Beginnings
+pub mod Both
 pub mod Lists
 pub mod Any
 pub mod Finding

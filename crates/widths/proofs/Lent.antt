@@ -4,15 +4,14 @@ use mathlib.Core.Path.{_≡_, refl, ap, _∙_}
 use mathlib.Core.Bool.{Bool, cond, _&&_}
 use mathlib.Core.List.{List, []}
 use native.Mathlib.Decide.{ℕ-discrete}
-use native.Mathlib.Omega.{arith}
 use lib.Dec.{T, eqb}
 use lib.ListN.{drop}
 use borrow.Author.Tests.{ne-eqb}
 use Rattle.ranges.specs.Ranges.{inTable, ascending}
 use Rattle.ranges.proofs.Bounds.{table-low}
-use Rattle.chars.specs.Width.{zeroWidths, doubleWidths, widthBy, widthOf, lowWidth, Widths}
+use Rattle.chars.specs.Width.{zeroWidths, doubleWidths, widthBy, widthOf, Widths}
 use Rattle.chars.proofs.Tables.{zero-widths-ascend, double-widths-ascend}
-use Rattle.chars.proofs.Lent.{width-low}
+use Rattle.chars.proofs.Lent.{zeros-low}
 use Rattle.widths.specs.declared.Ambiguous.{Ambiguous}
 use Rattle.widths.specs.declared.Ambiguous.the-variants.{Narrow, Wide}
 use Rattle.widths.specs.Widths.{classA, isAmbiguous, wideWidth, widthAs}
@@ -52,15 +51,6 @@ pub class-low : (x : ℕ) → x < 0xa1 → isAmbiguous x ≡ inTable x []
 unfolding isAmbiguous classA
 class-low x h = table-low x [] 0xa1 (drop 1 classA) classA refl class-ascends h
 
-wide-low : (x : ℕ) → x < 0x80 → wideWidth x ≡ lowWidth x
-unfolding wideWidth
-wide-low x h = rw (class-low x (omega arith)) (width-low x (omega arith))
-
-width-as-low : (s : Ambiguous) (x : ℕ) → x < 0x80 → widthAs s x ≡ lowWidth x
-unfolding widthAs
-width-as-low Narrow x h = width-low x (omega arith)
-width-as-low Wide x h = wide-low x h
-
 width-of : (s : Ambiguous) → widthBy zeroWidths (doublesOf s) ≡ widthAs s
 unfolding widthAs doublesOf widthOf
 width-of Narrow = refl
@@ -85,5 +75,5 @@ module _ (s : Ambiguous) {zeros doubles : List ℕ} (none : zeros ≡ zeroWidths
       record {
         zeros-ascend = rw none zero-widths-ascend;
         doubles-ascend = rw two (doubles-ascend s);
-        low = λ x h. ap (λ (w : ℕ → ℕ). w x) width-lent ∙ width-as-low s x h;
+        low = λ x h. rw none (zeros-low x h);
       }

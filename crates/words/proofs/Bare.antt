@@ -6,6 +6,7 @@ use Prim.Native.Nat.{ℕ, _+_}
 use native.Mathlib.Omega.{arith}
 use lib.Dec.{ltb, leb}
 use borrow.Author.Tests.{ltb-true, leb-true}
+use Rattle.lists.proofs.Both.{both}
 use Rattle.text.specs.declared.Position.{Position}
 use Rattle.folds.specs.Folds.{anyFold, foldRefusal}
 use Rattle.folds.specs.declared.Span.the-variants.{NoSpan}
@@ -17,10 +18,6 @@ use Rattle.word_rounds.specs.declared.Motion.{Motion}
 use Rattle.word_rounds.specs.declared.Motion.the-variants.{Fwd, Back, End, EndBack}
 use Rattle.word_rounds.specs.Rounds.{foldAt, roundOf}
 use Rattle.word_rounds.specs.Turns.{Set}
-
-both : (a b : Bool) → (a && b) ≡ true → (a ≡ true) × (b ≡ true)
-both true b e = (refl, e)
-both false b e = (e, cc)
 
 -- at a row of the stretch there is no closed fold, so a round from it is one without folds
 module _ (t folds : List ℕ) {w : Stretch} (b : NoFold folds w) (p : Position) (h : (leb (w .lo) (p .row) && ltb (p .row) (w .hi)) ≡ true) where

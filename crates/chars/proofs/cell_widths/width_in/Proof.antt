@@ -1,14 +1,15 @@
--- `chars::width_in` meets its contract: ASCII by what is required of the tables, and the rest by searching them, as they ascend. Assumes nothing.
+-- `chars::width_in` meets its contract: what lies before the doubles by what is required of the zeros, the rest by searching both. Assumes nothing.
 use mathlib.Core.Path.{_∙_, sym}
 use borrow.Author.Needs.{needs}
 use Rattle.chars.specs.Width.{widthBy}
-use Rattle.chars.proofs.widths.width_in.Statement.{statement}
-use Rattle.chars.proofs.widths.width_in.Tie as tie
+use Rattle.chars.proofs.Before.{before-low}
+use Rattle.chars.proofs.cell_widths.width_in.Statement.{statement}
+use Rattle.chars.proofs.cell_widths.width_in.Tie as tie
 
 returns : tie.Need-returns
 returns c =
-    let s = c .before .before .before .before in
-    c .low-width .ensures ∙ sym (s .pre .low (s .args .x) (c .before .if1 .taken))
+    let start = c .before .before .before .before .before in
+    c .low-width .ensures ∙ before-low (start .args .x) (start .pre) (c .before .before .is-before .ensures) (c .before .if1 .taken)
 
 returns-2 : tie.Need-returns-2
 unfolding widthBy
@@ -29,4 +30,12 @@ returns-4 c =
 pub width-in-spec : {M : Type 1} → statement M
 width-in-spec =
     tie.close
-    (tie.spec (λ c κs. search needs) returns (λ c κs. search needs) returns-2 (λ c κs. search needs) returns-3 returns-4)
+    (tie.spec
+    (λ c κs. search needs)
+    (λ c κs. search needs)
+    returns
+    (λ c κs. search needs)
+    returns-2
+    (λ c κs. search needs)
+    returns-3
+    returns-4)

@@ -2,8 +2,8 @@
 use mathlib.Core.Path.{sym, _∙_}
 use borrow.Author.Needs.{needs}
 use Rattle.chars.proofs.Lent.{width-low}
-use Rattle.chars.proofs.widths.width.Statement.{statement}
-use Rattle.chars.proofs.widths.width.Tie as tie
+use Rattle.chars.proofs.cell_widths.width.Statement.{statement}
+use Rattle.chars.proofs.cell_widths.width.Tie as tie
 
 returns : tie.Need-returns
 returns c = c .low-width .ensures ∙ sym (width-low _ (c .before .if1 .taken))

@@ -1,11 +1,11 @@
--- `chars::widths::high_width` meets its contract: the consts are the lists of the definition. Assumes nothing.
+-- `chars::cell_widths::high_width` meets its contract: the consts are the lists of the definition. Assumes nothing.
 use Prim.Native.Nat.{ℕ}
 use mathlib.Core.Path.{refl}
 use borrow.Author.Needs.{needs}
 use Rattle.chars.specs.Width.{zeroWidths, doubleWidths}
 use Rattle.chars.proofs.Lent.{by-width, widths-lent}
-use Rattle.chars.proofs.widths.high_width.Statement.{statement}
-use Rattle.chars.proofs.widths.high_width.Tie as tie
+use Rattle.chars.proofs.cell_widths.high_width.Statement.{statement}
+use Rattle.chars.proofs.cell_widths.high_width.Tie as tie
 
 width-in-requires : tie.Need-width-in-requires
 unfolding zeroWidths doubleWidths

@@ -1,7 +1,7 @@
--- `chars::widths::low_width` meets its contract. Assumes nothing.
+-- `chars::cell_widths::low_width` meets its contract. Assumes nothing.
 use borrow.Author.Tests.{eq-eqb, ne-eqb}
-use Rattle.chars.proofs.widths.low_width.Statement.{statement}
-use Rattle.chars.proofs.widths.low_width.Tie as tie
+use Rattle.chars.proofs.cell_widths.low_width.Statement.{statement}
+use Rattle.chars.proofs.cell_widths.low_width.Tie as tie
 
 returns : tie.Need-returns
 returns c = rw (eq-eqb _ 0 (c .if1 .taken))
