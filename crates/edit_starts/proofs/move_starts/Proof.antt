@@ -1,0 +1,85 @@
+-- `move_starts` meets its contract. The invariant of its loop: the first k starts are moved. The measure is their number less k. Assumes nothing.
+use Prim.Native.Nat.{_+_, _-_, _≤_}
+use mathlib.Core.Path.{_≡_, ap, sym, _∙_}
+use mathlib.Core.List.{map}
+use native.Mathlib.Omega.{arith}
+use lib.ListN.{length, getD, take, drop}
+use lib.Seq.{length-slice}
+use borrow.Author.Needs.{needs}
+use Rattle.edit_places.proofs.Puts.{Up, up-none, up-next, up-all, up-read, part-read}
+use Rattle.edit_starts.specs.Moved.{movedStart}
+use Rattle.edit_starts.proofs.Moving.{map-read, map-size}
+use Rattle.edit_starts.proofs.move_starts.Statement.{statement}
+use Rattle.edit_starts.proofs.move_starts.Tie as tie
+
+abbrev Inv-loop : tie.InvT-loop
+Inv-loop starts₀ from to less more n k₀ starts k = (k ≤ to - from) × Up starts₀ from (map (movedStart less more) (drop from (take to starts₀))) k starts
+
+abbrev μ-loop : tie.MeasureT-loop
+μ-loop starts₀ from to less more n k₀ starts k = to - from - k
+
+loop-holds : tie.Need-loop-holds Inv-loop μ-loop
+loop-holds c =
+    let a = c .args in
+    let f = movedStart a.less a.more in
+    let m = map-size f (drop a.from (take a.to (a.starts .now))) in
+    let n = length-slice a.from a.to (a.starts .now) (omega arith) in
+    (omega arith, up-none _ _ _ (omega arith))
+
+-- the start that is read is still the one of before
+sub-starts : tie.Need-sub-starts Inv-loop μ-loop
+sub-starts c =
+    let l = c .before .before .loop in
+    let start = c .before .before .before in
+    let a = start .args in
+    let read = up-read (l.inv .1) (a.from + l.k) (omega arith) in
+    omega (arith, start .pre .1 .room (a.from + l.k) (omega arith) (omega arith))
+
+add-starts : tie.Need-add-starts Inv-loop μ-loop
+add-starts c =
+    let l = c .before .before .loop in
+    let start = c .before .before .before in
+    let a = start .args in
+    let read = up-read (l.inv .1) (a.from + l.k) (omega arith) in
+    omega (arith, start .pre .1 .room (a.from + l.k) (omega arith) (omega arith))
+
+loop-again : tie.Need-loop-again Inv-loop μ-loop
+loop-again c =
+    let l = c .before .before .loop in
+    let a = c .before .before .before .args in
+    let f = movedStart a.less a.more in
+    let part = drop a.from (take a.to (a.starts .now)) in
+    let m = map-size f part in
+    let n = length-slice a.from a.to (a.starts .now) (omega arith) in
+    let read = up-read (l.inv .1) (a.from + l.k) (omega arith) in (
+      omega arith,
+      up-next (l.inv .1) (omega arith) (ap f (read ∙ sym (part-read (a.starts .now) a.to a.from l.k (omega arith))) ∙ sym (map-read f part l.k (omega arith))),
+    )
+
+returns : tie.Need-returns Inv-loop μ-loop
+returns c =
+    let a = c .before .before .args in
+    let m = map-size (movedStart a.less a.more) (drop a.from (take a.to (a.starts .now))) in
+    let n = length-slice a.from a.to (a.starts .now) (omega arith) in
+    up-all (c .before .loop .inv .1) (omega arith)
+
+pub move-starts-spec : {M : Type 1} → statement M
+move-starts-spec =
+    tie.close
+    (tie.spec
+    Inv-loop
+    μ-loop
+    (λ c. search needs)
+    loop-holds
+    (λ c. search needs)
+    (λ c. search needs)
+    (λ c. search needs)
+    sub-starts
+    add-starts
+    (λ c. search needs)
+    (λ c. search needs)
+    (λ c. search needs)
+    (λ c. search needs)
+    loop-again
+    (λ c. search needs)
+    returns)

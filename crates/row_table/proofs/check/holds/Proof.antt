@@ -1,0 +1,90 @@
+-- `check::holds` meets its contract. The invariant of its loop: the first i starts ascend, and stand behind a separator each. The measure is the
+-- number of rows less i. Assumes nothing.
+use mathlib.Core.Path.{_≡_, refl, sym, _∙_}
+use Prim.Native.Nat.{_-_, _≤_}
+use native.Mathlib.Omega.{arith}
+use borrow.Author.Needs.{needs}
+use Rattle.text.proofs.Rows.{rows-pos, start-zero}
+use Rattle.row_table.proofs.Ascend.{same-yes, same-no, table-place, table-within, table-behind, table-ascends, Ascend, ascend-first, ascend-next, ascend-all}
+use Rattle.row_table.proofs.check.holds.Statement.{statement}
+use Rattle.row_table.proofs.check.holds.Tie as tie
+
+abbrev Inv-loop : tie.InvT-loop
+Inv-loop t rows starts last₀ i₀ last i = Ascend t starts i last × (i ≤ rows)
+
+abbrev μ-loop : tie.MeasureT-loop
+μ-loop t rows starts last₀ i₀ last i = rows - i
+
+shared-slice-read-if1 : tie.Need-shared-slice-read-if1 Inv-loop μ-loop
+shared-slice-read-if1 c = omega (arith, c .before .pre .0, rows-pos (c .before .args .t .now))
+
+-- the first start isn't 0
+returns : tie.Need-returns Inv-loop μ-loop
+returns c =
+    let s = c .before .before in
+    let t = s .args .t .now in
+    sym (same-no _ _ (λ e. c .if1 .taken (table-place t (s .args .starts .now) e 0 (rows-pos t) ∙ start-zero t)))
+
+loop-holds : tie.Need-loop-holds Inv-loop μ-loop
+loop-holds c =
+    let s = c .before .before in
+    (ascend-first (s .args .t .now) (s .args .starts .now) (c .if1 .left), omega (arith, s .pre .0, rows-pos (s .args .t .now)))
+
+cast-s : tie.Need-cast-s Inv-loop μ-loop
+cast-s c = omega (arith, c .shared-slice-known2 .given (c .before .before .loop .i))
+
+-- a start that isn't above the one before
+returns-2 : tie.Need-returns-2 Inv-loop μ-loop
+returns-2 c =
+    let l = c .before .before .before in
+    let s = l .before .before .before in
+    let i = l .loop .inv .0 in
+    sym (same-no _ _ (λ e. omega (arith, c .if2 .taken, i .last-is, table-ascends (s .args .t .now) (s .args .starts .now) e (l .loop .i) (i .some) (omega (arith, c .before .before .loop-test .taken, s .pre .0)))))
+
+-- one beyond the text
+returns-3 : tie.Need-returns-3 Inv-loop μ-loop
+returns-3 c =
+    let l = c .before .before .before .before in
+    let s = l .before .before .before in
+    sym (same-no _ _ (λ e. omega (arith, c .if3 .taken, table-within (s .args .t .now) (s .args .starts .now) e (l .loop .i) (omega (arith, c .before .before .before .loop-test .taken, s .pre .0)))))
+
+-- one that stands behind no separator
+returns-4 : tie.Need-returns-4 Inv-loop μ-loop
+returns-4 c =
+    let l = c .before .before .before .before .before .before in
+    let s = l .before .before .before in
+    sym (same-no _ _ (λ e. c .if4 .taken (table-behind (s .args .t .now) (s .args .starts .now) e (l .loop .i) (omega (arith, c .before .before .before .before .before .loop-test .taken, s .pre .0)) (l .loop .inv .0 .some))))
+
+loop-again : tie.Need-loop-again Inv-loop μ-loop
+loop-again c =
+    let l = c .before .before .before .before .before .before in
+    (ascend-next (l .loop .inv .0) (omega (arith, c .before .before .before .if2 .left)) (omega (arith, c .before .before .if3 .left)) (c .if4 .left), omega (arith, c .before .before .before .before .before .loop-test .taken))
+
+returns-5 : tie.Need-returns-5 Inv-loop μ-loop
+returns-5 c =
+    let l = c .before in
+    let s = l .before .before .before in
+    sym (same-yes _ _ (ascend-all (l .loop .inv .0) (omega (arith, l .loop .inv .1, c .loop-test .left, s .pre .0)) (omega (arith, s .pre))))
+
+pub holds-spec : {M : Type 1} → statement M
+holds-spec =
+    tie.close
+    (tie.spec
+    Inv-loop
+    μ-loop
+    shared-slice-read-if1
+    returns
+    loop-holds
+    (λ c. search needs)
+    (λ c. search needs)
+    cast-s
+    returns-2
+    returns-3
+    (λ c. search needs)
+    (λ c. search needs)
+    (λ c. search needs)
+    returns-4
+    (λ c. search needs)
+    (λ c. search needs)
+    loop-again
+    returns-5)
