@@ -29,7 +29,7 @@ pub enum Edited {
 const NONE: [u32; 1] = [0];
 
 // The edit itself, once its checks have refused nothing: the text, the folds, and the caret.
-fn make(
+pub fn make(
     text: &mut [u32],
     folds: &mut [u32],
     s: Sizes,

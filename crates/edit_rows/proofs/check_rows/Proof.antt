@@ -1,0 +1,48 @@
+-- `check_rows` meets its contract: the rows after the edit are those before it, less the stretch's and with those of the code points. Assumes nothing.
+use mathlib.Core.Path.{_≡_, sym, ap, _∙_}
+use Prim.Native.Nat.{ℕ, _+_, _-_, max}
+use native.Mathlib.Omega.{arith}
+use lib.ListN.{take}
+use lib.Seq.{length-take-le}
+use borrow.Author.Needs.{needs}
+use Rattle.text.specs.Text.{rowCount}
+use Rattle.text.proofs.Parts.{count-le}
+use Rattle.row_table.specs.Table.{tableRefusal}
+use Rattle.edit_positions.specs.After.{textAfter}
+use Rattle.edit_rows.proofs.Tables.{rows-after}
+use Rattle.edit_rows.proofs.check_rows.Statement.{statement}
+use Rattle.edit_rows.proofs.check_rows.Tie as tie
+
+slice-t : tie.Need-slice-aggregate-t
+slice-t c = sym (length-take-le _ _ (c .before .before .before .before .pre .0 .fits))
+
+add-after : tie.Need-add-after
+add-after c =
+    let start = c .before .before .before .before .before .before .before .before in
+    let a = start .args in
+    let t = take a.len (a.text .now) in
+    omega (arith, c .before .before .before .row-count .ensures, c .separators .ensures, count-le t, length-take-le a.len (a.text .now) (start .pre .0 .fits), start .pre .0 .brief)
+
+returns : tie.Need-returns
+returns c =
+    let most = c .before in
+    let counted = most .before in
+    let before = counted .before .before .before in
+    let start = before .before .before .before .before .before in
+    let a = start .args in
+    let t = take a.len (a.text .now) in
+    let new = textAfter t a.p a.q (a.points .now) in
+    let after-is : before .row-count .result - (a.q .row - a.p .row) + counted .separators .result ≡ rowCount new =
+    omega (arith, before .row-count .ensures, counted .separators .ensures .0, rows-after (start .pre .0) (a.points .now)) in
+    let need : most .most .result ≡ max (rowCount t) (rowCount new) = most .most .ensures ∙ (λ i. max (before .row-count .ensures i) (after-is i)) in
+    record {
+      refusal-is = c .table-refusal .ensures ∙ ap (λ (n : ℕ). tableRefusal n t (a.starts .now) a.content) need;
+      before-is = before .row-count .ensures;
+      after-is = after-is;
+    }
+
+pub check-rows-spec : {M : Type 1} → statement M
+check-rows-spec =
+    tie.close
+    (tie.spec slice-t (λ c κs. search needs) (λ c. search needs) (λ c. search needs) (λ c κs. search needs) add-after (λ c κs. search needs)
+    (λ c κs. search needs) returns)

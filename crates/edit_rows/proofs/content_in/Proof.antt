@@ -1,0 +1,24 @@
+-- `content_in` meets its contract: a text of so many code points has rows that fit a u32. Assumes nothing.
+use mathlib.Core.Path.{sym}
+use native.Mathlib.Omega.{arith}
+use lib.ListN.{take}
+use lib.Seq.{length-take-le}
+use borrow.Author.Needs.{needs}
+use Rattle.text.proofs.Parts.{count-le}
+use Rattle.text.proofs.Content.{content-near}
+use Rattle.edit_rows.proofs.content_in.Statement.{statement}
+use Rattle.edit_rows.proofs.content_in.Tie as tie
+
+slice-t : tie.Need-slice-aggregate-t
+slice-t c = sym (length-take-le _ _ (c .before .before .pre .0))
+
+cast-result : tie.Need-cast-result
+cast-result c =
+    let start = c .before .before .before in
+    let a = start .args in
+    let t = take a.len (a.text .now) in
+    omega (arith, c .content-of .ensures, content-near t, count-le t, length-take-le a.len (a.text .now) (start .pre .0))
+
+pub content-in-spec : {M : Type 1} → statement M
+content-in-spec =
+    tie.close (tie.spec slice-t (λ c κs. search needs) cast-result (λ c. search needs))
