@@ -1,0 +1,26 @@
+-- The word motions of the second engine on carets: the first engine's, and one refusal more. Document 02, #113.
+-- Definitions only. Assumes nothing.
+use Prim.Native.Nat.{ℕ}
+use mathlib.Core.List.{List, [], _∷_}
+use mathlib.Core.Bool.{Bool}
+use Rattle.text_check.specs.Accept.{textRefusal}
+use Rattle.text.specs.Text.{rowCount}
+use Rattle.folds.specs.Folds.{foldRefusal}
+use Rattle.list_tokens.specs.Tokens.{inList}
+use Rattle.keywords.specs.Table.{parseOf}
+use Rattle.positions.specs.Positions.{lowest}
+use Rattle.word_classes.specs.Call.{placesRefusal}
+use Rattle.word_rounds.specs.declared.Motion.{Motion}
+use Rattle.motions.specs.declared.Caret.{Caret}
+use Rattle.motions.specs.declared.Moved.{Moved}
+use Rattle.motions.specs.Carets.{caretRefusal, moving}
+use Rattle.motions.specs.WordMoves.{wordCaret}
+
+-- the first engine's refusals, and then 14
+abbrev pub classRefusal : List ℕ → List ℕ → List ℕ → Caret → List ℕ → ℕ
+classRefusal t folds list k room =
+    lowest (textRefusal t ∷ caretRefusal t k ∷ foldRefusal folds (rowCount t) ∷ parseOf list .refusal ∷ placesRefusal t room ∷ [])
+
+-- the first engine's answer
+abbrev pub moveByClass : List ℕ → List ℕ → List ℕ → Bool → Motion → Bool → ℕ → Caret → List ℕ → Moved
+moveByClass t folds list big m stop count k room = moving (classRefusal t folds list k room) (wordCaret t folds (inList list) big m stop count k)

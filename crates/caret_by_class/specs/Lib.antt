@@ -1,0 +1,2 @@
+pub mod ByClass
+pub mod Alike

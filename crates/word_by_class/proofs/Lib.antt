@@ -1,0 +1,5 @@
+-- Laws of rounds by the classes, and that they are the first engine's.
+pub mod Jumping
+pub mod Same
+pub mod Fits
+pub mod Counts

@@ -1,0 +1,62 @@
+// Out of a closed fold, before a word is sought.
+use folds::Span;
+use word_classes::EMPTY_ROW;
+use word_kinds::Spot;
+ghost use mathlib.Core.Path.{_≡_};
+ghost use Prim.Native.Nat.{_<_};
+ghost use Rattle.word_class_rows.specs.Rows.{rowsOf, endOf, lastOf, Stands};
+ghost use Rattle.word_class_laws.specs.Determines.{Classes};
+ghost use Rattle.word_by_class.specs.Rounds.{jumpFwd, jumpBack, Ready};
+
+// The place that ends a row, from any place.
+fn end_of(c: &[u8], p: Spot, row: usize) -> usize
+    requires { ⌜ Stands (now c) p × (row < rowsOf (now c)) ⌝ }
+    ensures { λ r. ⌜ r ≡ endOf (now (c .entry)) row ⌝ }
+{
+    if row < p.row {
+        let start = word_class_rows::row_start(c, p, row);
+        return word_class_rows::row_end(
+            c,
+            Spot {
+                row: row,
+                at: start,
+            },
+            row,
+        );
+    }
+    word_class_rows::row_end(c, p, row)
+}
+
+// The last character of a row, or its only place where it is empty.
+fn row_last(c: &[u8], p: Spot, row: usize) -> usize
+    requires { ⌜ Classes (now c) × Stands (now c) p × (row < rowsOf (now c)) ⌝ }
+    ensures { λ r. ⌜ r ≡ lastOf (now (c .entry)) row ⌝ }
+{
+    let end = end_of(c, p, row);
+    if word_places::class_at(c, end) == EMPTY_ROW {
+        return end;
+    }
+    end - 1
+}
+
+// From a closed fold to the last character of its last row: `w` and `e` begin there.
+pub fn jump_fwd(c: &[u8], folds: &[u32], rows: usize, content: usize, p: Spot) -> usize
+    requires { ⌜ Ready (now c) (now folds) rows content p ⌝ }
+    ensures { λ r. ⌜ r ≡ jumpFwd (now (c .entry)) (now (folds .entry)) (p .at) ⌝ }
+{
+    match folds::closed_fold_at(folds, rows, content, p.row) {
+        Span::Of(first, last) => row_last(c, p, last),
+        Span::NoSpan => p.at,
+    }
+}
+
+// From a closed fold to the first place of its first row: `b` begins there.
+pub fn jump_back(c: &[u8], folds: &[u32], rows: usize, content: usize, p: Spot) -> usize
+    requires { ⌜ Ready (now c) (now folds) rows content p ⌝ }
+    ensures { λ r. ⌜ r ≡ jumpBack (now (c .entry)) (now (folds .entry)) (p .at) ⌝ }
+{
+    match folds::closed_fold_at(folds, rows, content, p.row) {
+        Span::Of(first, last) => word_class_rows::row_start(c, p, first),
+        Span::NoSpan => p.at,
+    }
+}

@@ -1,0 +1,2 @@
+-- Laws of rows by the classes, which the proofs of this crate and of those above cite.
+pub mod Counting

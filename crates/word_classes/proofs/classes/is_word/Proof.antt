@@ -1,0 +1,34 @@
+-- `word_classes::classes::is_word` meets its contract: a scalar value and a table of at most 128 tokens are not refused. Assumes nothing.
+use mathlib.Core.Path.{_≡_, sym, _∙_}
+use mathlib.Core.Bool.{Bool, true}
+use Prim.Native.Nat.{ℕ, _≤_}
+use native.Mathlib.Omega.{arith}
+use borrow.Author.Needs.{needs}
+use borrow.Author.Tests.{le-leb}
+use Rattle.chars.specs.Scalar.{isScalar}
+use Rattle.list_tokens.specs.Tokens.{anyToken}
+use Rattle.keywords.specs.declared.KeywordSpec.{KeywordSpec}
+use Rattle.keywords.specs.declared.Matched.the-variants.{Is}
+use Rattle.keywords.specs.Table.{kept, matchesOf}
+use Rattle.word_classes.proofs.classes.is_word.Statement.{statement}
+use Rattle.word_classes.proofs.classes.is_word.Tie as tie
+
+answered : (spec : KeywordSpec) (x : ℕ) → isScalar x ≡ true → spec .len ≤ 128 → matchesOf spec x ≡ Is (anyToken (kept spec) x)
+answered spec x s h = rw (s, le-leb (spec .len) 128 h)
+
+returns : tie.Need-returns
+returns c =
+    let at-call = c .before .before .before in
+    let start = at-call .before in
+    cc (sym (c .before .held .given .1) ∙ at-call .matches .ensures ∙ answered (start .args .spec) (start .args .x) (start .pre .0) (start .pre .1))
+
+returns-2 : tie.Need-returns-2
+returns-2 c =
+    let at-call = c .before .before .before in
+    let start = at-call .before in
+    let z : _≡_ {A = ℕ} 0 1 =
+    cc (sym (c .before .f .given .1) ∙ at-call .matches .ensures ∙ answered (start .args .spec) (start .args .x) (start .pre .0) (start .pre .1)) in
+    absurd (omega arith)
+
+pub is-word-spec : {M : Type 1} → statement M
+is-word-spec = tie.close (tie.spec (λ c κs. search needs) (λ c. search needs) (λ c. search needs) returns returns-2)
