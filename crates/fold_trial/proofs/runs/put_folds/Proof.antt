@@ -1,0 +1,114 @@
+-- `put_folds` meets its contract. The invariant of its loop: what is written, with the numbers to come and the row's end, comes to the row. The measure is
+-- what is left of the folds. Assumes nothing.
+use Prim.Native.Nat.{_+_, _-_, _≤_}
+use mathlib.Core.Path.{refl}
+use mathlib.Core.List.{[], _∷_, _++_}
+use native.Mathlib.Omega.{arith}
+use borrow.Author.Needs.{needs}
+use lib.ListN.{length, getD, drop}
+use Rattle.print.specs.Print.{decimal}
+use Rattle.print.proofs.Laws.{wrote-then}
+use Rattle.fold_blocks.proofs.Toward.{Toward, toward-start, toward-room, toward-on, toward-end}
+use Rattle.fold_trial.specs.Runs.{spaced, foldRow}
+use Rattle.fold_trial.proofs.Rows.{spaced-at, spaced-end, fold-row-fits, fold-row-length}
+use Rattle.fold_trial.proofs.runs.put_folds.Statement.{statement}
+use Rattle.fold_trial.proofs.runs.put_folds.Tie as tie
+
+abbrev Inv-loop : tie.InvT-loop
+Inv-loop out₀ folds at₀ i₀ out at i = (i ≤ length folds) × Toward out₀ at₀ (spaced folds ++ (10 ∷ [])) out at (spaced (drop i folds) ++ (10 ∷ []))
+
+abbrev μ-loop : tie.MeasureT-loop
+μ-loop out₀ folds at₀ i₀ out at i = length folds - i
+
+loop-holds : tie.Need-loop-holds Inv-loop μ-loop
+loop-holds c = (omega arith, toward-start _ _ _)
+
+-- there is room for the next number, and for the row's end
+put-requires-2 : tie.Need-put-requires-2 Inv-loop μ-loop
+put-requires-2 c κs =
+    let at-loop = c .before .before in
+    let entry = c .before .before .before .before .before .before .before .before .before in
+    let key = c .before .before .before .before .before .put .ensures in
+    let l = entry .args .folds .now in
+    let i = at-loop .loop .i in
+    let piece = spaced-at l i (c .before .loop-test .taken) in
+    omega (
+      arith,
+      toward-room (32 ∷ decimal (getD l i 0)) (spaced (drop (i + 1) l) ++ (10 ∷ [])) (at-loop .loop .inv .1) piece,
+      fold-row-fits l (entry .pre .0),
+      fold-row-length l,
+      entry .pre .1,
+      key .next,
+      key .size,
+    )
+
+put-decimal-requires : tie.Need-put-decimal-requires Inv-loop μ-loop
+put-decimal-requires c κs =
+    let at-loop = c .before .before .before .before .before .before .before in
+    let entry = c .before .before .before .before .before .before .before .before .before .before .before .before .before .before in
+    let key = c .before .before .before .before .before .before .before .before .before .before .put .ensures in
+    let l = entry .args .folds .now in
+    let i = at-loop .loop .i in
+    let piece = spaced-at l i (c .before .before .before .before .before .before .loop-test .taken) in
+    let space = c .before .before .before .before .put2 .ensures in
+    omega (
+      arith,
+      toward-room (32 ∷ decimal (getD l i 0)) (spaced (drop (i + 1) l) ++ (10 ∷ [])) (at-loop .loop .inv .1) piece,
+      fold-row-fits l (entry .pre .0),
+      fold-row-length l,
+      entry .pre .1,
+      key .next,
+      key .size,
+      space .next,
+      space .size,
+    )
+
+loop-again : tie.Need-loop-again Inv-loop μ-loop
+loop-again c =
+    let at-loop = c .before .before .before .before .before .before .before .before .before .before in
+    let l = c .before .before .before .before .before .before .before .before .before .before .before .before .before .before .before .before .before .args .folds .now in
+    let i = at-loop .loop .i in
+    let h = c .before .before .before .before .before .before .before .before .before .loop-test .taken in (
+      omega (arith, h),
+      toward-on (32 ∷ decimal (getD l i 0)) (spaced (drop (i + 1) l) ++ (10 ∷ [])) (at-loop .loop .inv .1) (spaced-at l i h)
+          (wrote-then (c .before .before .before .before .before .before .before .put2 .ensures) (c .before .before .put-decimal .ensures)),
+    )
+
+put-requires-3 : tie.Need-put-requires-3 Inv-loop μ-loop
+put-requires-3 c κs =
+    let at-loop = c .before .before in
+    let entry = c .before .before .before .before .before .before .before .before .before in
+    let key = c .before .before .before .before .before .put .ensures in
+    let l = entry .args .folds .now in
+    let last = spaced-end l (at-loop .loop .i) (c .before .loop-test .left) in
+    omega
+    (arith, toward-room (10 ∷ []) [] (at-loop .loop .inv .1) last, fold-row-fits l (entry .pre .0), fold-row-length l, entry .pre .1, key .next, key .size)
+
+same-length : tie.Need-same-length Inv-loop μ-loop
+same-length c = omega (arith, c .before .before .put3 .ensures .size, c .before .before .before .before .before .loop .inv .1 .size, c .before .before .before .before .before .before .before .before .put .ensures .size)
+
+returns : tie.Need-returns Inv-loop μ-loop
+unfolding foldRow
+returns c =
+    let at-loop = c .before .before .before .before .before in
+    let last = spaced-end (c .before .before .before .before .before .before .before .before .before .before .before .before .args .folds .now) (at-loop .loop .i) (c .before .before .before .before .loop-test .left) in
+    wrote-then (c .before .before .before .before .before .before .before .before .put .ensures) (toward-end (toward-on (10 ∷ []) [] (at-loop .loop .inv .1) last (c .before .before .put3 .ensures)) refl)
+
+pub put-folds-spec : {M : Type 1} → statement M
+put-folds-spec =
+    tie.close
+    (tie.spec
+    Inv-loop
+    μ-loop
+    (λ c κs. search needs)
+    loop-holds
+    put-requires-2
+    (λ c. search needs)
+    (λ c. search needs)
+    put-decimal-requires
+    (λ c. search needs)
+    (λ c. search needs)
+    loop-again
+    put-requires-3
+    same-length
+    returns)

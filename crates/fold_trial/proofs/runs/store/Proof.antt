@@ -1,0 +1,29 @@
+-- `store` meets its contract, by the answers of the writer. Assumes nothing.
+use mathlib.Core.Path.{ap, sym, _∙_}
+use borrow.Author.Needs.{needs}
+use lib.ListN.{length}
+use Rattle.fold_trial.proofs.Rows.{refusal-row-fits, prints}
+use Rattle.fold_trial.proofs.Answers.{stored-bytes, stored-kept, stored-refused}
+use Rattle.fold_trial.proofs.runs.store.Statement.{statement}
+use Rattle.fold_trial.proofs.runs.store.Tie as tie
+
+returns : tie.Need-returns
+returns c =
+    let answered = c .before .before .before .before .before in
+    let entry = c .before .before .before .before .before .before .before .before .before .before in
+    let a = entry .args in
+    stored-bytes (a .text .now) (a .folds .now) (a .out .now) (entry .pre) _ _ (sym (answered .write-folds .ensures .0) ∙ c .before .n .given .1)
+    (answered .write-folds .ensures .1)
+
+returns-2 : tie.Need-returns-2
+returns-2 c =
+    let answered = c .before .before .before .before .before .before .before .before .before in
+    let entry = c .before .before .before .before .before .before .before .before .before .before .before .before .before .before in
+    let a = entry .args in
+    let e = sym (answered .write-folds .ensures .0) ∙ c .before .before .before .before .before .f .given .1 in
+    let kept = answered .write-folds .ensures .1 ∙ stored-kept (a .text .now) (a .folds .now) (a .out .now) (entry .pre) _ e in
+    rw (stored-refused (a .text .now) (a .folds .now) (a .out .now) (entry .pre) _ e)
+    (prints (refusal-row-fits _) (ap length kept ∙ entry .pre) (c .before .before .refuse .ensures))
+
+pub store-spec : {M : Type 1} → statement M
+store-spec = tie.close (tie.spec (λ c κs. search needs) (λ c. search needs) (λ c. search needs) (λ c κs. search needs) (λ c. search needs) returns (λ c. search needs) returns-2)
