@@ -18,6 +18,7 @@ pub mod pairs;
 pub mod plus;
 pub mod refusals;
 pub mod replay;
+pub mod replay_buffers;
 pub mod session;
 pub mod utf8;
 pub mod wide;

@@ -5,13 +5,13 @@
 //! answer and for what is written hold afterwards. A space ends each number but the last; `3*97` is 97 three times. A call
 //! whose refusal may have a place has the place, or 0, behind the number. UTF-8, which the given Rust has no call for, comes
 //! last, by RFC 3629's tables: groups 14 and 15, with a byte as a number. A screen move
-//! that remembers, group 18, has in its list whether an offset is kept, and that.
+//! that remembers, group 18, has in its list whether an offset is kept, and that. Edits and fold files: `replay_buffers`.
 
 use crate::case::{CALLS, Call, Case, FILLER, Input};
 use crate::generate::{self, Dice};
-use crate::{Outcome, Wrap, utf8, wide};
+use crate::{Outcome, Wrap, replay_buffers, utf8, wide};
 
-const SEED: u64 = 9;
+pub(crate) const SEED: u64 = 9;
 
 /// Random cases of each call, and how many code points their texts have at most.
 const CASES: usize = 80;
@@ -208,7 +208,7 @@ fn row(k: &Case) -> Option<Row> {
 }
 
 /// The numbers of some parts; no run goes on from one part into the next.
-fn written(parts: &[&[u32]]) -> String {
+pub(crate) fn written(parts: &[&[u32]]) -> String {
     let runs = parts.iter().flat_map(|part| part.chunk_by(|a, b| a == b)).map(|run| match run.len() {
         n @ 1..4 => vec![run[0].to_string(); n].join(" "),
         n => format!("{n}*{}", run[0]),
@@ -225,7 +225,7 @@ fn rows(call: &'static Call) -> Vec<Row> {
 }
 
 /// What places lent for bytes hold before a call.
-const FILLER_BYTE: u32 = 0xA5;
+pub(crate) const FILLER_BYTE: u32 = 0xA5;
 
 /// The code points of texts of UTF-8, and values that are none.
 const POINTS: [u32; 16] =
@@ -292,5 +292,6 @@ fn codings() -> Vec<Row> {
 
 /// The rows of the list, in its order.
 pub fn list() -> Vec<Row> {
-    CALLS.iter().flat_map(rows).chain(codings()).collect()
+    let buffers = replay_buffers::edits().into_iter().chain(replay_buffers::fold_files());
+    CALLS.iter().flat_map(rows).chain(codings()).chain(buffers).collect()
 }

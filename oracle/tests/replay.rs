@@ -47,7 +47,15 @@ fn the_stored_list_is_current() {
         assert!(answered >= 40, "{}: {answered} cases are answered", call.name);
         assert_eq!(refused, refusals(&Case::new(call)), "the refusals of {}", call.name);
     }
-    for (call, all) in [("utf8_decode", [13, 14].as_slice()), ("utf8_encode", &[1, 2, 14])] {
+    let beside = [
+        ("utf8_decode", [13, 14].as_slice()),
+        ("utf8_encode", &[1, 2, 14]),
+        ("insert", &[1, 2, 3, 4, 5, 11, 12]),
+        ("delete", &[1, 2, 3, 4, 5, 11]),
+        ("folds_write", &[1, 2, 3, 5, 14]),
+        ("folds_read", &[1, 2, 3, 5, 14, 18, 19, 20]),
+    ];
+    for (call, all) in beside {
         let rows: Vec<_> = list.iter().filter(|row| row.call == call).collect();
         let told = |row: &&&replay::Row| matches!(row.outcome, Outcome::Number(_));
         assert!(rows.iter().filter(told).count() >= 30, "{call}");

@@ -11,6 +11,8 @@ use Rattle.replay_verdicts.specs.Answers.{compared}
 use Rattle.replay_rows.specs.Cases.{headOf, foldsAt, listAt, storedAt, part}
 use Rattle.replay_codings.specs.Codings.{decodeVerdict, encodeVerdict}
 use Rattle.replay_signs.specs.Signs.{enteredOf, plainVerdict}
+use Rattle.replay_edits.specs.Edits.{editVerdict}
+use Rattle.replay_fold_file.specs.FoldFiles.{fileVerdict}
 use Rattle.replay.specs.Calls.{characterOf, keywordsOf, columnsOf, offsetsOf, segmentForColOf, wrapVerdict}
 use Rattle.replay.specs.Calls.{contentRowCountOf, matchingBracketPosOf, innerPairOf, motionOf, seekOf, wordOf, verticalVerdict, viewportVerdict, keptVerdict}
 
@@ -36,7 +38,9 @@ byGroup group k text folds list stored =
     (cond (eqb group 16) (compared (enteredOf k list) stored)
     (cond (eqb group 17) (plainVerdict k list stored)
     (cond (eqb group 18) (keptVerdict k text folds list stored)
-    Malformed))))))))))))))))))
+    (cond (eqb group 19) (editVerdict k text folds list stored)
+    (cond (eqb group 20) (fileVerdict k text folds list stored)
+    Malformed))))))))))))))))))))
 
 -- the verdict of a case
 unfoldable pub verdictOf : List ℕ → Verdict

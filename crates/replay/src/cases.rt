@@ -38,6 +38,8 @@ fn by_group(
         16 => replay_signs::enter(k, list, stored),
         17 => replay_signs::without_plus(k, list, stored),
         18 => calls::screen_kept(k, text, folds, list, stored),
+        19 => replay_edits::edit(k, text, folds, list, stored),
+        20 => replay_fold_file::fold_file(k, text, folds, list, stored),
         _ => Verdict::Malformed,
     }
 }

@@ -13,7 +13,7 @@ ghost use Rattle.replay_codings.specs.Codings.{Narrowed, decodedInto, de
 ghost use Rattle.replay_codings.specs.Codings.{encodedInto, encodeVerdict};
 
 // Puts numbers below 256 at the start of `bytes`, and answers whether all are.
-fn narrow(numbers: &[u32], bytes: &mut [u8]) -> bool
+pub fn narrow(numbers: &[u32], bytes: &mut [u8]) -> bool
     requires { ⌜ length (now numbers) ≤ length (now bytes) ⌝ }
     ensures { λ r. ⌜ Narrowed (now (numbers .entry)) (length (now (bytes .entry))) r
         (now (bytes .exit)) ⌝ }
@@ -31,7 +31,7 @@ fn narrow(numbers: &[u32], bytes: &mut [u8]) -> bool
 }
 
 // Puts bytes as numbers into as many places.
-fn widen(bytes: &[u8], numbers: &mut [u32])
+pub fn widen(bytes: &[u8], numbers: &mut [u32])
     requires { ⌜ length (now numbers) ≡ length (now bytes) ⌝ }
     ensures { λ _. ⌜ now (numbers .exit) ≡ now (bytes .entry) ⌝ }
 {

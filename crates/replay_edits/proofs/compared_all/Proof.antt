@@ -1,0 +1,70 @@
+-- `compared_all` meets its contract: the pieces, one after another, are compared. Assumes nothing.
+use mathlib.Core.Path.{sym}
+use native.Mathlib.Omega.{arith}
+use borrow.Author.Needs.{needs}
+use lib.Seq.{length-take-le}
+use Rattle.print.proofs.Laws.{wrote-then}
+use Rattle.replay_edits.proofs.Comparing.{written-front}
+use Rattle.replay_edits.proofs.compared_all.Statement.{statement}
+use Rattle.replay_edits.proofs.compared_all.Tie as tie
+
+second : tie.Need-put-all-requires-2
+second c κs = let p = c .before .before .before .put-all .ensures in omega (arith, p .next, p .size)
+
+third : tie.Need-put-all-requires-3
+third c κs =
+    let p = c .before .before .before .before .before .before .put-all .ensures in
+    let q = c .before .before .put-all2 .ensures in
+    omega (arith, p .next, p .size, q .next, q .size, c .before .before .before .before .before .before .before .before .before .before .before .before .pre .0)
+
+fourth : tie.Need-put-all-requires-4
+fourth c κs =
+    let p = c .before .before .before .before .before .before .before .before .before .put-all .ensures in
+    let q = c .before .before .before .before .before .put-all2 .ensures in
+    let r = c .before .before .put-all3 .ensures in
+    omega (arith, p .next, p .size, q .next, q .size, r .next, r .size, c .before .before .before .before .before .before .before .before .before .before .before .before .before .before .before .pre .0, c .before .before .before .before .before .before .before .before .before .before .before .before .before .before .before .pre .1)
+
+prefix : tie.Need-array-share-prefix-all
+prefix c =
+    let p = c .before .before .before .before .before .before .before .before .before .before .before .put-all .ensures in
+    let q = c .before .before .before .before .before .before .before .put-all2 .ensures in
+    let r = c .before .before .before .before .put-all3 .ensures in
+    let s = c .before .put-all4 .ensures in
+    omega (arith, p .next, q .next, r .next, s .next, c .before .before .before .before .before .before .before .before .before .before .before .before .before .before .before .before .before .pre .0, c .before .before .before .before .before .before .before .before .before .before .before .before .before .before .before .before .before .pre .1)
+
+lent : tie.Need-slice-aggregate-compared
+lent c =
+    let p = c .before .before .before .before .before .before .before .before .before .before .before .before .put-all .ensures in
+    let q = c .before .before .before .before .before .before .before .before .put-all2 .ensures in
+    let r = c .before .before .before .before .before .put-all3 .ensures in
+    let s = c .before .before .put-all4 .ensures in
+    sym
+    (length-take-le _ _
+    (omega (arith, p .next, p .size, q .next, q .size, r .next, r .size, s .next, s .size, c .before .before .before .before .before .before .before .before .before .before .before .before .before .before .before .before .before .before .pre .0, c .before .before .before .before .before .before .before .before .before .before .before .before .before .before .before .before .before .before .pre .1)))
+
+returns : tie.Need-returns
+returns c =
+    let p = c .before .before .before .before .before .before .before .before .before .before .before .before .before .put-all .ensures in
+    let q = c .before .before .before .before .before .before .before .before .before .put-all2 .ensures in
+    let r = c .before .before .before .before .before .before .put-all3 .ensures in
+    let s = c .before .before .before .put-all4 .ensures in
+    let all = wrote-then (wrote-then (wrote-then p q) r) s in
+    let front = written-front all (omega (arith, all .next, p .next, q .next, r .next, s .next, c .before .before .before .before .before .before .before .before .before .before .before .before .before .before .before .before .before .before .before .pre .0, c .before .before .before .before .before .before .before .before .before .before .before .before .before .before .before .before .before .before .before .pre .1)) in
+    rw front at (c .compared .ensures)
+
+pub compared-all-spec : {M : Type 1} → statement M
+compared-all-spec =
+    tie.close
+    (tie.spec
+    (λ c. search needs)
+    (λ c κs. search needs)
+    (λ c. search needs)
+    second
+    (λ c. search needs)
+    third
+    (λ c. search needs)
+    fourth
+    prefix
+    lent
+    (λ c κs. search needs)
+    returns)

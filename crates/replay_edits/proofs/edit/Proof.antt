@@ -1,0 +1,55 @@
+-- `edit` meets its contract: the tests of the definition, and the buffers that are lent. Assumes nothing.
+use mathlib.Core.Path.{sym}
+use native.Mathlib.Omega.{arith}
+use borrow.Author.Needs.{needs}
+use borrow.Author.Tests.{le-leb, lt-leb}
+use lib.Seq.{length-take-le}
+use Rattle.replay_edits.specs.Edits.{editVerdict}
+use Rattle.replay_edits.proofs.Comparing.{lent-front}
+use Rattle.replay_edits.proofs.edit.Statement.{statement}
+use Rattle.replay_edits.proofs.edit.Tie as tie
+
+returns : tie.Need-returns
+unfolding editVerdict
+returns c = rw (lt-leb _ 64 (c .if1 .taken))
+
+returns-2 : tie.Need-returns-2
+unfolding editVerdict
+returns-2 c = rw (le-leb _ 64 (c .before .if1 .left), lt-leb _ 64 (c .if2 .taken))
+
+lent : tie.Need-slice-aggregate-edit-into
+lent c = sym (length-take-le _ _ (omega (arith, c .before .before .before .before .before .put-all .ensures .size, c .before .before .before .before .before .before .before .before .if1 .left)))
+
+lent-2 : tie.Need-slice-aggregate-edit-into-2
+lent-2 c = sym (length-take-le _ _ (omega (arith, c .before .before .before .put-all2 .ensures .size, c .before .before .before .before .before .before .before .before .if2 .left)))
+
+edit-into-requires : tie.Need-edit-into-requires
+edit-into-requires c κs =
+    let text-fits = c .before .before .before .before .before .before .before .before .before .if1 .left in
+    let folds-fit = c .before .before .before .before .before .before .before .before .if2 .left in
+    (rw (lent-front (c .before .before .before .before .before .before .put-all .ensures) text-fits) text-fits, rw (lent-front (c .before .before .before .put-all2 .ensures) folds-fit) folds-fit)
+
+returns-3 : tie.Need-returns-3
+unfolding editVerdict
+returns-3 c =
+    let text-fits = c .before .before .before .before .before .before .before .before .before .before .before .before .if1 .left in
+    let folds-fit = c .before .before .before .before .before .before .before .before .before .before .before .if2 .left in
+    rw (le-leb _ 64 text-fits, le-leb _ 64 folds-fit)
+    (rw (lent-front (c .before .before .before .before .before .before .before .before .before .put-all .ensures) text-fits, lent-front (c .before .before .before .before .before .before .put-all2 .ensures) folds-fit) at (c .before .before .edit-into .ensures))
+
+pub edit-spec : {M : Type 1} → statement M
+edit-spec =
+    tie.close
+    (tie.spec
+    returns
+    returns-2
+    (λ c. search needs)
+    (λ c κs. search needs)
+    (λ c. search needs)
+    (λ c κs. search needs)
+    (λ c. search needs)
+    lent
+    (λ c. search needs)
+    lent-2
+    edit-into-requires
+    returns-3)

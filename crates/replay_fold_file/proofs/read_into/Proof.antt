@@ -1,0 +1,22 @@
+-- `read_into` meets its contract: what the call answers, and leaves in both lent places, is compared. Assumes nothing.
+use borrow.Author.Needs.{needs}
+use Rattle.replay_fold_file.proofs.Filed.{loaded-compared}
+use Rattle.replay_fold_file.proofs.read_into.Statement.{statement}
+use Rattle.replay_fold_file.proofs.read_into.Tie as tie
+
+returns : tie.Need-returns
+returns c =
+    let answered = c .before .before .before .before in
+    let a = answered .before .before .before .before .before .before .before .args in
+    let e = answered .folds-read .ensures in
+    loaded-compared (a .text .now) (a .file .now) (a .folds .now) (a .stored .now) (e .0) (rw (e .1) at (c .compared-two .ensures))
+
+pub read-into-spec : {M : Type 1} → statement M
+read-into-spec =
+    tie.close
+    (tie.spec
+    (λ c κs. search needs)
+    (λ c. search needs)
+    (λ c κs. search needs)
+    (λ c. search needs)
+    returns)

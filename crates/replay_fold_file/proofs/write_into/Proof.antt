@@ -1,0 +1,26 @@
+-- `write_into` meets its contract: what the call answers, and leaves in both lent places, is compared. Assumes nothing.
+use mathlib.Core.Path.{_∙_}
+use borrow.Author.Needs.{needs}
+use Rattle.replay_fold_file.proofs.Filed.{written-compared}
+use Rattle.replay_fold_file.proofs.write_into.Statement.{statement}
+use Rattle.replay_fold_file.proofs.write_into.Tie as tie
+
+returns : tie.Need-returns
+returns c =
+    let widened = c .before .before .before .before in
+    let answered = widened .before .before .before .before .before in
+    let a = answered .before .before .before .before .before .before .before .before .args in
+    let e = answered .folds-write .ensures in
+    written-compared (a .text .now) (a .folds .now) (a .file .now) (a .stored .now) (e .0) (rw (widened .widen .ensures ∙ e .1) at (c .compared-two .ensures))
+
+pub write-into-spec : {M : Type 1} → statement M
+write-into-spec =
+    tie.close
+    (tie.spec
+    (λ c κs. search needs)
+    (λ c κs. search needs)
+    (λ c. search needs)
+    (λ c κs. search needs)
+    (λ c. search needs)
+    (λ c. search needs)
+    returns)
