@@ -3,6 +3,7 @@ pub mod Examples
 pub mod Runs
 pub mod Codings
 pub mod Entries
+pub mod Buffers
 pub mod Results
 pub mod Landings
 pub mod KeyMoves

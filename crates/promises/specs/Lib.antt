@@ -1,6 +1,7 @@
 pub mod Asking
 pub mod Table
 pub mod Calls
+pub mod Buffers
 pub mod Results
 pub mod Positions
 pub mod Trails
