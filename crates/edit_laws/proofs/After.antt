@@ -33,7 +33,8 @@ use Rattle.edits.proofs.Making.{end-rows}
 use Rattle.edits.proofs.Known.{editable, text-good, points-good}
 use Rattle.edit_laws.specs.Laws.{Accepted, Sound}
 use Rattle.edit_laws.proofs.Texts.{replaced-good}
-use Rattle.edit_laws.proofs.FoldLists.{kept-three, kept-most, folds-few, kept-good, map-up, map-inside, folds-accepted}
+use Rattle.edit_laws.proofs.FoldLists.{kept-three, kept-most, folds-few, kept-good, folds-accepted}
+use Rattle.edit_laws.proofs.RowMaps.{map-up, map-inside}
 
 -- the row of a position behind the stretch
 behind-row : (c : Change) (x : Position) → c .to .row ≤ x .row → behind c x .row ≡ c .end .row + (x .row - c .to .row)

@@ -24,7 +24,8 @@ use Rattle.edits.specs.Edits.{foldsAfter}
 use Rattle.edits.specs.Editable.{StandsIn}
 use Rattle.edits.proofs.Making.{end-rows}
 use Rattle.edit_laws.specs.Laws.{TakenBack}
-use Rattle.edit_laws.proofs.FoldLists.{folds-few, folds-taken-back}
+use Rattle.edit_laws.proofs.FoldLists.{folds-few}
+use Rattle.edit_laws.proofs.RowMaps.{folds-taken-back}
 
 -- an offset there and back
 after-back : (a n x : ℕ) → offsetAfter a (a + n) 0 (offsetAfter a a n x) ≡ x
