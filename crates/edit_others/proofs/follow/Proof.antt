@@ -1,0 +1,45 @@
+-- `follow` meets its contract: the tests of the definition in their order. Assumes nothing.
+use mathlib.Core.Path.{ap, _∙_}
+use native.Mathlib.Omega.{arith}
+use borrow.Author.Needs.{needs}
+use Rattle.motions.specs.declared.Moved.the-variants.{To}
+use Rattle.edit_others.proofs.Near.{from-row-far, from-col-far, row-far, col-far, near-fits, follows}
+use Rattle.edit_others.proofs.follow.Statement.{statement}
+use Rattle.edit_others.proofs.follow.Tie as tie
+
+returns : tie.Need-returns
+returns c = let a = c .before .before .before .before .args in from-row-far (a .k) (a .c) (c .if1 .taken)
+
+returns-2 : tie.Need-returns-2
+returns-2 c = let a = c .before .before .before .before .before .before .args in from-col-far (a .k) (a .c) (c .before .before .if1 .left) (c .if2 .taken)
+
+returns-3 : tie.Need-returns-3
+returns-3 c =
+    let a = c .before .before .before .before .before .before .before .before .before .args in
+    row-far (a .k) (a .c) (c .before .before .before .before .before .if1 .left) (c .before .before .before .if2 .left) (omega (arith, c .if3 .taken))
+
+returns-4 : tie.Need-returns-4
+returns-4 c =
+    let a = c .before .before .before .before .before .before .before .before .before .before .before .before .args in
+    col-far (a .k) (a .c) (c .before .before .before .before .before .before .before .before .if1 .left) (c .before .before .before .before .before .before .if2 .left) (omega (arith, c .before .before .before .if3 .left)) (omega (arith, c .if4 .taken))
+
+returns-5 : tie.Need-returns-5
+returns-5 c =
+    let a = c .before .before .before .before .before .before .before .before .before .before .before .before .before .args in
+    let fits = near-fits (a .k) (a .c) (c .before .before .before .before .before .before .before .before .before .if1 .left) (c .before .before .before .before .before .before .before .if2 .left) (omega (arith, c .before .before .before .before .if3 .left)) (omega (arith, c .before .if4 .left)) in
+    ap To (c .corrected .ensures) ∙ follows (a .k) (a .c) fits
+
+pub follow-spec : {M : Type 1} → statement M
+follow-spec =
+    tie.close
+    (tie.spec
+    returns
+    returns-2
+    (λ c. search needs)
+    (λ c. search needs)
+    returns-3
+    (λ c. search needs)
+    (λ c. search needs)
+    returns-4
+    (λ c κs. search needs)
+    returns-5)
