@@ -123,6 +123,21 @@ int main(void) {
     SAYS("without_plus on bytes", tsivareza_without_plus(signed_bytes, 8, room, 2, written, 1, out), 1);
     REFUSES("too little room for a list", tsivareza_without_plus_u32(signed_list, 4, written, 2, out), 14);
 
+    /* The second engine: the classes of the places, and the motions by them. */
+    static const uint8_t branch_classes[] = {0, 0, 2, 1, 0, 1, 2, 1, 4, 1, 4, 7};
+    uint8_t classes[12] = {7, 7, 7, 7, 7, 7, 7, 7, 7, 7, 7, 7};
+    REFUSES("too few places for classes", tsivareza_word_classes_u32(branch, 10, list, 3, classes, 10, out), 14);
+    expect("no class on a refusal", classes[0], 7, out, out, 0);
+    SAYS("word_classes", tsivareza_word_classes_u32(branch, 10, list, 3, classes, 12, out), 11);
+    for (int i = 0; i < 12; i++) expect("a class", classes[i], branch_classes[i], out, out, 0);
+    SAYS("word_by_class",
+         tsivareza_word_by_class_u32(TSIVAREZA_MOVE_WORD_FWD, branch, 10, none, 0, list, 3, 0, 0, 0, 0, 0, 1, classes, 12, out), 0, 3, 0, 0);
+    SAYS("word_classes on bytes", tsivareza_word_classes(bytes, 16, nothing, 0, room, 4, classes, 5, out), 5);
+    expect("a mark in bytes", classes[0], TSIVAREZA_CLASS_MARK, out, out, 0);
+    SAYS("word_by_class on bytes",
+         tsivareza_word_by_class(TSIVAREZA_MOVE_WORD_END, bytes, 16, nothing, 0, nothing, 0, room, 4, 0, 0, 0, 0, 1, 1, classes, 5, out),
+         0, 3, 0, 0);
+
     /* Edits: three code points in five places, and a fold over both rows. */
     uint32_t page[] = {'a', 10, 'b', 0, 0}, fold[] = {0, 1, 1}, caret[] = {0, 1, 1, 7, 0, 0}, sizes[] = {3, 1};
     static const uint32_t put[] = {'x', 10}, longer[] = {'a', 'x', 10, 10, 'b'}, shorter[] = {'a', 'b', 0, 0, 0};

@@ -202,6 +202,36 @@ uint32_t tsivareza_word(uint32_t op, const uint8_t *text, size_t text_len, const
                         size_t room_len, uint32_t row, uint32_t col, uint32_t held, uint32_t sticky,
                         uint32_t big, uint32_t count, uint32_t out[4]);
 
+/* The second engine of the word motions. The class of each place of a text, one for each code point and one
+ * for its end, is written to the front of `classes`; out[0] counts them: text_len + 1. 14 where there are
+ * fewer places, after all other refusals; the places past the classes stay, and all of them on a refusal. */
+enum {
+    TSIVAREZA_CLASS_WORD,
+    TSIVAREZA_CLASS_MARK,
+    TSIVAREZA_CLASS_SPACE,
+    TSIVAREZA_CLASS_EMPTY_ROW,
+    TSIVAREZA_CLASS_ROW_END
+};
+
+uint32_t tsivareza_word_classes_u32(const uint32_t *text, size_t text_len, const uint32_t *list,
+                                    size_t list_len, uint8_t *classes, size_t classes_len,
+                                    uint32_t out[1]);
+uint32_t tsivareza_word_classes(const uint8_t *text, size_t text_len, const uint8_t *list,
+                                size_t list_len, uint32_t *room, size_t room_len, uint8_t *classes,
+                                size_t classes_len, uint32_t out[1]);
+
+/* A word motion by the classes, by the numbers of tsivareza_word, and with its answer. */
+uint32_t tsivareza_word_by_class_u32(uint32_t op, const uint32_t *text, size_t text_len,
+                                     const uint32_t *folds, size_t folds_len, const uint32_t *list,
+                                     size_t list_len, uint32_t row, uint32_t col, uint32_t held,
+                                     uint32_t sticky, uint32_t big, uint32_t count, uint8_t *classes,
+                                     size_t classes_len, uint32_t out[4]);
+uint32_t tsivareza_word_by_class(uint32_t op, const uint8_t *text, size_t text_len, const uint8_t *folds,
+                                 size_t folds_len, const uint8_t *list, size_t list_len, uint32_t *room,
+                                 size_t room_len, uint32_t row, uint32_t col, uint32_t held,
+                                 uint32_t sticky, uint32_t big, uint32_t count, uint8_t *classes,
+                                 size_t classes_len, uint32_t out[4]);
+
 /* Up, down and the screen; mode and width matter to the screen moves alone, but a mode above 2 is 100
  * for up and down too. */
 enum {

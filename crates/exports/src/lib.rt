@@ -12,6 +12,7 @@
 // A call on bytes decodes into the lent room; its `_u32` form takes code points as they are. The
 // code points stay at the start of the room, also where the call is refused, but for 101 and 102.
 mod characters;
+mod classes;
 mod edits;
 mod encodings;
 mod fold_files;

@@ -15,6 +15,7 @@
 //! assert_eq!(room.content_row_count(&tsivareza::bytes(&[0x61, 0x0A])), Ok(1));
 //! ```
 
+mod classes;
 mod edits;
 mod encodings;
 mod fold_files;
@@ -31,6 +32,7 @@ mod upright;
 #[doc = include_str!("../../../docs/LISTS.md")]
 struct Papers;
 
+pub use classes::{word_by_class, word_classes};
 pub use edits::Page;
 pub use encodings::{utf8_decode, utf8_encode};
 pub use fold_files::{folds_read, folds_write};
