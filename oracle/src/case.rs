@@ -1,5 +1,5 @@
-//! A call with its inputs, as a value and as one line of text, and what the given Rust answers, or `pairs`, `plus`, `kept` and
-//! `wide` for calls that it does not have.
+//! A call with its inputs, as a value and as one line of text, and what the given Rust answers, or `pairs`, `plus`, `kept`,
+//! `classes` and `wide` for calls that it does not have.
 //!
 //! A line is the call's name and its inputs, each `name=value` and each once:
 //! `move_word_fwd text=61,20,62 row=0 col=0 sticky=none folds= list=40,2c,5f big=0 count=1`.
@@ -7,7 +7,7 @@
 //! numbers are decimal, and a list of them has commas.
 
 use crate::calls::{self, Words};
-use crate::{Outcome, kept, pairs, plus, wide};
+use crate::{Outcome, classes, kept, pairs, plus, wide};
 use std::fmt;
 
 /// An input that a call takes.
@@ -36,7 +36,7 @@ pub enum Input {
     Viewport,
     /// A text width and a wrap mode.
     Wrap,
-    /// How many places are lent for segments, or for code points.
+    /// How many places are lent for segments, for code points or for classes.
     Room,
     Segments,
     Start,
@@ -93,8 +93,9 @@ impl fmt::Debug for Call {
     }
 }
 
-/// What lent places hold before a call.
+/// What lent places hold before a call, and places lent for classes.
 pub const FILLER: u32 = 0xA5A5_A5A5;
+pub const FILLER_CLASS: u8 = 0xA5;
 
 fn outcome<T>(answer: Result<T, u32>, of: impl FnOnce(T) -> Outcome) -> Outcome {
     answer.map_or_else(Outcome::Refused, of)
@@ -125,6 +126,17 @@ fn plain(k: &Case) -> Outcome {
 fn remembered(k: &Case, down: bool) -> Outcome {
     let answer = kept::screen_kept(&k.text, k.caret, k.offset, &k.folds, k.view, k.tabstop, k.count, down);
     outcome(answer, |(caret, offset)| Outcome::Kept(caret, offset))
+}
+
+fn classes_of(k: &Case) -> Outcome {
+    let answer = classes::word_classes(&k.text, &k.list, k.room as usize, FILLER_CLASS);
+    outcome(answer, |(count, slice)| Outcome::Classes(count, slice))
+}
+
+/// By the classes what the given Rust answers.
+fn classed(k: &Case, first: Result<crate::Caret, u32>) -> Outcome {
+    let answer = classes::word_by_class(first, &k.text, &k.list, k.room as usize, FILLER_CLASS);
+    outcome(answer, |(caret, slice)| Outcome::Classed(caret, slice))
 }
 
 fn words(k: &Case) -> Words<'_> {
@@ -165,7 +177,7 @@ macro_rules! wide {
 }
 
 /// Every public call, those on widths also with the flag.
-pub static CALLS: [Call; 71] = [
+pub static CALLS: [Call; 76] = [
     call!(content_row_count [Text] |k| outcome(calls::content_row_count(&k.text), |n| Outcome::Number(n.into()))),
     counted!(move_left),
     counted!(move_right_in_line),
@@ -241,6 +253,15 @@ pub static CALLS: [Call; 71] = [
     call!(without_plus [List, Room] plain),
     call!(move_screen_up_kept [Text, Caret, Offset, Folds, Viewport, Tabstop, Count] |k| remembered(k, false)),
     call!(move_screen_down_kept [Text, Caret, Offset, Folds, Viewport, Tabstop, Count] |k| remembered(k, true)),
+    call!(word_classes [Text, List, Room] classes_of),
+    call!(word_fwd_by_class [Text, Caret, Folds, List, Big, Count, Room]
+        |k| classed(k, calls::move_word_fwd(&k.text, k.caret, words(k), k.count))),
+    call!(word_back_by_class [Text, Caret, Folds, List, Big, Count, Room]
+        |k| classed(k, calls::move_word_back(&k.text, k.caret, words(k), k.count))),
+    call!(word_end_by_class [Text, Caret, Folds, List, Big, Stop, Count, Room]
+        |k| classed(k, calls::move_word_end(&k.text, k.caret, words(k), k.count, k.stop))),
+    call!(word_end_back_by_class [Text, Caret, List, Big, Count, Room]
+        |k| classed(k, calls::move_word_end_back(&k.text, k.caret, words(k), k.count))),
     wide!(width_wide [Character]),
     wide!(visual_col_to_char_col_wide [Line, Column, Tabstop]),
     wide!(char_col_to_visual_col_wide [Line, Column, Tabstop]),
@@ -490,6 +511,10 @@ fn write_hexes(values: &[u32]) -> String {
     runs.collect::<Vec<_>>().join(",")
 }
 
+fn write_classes(values: &[u8]) -> String {
+    write_hexes(&values.iter().map(|&x| x.into()).collect::<Vec<_>>())
+}
+
 fn write_numbers(values: &[u32]) -> String {
     values.iter().map(u32::to_string).collect::<Vec<_>>().join(",")
 }
@@ -516,6 +541,8 @@ impl fmt::Display for Outcome {
             Outcome::Truth(truth) => write!(f, "truth {}", u8::from(*truth)),
             Outcome::Segments(count, room) => write!(f, "segments {count} {}", write_hexes(room)),
             Outcome::Written(count, room) => write!(f, "written {count} {}", write_hexes(room)),
+            Outcome::Classes(count, slice) => write!(f, "classes {count} {}", write_classes(slice)),
+            Outcome::Classed(k, slice) => write!(f, "moved {}, classes {}", caret(k), write_classes(slice)),
             Outcome::Outside => f.write_str("outside"),
         }
     }

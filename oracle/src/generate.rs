@@ -179,6 +179,11 @@ fn list(dice: &mut Dice) -> Vec<u32> {
     list
 }
 
+/// Calls that write the classes of a text.
+fn classes(call: &Call) -> bool {
+    call.name == "word_classes" || call.name.ends_with("_by_class")
+}
+
 /// Calls for which plus signs are retired.
 fn retires(call: &Call) -> bool {
     matches!(call.name, "enter" | "enter_matches" | "without_plus")
@@ -286,6 +291,13 @@ pub fn random(call: &'static Call, dice: &mut Dice) -> Case {
             }
         }
     }
+    if classes(call) {
+        // one past the places of the classes, now and then exactly enough or too few
+        case.room = case.text.len() as u32 + dice.pick(&[2, 2, 2, 1, 1, 4, 0]);
+        if dice.once_in(20) {
+            case.room = dice.below(case.text.len() + 1) as u32;
+        }
+    }
     if retires(call) {
         case.list = signed(dice, &case.list);
         case.room = (case.list.len() as u32 + 1).saturating_sub(dice.pick(&[0, 0, 1, 1, 2, 3]));
@@ -365,7 +377,7 @@ fn families(call: &Call) -> Vec<Family> {
         _ if takes(Input::End) => vec![(ROW, 4, false)],
         _ if takes(Input::Line) => vec![(ROW, 5, false)],
         _ if takes(Input::Big) && takes(Input::Folds) => vec![("a. \n\u{A0}", 5, false), ("a. \n\u{A0}", 4, true)],
-        _ if takes(Input::Big) => vec![("a. \n\u{A0}", 5, false)],
+        _ if takes(Input::Big) || classes(call) => vec![("a. \n\u{A0}", 5, false)],
         _ if takes(Input::Folds) => vec![("a\t\u{3042}\n", 5, false), ("a\t\u{3042}\n", 4, true)],
         _ if takes(Input::Viewport) => vec![("a \n", 5, false)],
         _ if takes(Input::Text) => vec![("a \t{}\n\u{A0}", 5, false)],
@@ -465,7 +477,12 @@ fn small_on(call: &'static Call, text: &[u32], folds: &[u32]) -> Vec<Case> {
         cases = each(cases, &[0, 1, 2, 3, 4, 5, 6], |k, n| k.view.width = n);
         cases = each(cases, &[Wrap::None, Wrap::Char, Wrap::Word], |k, wrap| k.view.wrap = wrap);
     }
-    if takes(Input::Room) {
+    if classes(call) {
+        if takes(Input::List) && !takes(Input::Caret) {
+            cases = each(cases, &["@,48-57,_", "", "@,32,.", "0-4294967295"], |k, list| k.list = points(list));
+        }
+        cases = cases.into_iter().flat_map(|k| with_classes(k, size)).collect();
+    } else if takes(Input::Room) {
         // exactly enough, one short, one over, and none
         cases = cases.into_iter().flat_map(with_rooms).collect();
     }
@@ -494,6 +511,12 @@ fn with_rooms(case: Case) -> Vec<Case> {
     rooms.into_iter().map(|room| Case { room, ..ample.clone() }).collect()
 }
 
+/// Places for classes: one over; of the smallest count also exactly enough, one short, and none.
+fn with_classes(case: Case, size: u32) -> Vec<Case> {
+    let rooms = if case.count == 0 { vec![size + 2, size + 1, size, 0] } else { vec![size + 2] };
+    rooms.into_iter().map(|room| Case { room, ..case.clone() }).collect()
+}
+
 /// Places for a list that is written: none, one short, exactly enough, one over.
 fn with_places(case: Case) -> Vec<Case> {
     let ample = Case { room: case.list.len() as u32, ..case };
@@ -514,6 +537,12 @@ pub fn limits(call: &'static Call) -> Vec<Case> {
         case.count = 1;
         case.room = if retires(call) { 64 } else { 0 };
         put(&mut case);
+        if classes(call) {
+            // no place, and one too few
+            let few = [0, case.text.len() as u32].map(|room| Case { room, ..case.clone() });
+            all.extend(few);
+            case.room = case.text.len() as u32 + 2;
+        }
         all.push(case);
     };
     for n in [1_048_576, 1_048_577] {

@@ -1,8 +1,8 @@
 //! What the given Rust answers, on plain values: the judge of the port's answers.
 //!
 //! `calls` has one function per public call, `refusals` the refusal table of document 01, written
-//! apart from it, `pairs`, `plus`, `kept`, `edits` and `fold_file` what document 02 adds on pairs, on plus signs, on screen moves that remember,
-//! on edits and on fold files,
+//! apart from it, `pairs`, `plus`, `kept`, `edits`, `fold_file` and `classes` what document 02 adds on pairs, on plus signs, on screen moves that
+//! remember, on edits, on fold files and on the classes of places,
 //! from its words, `case` a call with its inputs as one line of text, `generate` cases from a seed and small families,
 //! `replay` the list that the program `replay` runs, `session` document 01's
 //! session over the given motions, `utf8` RFC 3629's tables and `std::str`, `wide` the calls on widths under the setting
@@ -10,6 +10,7 @@
 
 pub mod calls;
 pub mod case;
+pub mod classes;
 pub mod edits;
 pub mod fold_file;
 pub mod generate;
@@ -68,6 +69,10 @@ pub enum Outcome {
     Segments(u32, Vec<u32>),
     /// The number of code points written, and the lent slice afterwards.
     Written(u32, Vec<u32>),
+    /// The number of classes written, and the lent slice afterwards.
+    Classes(u32, Vec<u8>),
+    /// The caret by the classes, and the lent slice afterwards.
+    Classed(Caret, Vec<u8>),
     /// No answer to compare with: the u16 sum of `wrap_segments` passes 65,535.
     Outside,
 }

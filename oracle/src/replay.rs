@@ -5,9 +5,11 @@
 //! answer and for what is written hold afterwards. A space ends each number but the last; `3*97` is 97 three times. A call
 //! whose refusal may have a place has the place, or 0, behind the number. UTF-8, which the given Rust has no call for, comes
 //! last, by RFC 3629's tables: groups 14 and 15, with a byte as a number. A screen move
-//! that remembers, group 18, has in its list whether an offset is kept, and that. Edits and fold files: `replay_buffers`.
+//! that remembers, group 18, has in its list whether an offset is kept, and that. Edits and fold files, groups 19 and 20:
+//! `replay_buffers`. The second engine of the word motions is group 21: operations 0 to 4 as group 10 has them, 5 the classes; a
+//! place for a class is a number.
 
-use crate::case::{CALLS, Call, Case, FILLER, Input};
+use crate::case::{CALLS, Call, Case, FILLER, FILLER_CLASS, Input};
 use crate::generate::{self, Dice};
 use crate::{Outcome, Wrap, replay_buffers, utf8, wide};
 
@@ -63,6 +65,7 @@ fn asked(k: &Case) -> Asked<'_> {
         9 => 5,
         13 => 9,
         18 => 6,
+        21 if op < 5 => 4,
         _ => 1,
     };
     let mut head = vec![group, op];
@@ -75,6 +78,8 @@ fn asked(k: &Case) -> Asked<'_> {
         4 => (&[], &[], &k.segments),
         10 if op == 4 => (&k.text, &[], &k.list),
         10 => (&k.text, &k.folds, &k.list),
+        21 if op >= 4 => (&k.text, &[], &k.list),
+        21 => (&k.text, &k.folds, &k.list),
         11 | 18 => (&k.text, &k.folds, &[]),
         _ => (&k.text, &[], &[]),
     };
@@ -102,6 +107,7 @@ fn plain_numbers(k: &Case, name: &str) -> (u32, u32, Vec<u32>) {
     }
     let (x, at, tab) = (k.character, k.column, k.tabstop);
     let word = |op| (10, op, caret(&[count, k.big.into()]));
+    let by_class = |op| (21, op, caret(&[count, k.big.into(), k.room]));
     let (top, height, width, wrap) = (k.view.top, k.view.height.into(), k.view.width.into(), mode(k.view.wrap));
     let upright = |op| (11, op, caret(&[count, tab, wrap, width]));
     let kept = |op| (18, op, caret(&[count, tab, wrap, width]));
@@ -136,6 +142,11 @@ fn plain_numbers(k: &Case, name: &str) -> (u32, u32, Vec<u32>) {
         "move_word_back" => word(1),
         "move_word_end" => word(2 + u32::from(k.stop)),
         "move_word_end_back" => word(4),
+        "word_fwd_by_class" => by_class(0),
+        "word_back_by_class" => by_class(1),
+        "word_end_by_class" => by_class(2 + u32::from(k.stop)),
+        "word_end_back_by_class" => by_class(4),
+        "word_classes" => (21, 5, vec![0, 0, 0, 0, 0, 0, k.room]),
         "move_up" => upright(0),
         "move_down" => upright(1),
         "move_screen_up" => upright(2),
@@ -157,13 +168,18 @@ fn mode(wrap: Wrap) -> u32 {
     }
 }
 
+fn numbers_of(slice: &[u8]) -> Vec<u32> {
+    slice.iter().map(|&x| x.into()).collect()
+}
+
 /// The number and the places afterwards; nothing where there is no answer to compare with.
 fn answer(k: &Case, places: usize, outcome: &Outcome) -> Option<Vec<u32>> {
     let held = |c: &crate::Caret| [c.row, c.col, c.sticky.is_some().into(), c.sticky.unwrap_or(0)];
     let mut all = match outcome {
         Outcome::Refused(number) | Outcome::RefusedAt(number, _) => {
             let lent = if k.takes(Input::Room) { k.room as usize } else { 0 };
-            [vec![*number], vec![FILLER; places + lent]].concat()
+            let filler = if numbers(k).0 == 21 { FILLER_CLASS.into() } else { FILLER };
+            [vec![*number], vec![FILLER; places], vec![filler; lent]].concat()
         }
         Outcome::Moved(caret) => [&[0][..], &held(caret)].concat(),
         Outcome::Kept(caret, offset) => [&[0][..], &held(caret), &[offset.is_some().into(), offset.unwrap_or(0)]].concat(),
@@ -175,6 +191,8 @@ fn answer(k: &Case, places: usize, outcome: &Outcome) -> Option<Vec<u32>> {
         Outcome::Number(n) => vec![0, u32::try_from(*n).expect("an answer that a u32 holds")],
         Outcome::Truth(truth) => vec![0, u32::from(*truth)],
         Outcome::Segments(count, room) | Outcome::Written(count, room) => [&[0, *count], &room[..]].concat(),
+        Outcome::Classes(count, slice) => [vec![0, *count], numbers_of(slice)].concat(),
+        Outcome::Classed(caret, slice) => [vec![0], held(caret).to_vec(), numbers_of(slice)].concat(),
         Outcome::Outside => return None,
     };
     if matches!(k.call.name, "enter" | "enter_matches") {

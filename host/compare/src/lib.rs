@@ -1,7 +1,7 @@
 //! What the proved library answers to a case of the oracle's, in the oracle's terms.
 
 use oracle::Outcome;
-use oracle::case::{Case, FILLER};
+use oracle::case::{Case, FILLER, FILLER_CLASS};
 use tsivareza::{
     self as lib, Ambiguous, Columns, Enter, Kept, Keywords, Offsets, Room, ScreenKept, Seek, Steps, Vertical, Viewport, Word, Words,
     bytes,
@@ -74,6 +74,9 @@ pub fn port(case: &Case, mut room: Option<&mut Room>) -> Outcome {
             room.word(which, &bytes(text), k, words, count)
         });
         return moved(both(case, lib::word(which, text, k, Words { folds: &folds[..], list: &list[..], big }, count), on_bytes));
+    }
+    if let Some(which) = word_by_class(case) {
+        return classed(case, which, k, room);
     }
     let mut keywords = |asked| {
         let on_bytes = room.as_mut().map(|room| room.keywords(asked, &bytes(list)));
@@ -149,6 +152,7 @@ pub fn port(case: &Case, mut room: Option<&mut Room>) -> Outcome {
             let on_bytes = room.map(|room| room.content_row_count(&bytes(text)));
             number(both(case, lib::content_row_count(text), on_bytes))
         }
+        "word_classes" => classes(case, room),
         "wrap_segments" => wrapped(case, room),
         "without_plus" => plain(case, room),
         name => panic!("no call `{name}`"),
@@ -167,6 +171,16 @@ fn word(case: &Case) -> Option<Word> {
         "move_word_back" => Some(Word::Back),
         "move_word_end" => Some(Word::End { stop: case.stop }),
         "move_word_end_back" => Some(Word::EndBack),
+        _ => None,
+    }
+}
+
+fn word_by_class(case: &Case) -> Option<Word> {
+    match case.call.name {
+        "word_fwd_by_class" => Some(Word::Fwd),
+        "word_back_by_class" => Some(Word::Back),
+        "word_end_by_class" => Some(Word::End { stop: case.stop }),
+        "word_end_back_by_class" => Some(Word::EndBack),
         _ => None,
     }
 }
@@ -238,4 +252,43 @@ fn plain(case: &Case, room: Option<&mut Room>) -> Outcome {
         assert!(written.iter().all(|&x| x == FILLER), "a refusal wrote a list on: {case}");
     }
     on_points.map_or_else(Outcome::Refused, |count| Outcome::Written(count, written))
+}
+
+/// The slice for classes after a call, which a refusal leaves as it was.
+fn watched(case: &Case, refused: bool, slice: &[u8]) {
+    if refused {
+        assert!(slice.iter().all(|&x| x == FILLER_CLASS), "a refusal wrote classes on: {case}");
+    }
+}
+
+/// `word_classes`, the places lent for classes watched.
+fn classes(case: &Case, room: Option<&mut Room>) -> Outcome {
+    let mut slice = vec![FILLER_CLASS; case.room as usize];
+    let on_points = lib::word_classes(&case.text, &case.list, &mut slice);
+    if let Some(room) = room {
+        let mut again = vec![FILLER_CLASS; case.room as usize];
+        let on_bytes = room.word_classes(&bytes(&case.text), &bytes(&case.list), &mut again);
+        let _ = both(case, (on_points, &slice), Some((on_bytes, &again)));
+    }
+    watched(case, on_points.is_err(), &slice);
+    on_points.map_or_else(Outcome::Refused, |count| Outcome::Classes(count, slice))
+}
+
+/// A word motion by the classes, the places lent for classes watched; with a room, the first engine must answer the same but for 14.
+fn classed(case: &Case, which: Word, k: lib::Caret, room: Option<&mut Room>) -> Outcome {
+    let (text, count) = (&case.text, case.count);
+    let words = Words { folds: &case.folds[..], list: &case.list[..], big: case.big };
+    let mut slice = vec![FILLER_CLASS; case.room as usize];
+    let on_points = lib::word_by_class(which, text, k, words, count, &mut slice);
+    if let Some(room) = room {
+        if on_points != Err(14) {
+            assert_eq!(on_points, lib::word(which, text, k, words, count), "the two engines differ on: {case}");
+        }
+        let mut again = vec![FILLER_CLASS; case.room as usize];
+        let words = Words { folds: &bytes(words.folds)[..], list: &bytes(words.list)[..], big: case.big };
+        let on_bytes = room.word_by_class(which, &bytes(text), k, words, count, &mut again);
+        let _ = both(case, (on_points, &slice), Some((on_bytes, &again)));
+    }
+    watched(case, on_points.is_err(), &slice);
+    on_points.map_or_else(Outcome::Refused, |k| Outcome::Classed(caret(k), slice))
 }

@@ -56,6 +56,9 @@ fn case(call: &'static Call, n: usize, count: u32) -> Case {
     (case.start, case.end, case.column, case.room) = (0, n as u32, n as u32 - 1, n as u32 / 10);
     case.segments = (0..n as u32 / 80).flat_map(|i| [80 * i, 80 * i + 80]).collect();
     (case.forward, case.till) = (true, false);
+    if call.takes.contains(&Input::Text) && call.takes.contains(&Input::Room) {
+        case.room = n as u32 + 1;
+    }
     case
 }
 
@@ -288,6 +291,35 @@ fn widths() -> Result<(), String> {
     Ok(())
 }
 
+/// The second engine of the word motions beside the first, without folds and with the most.
+fn engines() -> Result<(), String> {
+    println!("\n## The word motions by the classes, beside the first engine\n");
+    println!("| Code points | Folds | Motion | First | By the classes | Ratio |\n|---|---|---|---|---|---|");
+    for (_, n) in &SIZES[..2] {
+        let apart = ((n / 60 / 256) as u32).max(1);
+        let many: Vec<u32> = (0..256u32).filter(|i| apart * i + 2 < (n / 60) as u32).flat_map(|i| [apart * i + 1, apart * i + 2, 1]).collect();
+        for (key, first, second) in [
+            ("w", "move_word_fwd", "word_fwd_by_class"),
+            ("b", "move_word_back", "word_back_by_class"),
+            ("e", "move_word_end", "word_end_by_class"),
+            ("ge", "move_word_end_back", "word_end_back_by_class"),
+        ] {
+            for (with, count, folds) in [("count 1", 1, &[][..]), ("largest count", u32::MAX, &[]), ("largest count", u32::MAX, &many)] {
+                if key == "ge" && !folds.is_empty() {
+                    continue;
+                }
+                let time = |name: &str| -> Result<f64, String> {
+                    let case = Case { folds: folds.to_vec(), ..case(oracle::case::call(name)?, *n, count) };
+                    Ok(best(|| drop(black_box(port(black_box(&case), None)))))
+                };
+                let (a, b) = (time(first)?, time(second)?);
+                println!("| {n} | {} | `{key}`, {with} | {} | {} | {:.1} |", folds.len() / 3, shown(a), shown(b), b / a);
+            }
+        }
+    }
+    Ok(())
+}
+
 /// What a process of this program prints, or nothing where it takes too long.
 fn ask(words: &[&str]) -> Option<Vec<f64>> {
     let this = std::env::current_exe().expect("this program");
@@ -361,6 +393,7 @@ fn main() {
         Some("pairs") => pairs(),
         Some("letters") => letters(),
         Some("widths") => widths(),
+        Some("engines") => engines(),
         Some("edits") => Ok(edits()),
         Some("check") => Ok(check()),
         _ => table()
@@ -369,6 +402,7 @@ fn main() {
             .and_then(|()| growth())
             .and_then(|()| pairs())
             .and_then(|()| widths())
+            .and_then(|()| engines())
             .map(|()| edits()),
     };
     if let Err(why) = done {
