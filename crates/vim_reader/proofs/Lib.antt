@@ -1,0 +1,4 @@
+pub mod Answers
+pub mod MachineLaws
+pub mod StateLaws
+pub mod TableLaws

@@ -1,0 +1,68 @@
+-- `vim_reader::VimSpec::holds` meets its contract. The invariant of its loop: the tokens before i have said `is`. The measure is the table's
+-- length less i. Assumes nothing.
+use Prim.Native.Nat.{_-_, _≤_}
+use mathlib.Core.Path.{_≡_, refl, sym, _∙_}
+use native.Mathlib.Omega.{arith}
+use borrow.Author.Needs.{needs}
+use lib.ListN.{length, take, drop}
+use Rattle.vim_grammar.specs.Tokens.{inVim, decided}
+use Rattle.list_tokens.proofs.Lists.{places}
+use Rattle.vim_reader.proofs.TableLaws.{decided-said, decided-on, decided-end}
+use Rattle.vim_reader.proofs.VimSpec.holds.Statement.{statement}
+use Rattle.vim_reader.proofs.VimSpec.holds.Tie as tie
+
+abbrev Inv-loop : tie.InvT-loop
+Inv-loop c self letter n is₀ i₀ is i = (i ≤ n) × (inVim (take n (self .tokens)) c ≡ decided is (drop i (take n (self .tokens))) c)
+
+abbrev μ-loop : tie.MeasureT-loop
+μ-loop c self letter n is₀ i₀ is i = n - i
+
+loop-holds : tie.Need-loop-holds Inv-loop μ-loop
+loop-holds c = (omega arith, refl)
+
+speaks-requires : tie.Need-speaks-requires Inv-loop μ-loop
+speaks-requires c κs = c .before .before .before .is-letter .ensures
+
+-- the token at i speaks of c
+loop-again : tie.Need-loop-again Inv-loop μ-loop
+loop-again c =
+    let s = c .before .before .before .before .before .before .before in
+    let l = c .before .before .before .before .before .loop in
+    let m : length (s.args.t1.tokens) ≡ 128 = search (needs, places) in
+    let hit = sym (c .before .before .speaks .ensures) ∙ c .before .if1 .taken in
+    (omega arith, l.inv .1 ∙ decided-said s.args.t1.tokens s.args.t1.len l.i s.args.c l.is (omega arith) (omega arith) hit)
+
+-- it does not
+loop-again-2 : tie.Need-loop-again-2 Inv-loop μ-loop
+loop-again-2 c =
+    let s = c .before .before .before .before .before .before in
+    let l = c .before .before .before .before .loop in
+    let m : length (s.args.t1.tokens) ≡ 128 = search (needs, places) in
+    let miss = sym (c .before .speaks .ensures) ∙ c .if1 .left in
+    (omega arith, l.inv .1 ∙ decided-on s.args.t1.tokens s.args.t1.len l.i s.args.c l.is (omega arith) (omega arith) miss)
+
+returns : tie.Need-returns Inv-loop μ-loop
+returns c =
+    let s = c .before .before .before in
+    let l = c .before .loop in
+    let m : length (s.args.t1.tokens) ≡ 128 = search (needs, places) in
+    sym (l.inv .1 ∙ decided-end s.args.t1.tokens s.args.t1.len l.i s.args.c l.is (c .loop-test .left) (omega arith))
+
+pub holds-spec : {M : Type 1} → statement M
+holds-spec =
+    tie.close
+    (tie.spec
+    Inv-loop
+    μ-loop
+    (λ c κs. search needs)
+    loop-holds
+    (λ c. search needs)
+    (λ c. search needs)
+    speaks-requires
+    (λ c. search needs)
+    (λ c. search needs)
+    loop-again
+    (λ c. search needs)
+    (λ c. search needs)
+    loop-again-2
+    returns)

@@ -1,0 +1,20 @@
+-- `machine::second` meets its contract: by the branches. Assumes nothing.
+use mathlib.Core.Path.{sym}
+use borrow.Author.Needs.{needs}
+use mathlib.Core.Path.{subst, _≡_}
+use Prim.Native.Nat.{ℕ, _≤_, _<_}
+use Rattle.vim_reader.proofs.MachineLaws.{second-over, second-below, second-taken}
+use Rattle.vim_reader.proofs.machine.second.Statement.{statement}
+use Rattle.vim_reader.proofs.machine.second.Tie as tie
+
+returns : tie.Need-returns
+returns c = sym (second-over _ _ _ _ (c .if1 .taken))
+
+returns-2 : tie.Need-returns-2
+returns-2 c = let e = c .before .most .ensures in let h = c .if2 .taken in sym (second-below _ _ _ _ (c .before .before .if1 .left) (rw e at h))
+
+returns-3 : tie.Need-returns-3
+returns-3 c = let e = c .before .most .ensures in let h = c .if2 .left in sym (second-taken _ _ _ _ (c .before .before .if1 .left) (rw e at h))
+
+pub second-spec : {M : Type 1} → statement M
+second-spec = tie.close (tie.spec returns (λ c κs. search needs) returns-2 returns-3)

@@ -1,0 +1,35 @@
+-- `vim_reader::is_vim_char` meets its contract: refusal 2, then those of the list, then the answer by its table. Assumes nothing.
+use mathlib.Core.Path.{ap, sym, _∙_}
+use Prim.Native.Nat.{ℕ, _≤_}
+use borrow.Author.Needs.{needs}
+use Rattle.vim_reader.specs.declared.VimTested.the-variants.{Is}
+use Rattle.vim_reader.proofs.Answers.{read-few, tested-bad, tested-refused, tested-is, tested-first, tested-list}
+use Rattle.vim_reader.proofs.vim_spec.is_vim_char.Statement.{statement}
+use Rattle.vim_reader.proofs.vim_spec.is_vim_char.Tie as tie
+
+returns : tie.Need-returns
+returns c = tested-first (c .before .before .before .args .c) (c .before .before .before .args .list .now) _ (c .before .refused-char .ensures) (c .if1 .taken)
+
+returns-2 : tie.Need-returns-2
+returns-2 c = tested-bad _ (c .before .before .parse .result) (c .if2 .taken) ∙ tested-list (c .before .before .before .before .before .before .args .c) (c .before .before .before .before .before .before .args .list .now) _ (c .before .before .before .before .refused-char .ensures) (c .before .before .before .if1 .left) _ (c .before .before .parse .ensures)
+
+returns-3 : tie.Need-returns-3
+returns-3 c = tested-refused _ (c .before .before .before .before .parse .result) (c .before .before .if2 .left) (c .if3 .taken) ∙ tested-list (c .before .before .before .before .before .before .before .before .args .c) (c .before .before .before .before .before .before .before .before .args .list .now) _ (c .before .before .before .before .before .before .refused-char .ensures) (c .before .before .before .before .before .if1 .left) _ (c .before .before .before .before .parse .ensures)
+
+holds-requires : tie.Need-holds-requires
+holds-requires c κs = rw (c .before .before .before .before .before .parse .ensures) (read-few (c .before .before .before .before .before .before .before .before .before .args .list .now))
+
+returns-4 : tie.Need-returns-4
+returns-4 c = ap Is (c .holds .ensures) ∙ tested-is _ (c .before .before .before .before .before .before .parse .result) (c .before .before .if3 .left) ∙ tested-list (c .before .before .before .before .before .before .before .before .before .before .args .c) (c .before .before .before .before .before .before .before .before .before .before .args .list .now) _ (c .before .before .before .before .before .before .before .before .refused-char .ensures) (c .before .before .before .before .before .before .before .if1 .left) _ (c .before .before .before .before .before .before .parse .ensures)
+
+pub is-vim-char-spec : {M : Type 1} → statement M
+is-vim-char-spec =
+    tie.close
+    (tie.spec
+    (λ c κs. search needs)
+    returns
+    (λ c κs. search needs)
+    returns-2
+    returns-3
+    holds-requires
+    returns-4)

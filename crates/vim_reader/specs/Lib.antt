@@ -1,0 +1,3 @@
+pub mod Machine
+pub mod Reading
+pub mod Table
