@@ -15,12 +15,12 @@ either : (p : ℕ) (b : Bool) (σ τ : State) → (phaseOf σ ≡ p → ⊥) →
 either p true σ τ h k e = h e
 either p false σ τ h k e = k e
 
-first-phase : (p : ℕ) (out : Bool) (x : ℕ) → (3 ≡ p → ⊥) → (0 ≡ p → ⊥) → phaseOf (firstOf out x) ≡ p → ⊥
+pub first-phase : (p : ℕ) (out : Bool) (x : ℕ) → (3 ≡ p → ⊥) → (0 ≡ p → ⊥) → phaseOf (firstOf out x) ≡ p → ⊥
 unfolding firstOf phaseOf
 first-phase p out x a b =
     either p (isDigit x) (Number out (x - 48)) (cond (leb x 127) (Sign out x) Dead) a (either p (leb x 127) (Sign out x) Dead a b)
 
-start-phase : (p x : ℕ) → (3 ≡ p → ⊥) → (0 ≡ p → ⊥) → phaseOf (startOf x) ≡ p → ⊥
+pub start-phase : (p x : ℕ) → (3 ≡ p → ⊥) → (0 ≡ p → ⊥) → phaseOf (startOf x) ≡ p → ⊥
 unfolding startOf phaseOf
 start-phase p x a b = either p (eqb x 94) Caret (firstOf false x) a (first-phase p false x a b)
 
@@ -30,7 +30,7 @@ behind-phase out char lo x =
     either 2 (eqb x 44) Part (cond (eqb x 45) (Dash out char lo) Dead) (λ e. omega arith)
     (either 2 (eqb x 45) (Dash out char lo) Dead (λ e. omega arith) (λ e. omega arith))
 
-second-phase : (p : ℕ) (out char : Bool) (lo v : ℕ) → (3 ≡ p → ⊥) → (0 ≡ p → ⊥) → phaseOf (secondOf out char lo v) ≡ p → ⊥
+pub second-phase : (p : ℕ) (out char : Bool) (lo v : ℕ) → (3 ≡ p → ⊥) → (0 ≡ p → ⊥) → phaseOf (secondOf out char lo v) ≡ p → ⊥
 unfolding secondOf phaseOf
 second-phase p out char lo v a b = either p (leb v 255 && leb lo (mostOf v)) (Second out char lo v) Dead a b
 
