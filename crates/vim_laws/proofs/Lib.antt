@@ -5,3 +5,5 @@ pub mod Sound
 pub mod Complete
 pub mod Places
 pub mod Lists
+pub mod Written
+pub mod Again

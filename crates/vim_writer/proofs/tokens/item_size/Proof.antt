@@ -1,0 +1,29 @@
+-- `tokens::item_size` meets its contract: kind by kind. Assumes nothing.
+use mathlib.Core.Path.{ap, sym, _∙_}
+use native.Mathlib.Omega.{arith}
+use borrow.Author.Needs.{needs}
+use lib.ListN.{length}
+use Rattle.vim_writer.proofs.WrittenLaws.{end-most, item-none, item-letters, item-one, range-length}
+use Rattle.vim_writer.proofs.tokens.item_size.Statement.{statement}
+use Rattle.vim_writer.proofs.tokens.item_size.Tie as tie
+
+returns : tie.Need-returns
+returns c = sym (ap length (item-none (c .before .before .args .t) (c .if1 .taken)))
+
+returns-2 : tie.Need-returns-2
+returns-2 c = sym (ap length (item-letters (c .before .before .before .before .args .t) (c .if2 .taken)))
+
+returns-3 : tie.Need-returns-3
+returns-3 c = c .end-size .ensures ∙ sym (ap length (item-one (c .before .before .before .before .before .before .before .args .t) (c .before .if3 .taken)))
+
+add-result : tie.Need-add-result
+add-result c = omega (arith, c .before .end-size2 .ensures, end-most (c .before .before .before .before .before .before .before .before .args .t .lochar) (c .before .before .before .before .before .before .before .before .args .t .lo))
+
+add-result-2 : tie.Need-add-result-2
+add-result-2 c = omega (arith, c .before .end-size2 .ensures, c .end-size3 .ensures, end-most (c .before .before .before .before .before .before .before .before .args .t .lochar) (c .before .before .before .before .before .before .before .before .args .t .lo), end-most (c .before .before .before .before .before .before .before .before .args .t .hichar) (c .before .before .before .before .before .before .before .before .args .t .hi))
+
+returns-4 : tie.Need-returns-4
+returns-4 c = omega (arith, c .before .end-size2 .ensures, c .end-size3 .ensures, range-length (c .before .before .before .before .before .before .before .before .args .t) (c .before .before .before .before .before .before .if1 .left) (c .before .before .before .before .if2 .left) (c .before .before .if3 .left))
+
+pub item-size-spec : {M : Type 1} → statement M
+item-size-spec = tie.close (tie.spec returns returns-2 (λ c κs. search needs) returns-3 (λ c κs. search needs) (λ c κs. search needs) add-result add-result-2 returns-4)

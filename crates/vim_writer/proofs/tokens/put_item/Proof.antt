@@ -1,0 +1,41 @@
+-- `tokens::put_item` meets its contract: kind by kind. Assumes nothing.
+use mathlib.Core.Path.{ap, sym, _∙_}
+use native.Mathlib.Omega.{arith}
+use borrow.Author.Needs.{needs}
+use lib.ListN.{length}
+use Rattle.print.proofs.Laws.{wrote-then, wrote-none}
+use Rattle.vim_writer.proofs.WrittenLaws.{item-none, item-letters, item-one, item-range, range-length, wrote-as}
+use Rattle.vim_writer.proofs.tokens.put_item.Statement.{statement}
+use Rattle.vim_writer.proofs.tokens.put_item.Tie as tie
+
+returns : tie.Need-returns
+returns c = wrote-as (sym (item-none (c .before .before .before .args .t) (c .if1 .taken))) (wrote-none _ _)
+
+put-requires : tie.Need-put-requires
+put-requires c κs = omega (arith, ap length (item-letters (c .before .before .before .before .before .before .args .t) (c .before .if2 .taken)))
+
+returns-2 : tie.Need-returns-2
+returns-2 c = wrote-as (sym (item-letters (c .before .before .before .before .before .before .before .before .before .args .t) (c .before .before .before .before .if2 .taken))) (c .before .before .put .ensures)
+
+put-end-requires : tie.Need-put-end-requires
+put-end-requires c κs = omega (arith, ap length (item-one (c .before .before .before .before .before .before .before .before .args .t) (c .before .if3 .taken)))
+
+returns-3 : tie.Need-returns-3
+returns-3 c = wrote-as (sym (item-one (c .before .before .before .before .before .before .before .before .before .before .before .args .t) (c .before .before .before .before .if3 .taken))) (c .before .before .put-end .ensures)
+
+put-end-requires-2 : tie.Need-put-end-requires-2
+put-end-requires-2 c κs = omega (arith, range-length (c .before .before .before .before .before .before .before .before .args .t) (c .before .before .before .before .before .if1 .left) (c .before .before .before .if2 .left) (c .before .if3 .left))
+
+put-requires-2 : tie.Need-put-requires-2
+put-requires-2 c κs = omega (arith, range-length (c .before .before .before .before .before .before .before .before .before .before .before .before .args .t) (c .before .before .before .before .before .before .before .before .before .if1 .left) (c .before .before .before .before .before .before .before .if2 .left) (c .before .before .before .before .before .if3 .left), c .before .before .before .put-end2 .ensures .next, c .before .before .before .put-end2 .ensures .size)
+
+put-end-requires-3 : tie.Need-put-end-requires-3
+put-end-requires-3 c κs = omega (arith, range-length (c .before .before .before .before .before .before .before .before .before .before .before .before .before .before .before .before .args .t) (c .before .before .before .before .before .before .before .before .before .before .before .before .before .if1 .left) (c .before .before .before .before .before .before .before .before .before .before .before .if2 .left) (c .before .before .before .before .before .before .before .before .before .if3 .left), c .before .before .before .before .before .before .before .put-end2 .ensures .next, c .before .before .before .before .before .before .before .put-end2 .ensures .size, c .before .before .before .put2 .ensures .next, c .before .before .before .put2 .ensures .size)
+
+returns-4 : tie.Need-returns-4
+returns-4 c =
+    wrote-as (sym (item-range (c .before .before .before .before .before .before .before .before .before .before .before .before .before .before .before .before .before .before .before .args .t) (c .before .before .before .before .before .before .before .before .before .before .before .before .before .before .before .before .if1 .left) (c .before .before .before .before .before .before .before .before .before .before .before .before .before .before .if2 .left) (c .before .before .before .before .before .before .before .before .before .before .before .before .if3 .left)))
+    (wrote-then (c .before .before .before .before .before .before .before .before .before .before .put-end2 .ensures) (wrote-then (c .before .before .before .before .before .before .put2 .ensures) (c .before .before .put-end3 .ensures)))
+
+pub put-item-spec : {M : Type 1} → statement M
+put-item-spec = tie.close (tie.spec returns put-requires (λ c. search needs) returns-2 put-end-requires (λ c. search needs) returns-3 put-end-requires-2 put-requires-2 put-end-requires-3 (λ c. search needs) returns-4)

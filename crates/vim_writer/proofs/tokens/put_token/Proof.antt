@@ -1,0 +1,27 @@
+-- `tokens::put_token` meets its contract: with its `^`, or without. Assumes nothing.
+use mathlib.Core.Path.{ap, sym, _∙_}
+use native.Mathlib.Omega.{arith}
+use borrow.Author.Needs.{needs}
+use lib.ListN.{length}
+use Rattle.print.proofs.Laws.{wrote-then}
+use Rattle.vim_writer.proofs.WrittenLaws.{token-out, token-in, wrote-as}
+use Rattle.vim_writer.proofs.tokens.put_token.Statement.{statement}
+use Rattle.vim_writer.proofs.tokens.put_token.Tie as tie
+
+put-requires : tie.Need-put-requires
+put-requires c κs = omega (arith, ap length (token-out (c .before .before .before .args .t) (c .before .if1 .taken)))
+
+put-item-requires : tie.Need-put-item-requires
+put-item-requires c κs = omega (arith, ap length (token-out (c .before .before .before .before .before .before .before .args .t) (c .before .before .before .before .before .if1 .taken)), c .before .before .before .put .ensures .next, c .before .before .before .put .ensures .size)
+
+returns : tie.Need-returns
+returns c = wrote-as (sym (token-out (c .before .before .before .before .before .before .before .before .before .before .args .t) (c .before .before .before .before .before .before .before .before .if1 .taken))) (wrote-then (c .before .before .before .before .before .before .put .ensures) (c .before .before .put-item .ensures))
+
+put-item-requires-2 : tie.Need-put-item-requires-2
+put-item-requires-2 c κs = omega (arith, ap length (token-in (c .before .before .before .args .t) (c .before .if1 .left)))
+
+returns-2 : tie.Need-returns-2
+returns-2 c = wrote-as (sym (token-in (c .before .before .before .before .before .before .args .t) (c .before .before .before .before .if1 .left))) (c .before .before .put-item2 .ensures)
+
+pub put-token-spec : {M : Type 1} → statement M
+put-token-spec = tie.close (tie.spec put-requires put-item-requires (λ c. search needs) returns put-item-requires-2 (λ c. search needs) returns-2)

@@ -1,0 +1,82 @@
+-- `writer::list_size` meets its contract. The invariant of its loop: n is the length of the first i tokens' list. The measure is the table's length
+-- less i. Assumes nothing.
+use Prim.Native.Nat.{_-_, _≤_}
+use mathlib.Core.Path.{_≡_, refl, ap, sym, _∙_}
+use native.Mathlib.Omega.{arith}
+use borrow.Author.Needs.{needs}
+use lib.ListN.{length, take, getD}
+use Rattle.list_tokens.proofs.Lists.{places}
+use Rattle.vim_grammar.specs.Tokens.{noToken}
+use Rattle.vim_writer.specs.Written.{written}
+use Rattle.vim_writer.proofs.WrittenLaws.{token-most, take-most, written-first, next-length}
+use Rattle.vim_writer.proofs.writer.list_size.Statement.{statement}
+use Rattle.vim_writer.proofs.writer.list_size.Tie as tie
+
+abbrev Inv-loop : tie.InvT-loop
+Inv-loop spec len n₀ i₀ n i = (i ≤ len) × (n ≡ length (written (take i (spec .tokens))))
+
+abbrev μ-loop : tie.MeasureT-loop
+μ-loop spec len n₀ i₀ n i = len - i
+
+loop-holds : tie.Need-loop-holds Inv-loop μ-loop
+unfolding written
+loop-holds c = (omega arith, refl)
+
+-- the first token
+loop-again : tie.Need-loop-again Inv-loop μ-loop
+loop-again c =
+    let s = c .before .before .before .before .before .args .t1 in
+    let l = c .before .before .before .before .loop in
+    let m : length (s.tokens) ≡ 128 = search (needs, places) in
+    (omega arith, c .token-size .ensures ∙ sym (ap length (written-first s.tokens l.i (omega arith) (c .before .before .if1 .taken))))
+
+add-n : tie.Need-add-n Inv-loop μ-loop
+add-n c =
+    let s = c .before .before .before .args .t1 in
+    let l = c .before .before .loop in
+    let m : length (s.tokens) ≡ 128 = search (needs, places) in
+    omega (arith, l.inv .1, take-most s.tokens l.i (omega arith))
+
+add-n-2 : tie.Need-add-n-2 Inv-loop μ-loop
+add-n-2 c =
+    let s = c .before .before .before .before .before .args .t1 in
+    let l = c .before .before .before .before .loop in
+    let m : length (s.tokens) ≡ 128 = search (needs, places) in
+    omega (arith, l.inv .1, take-most s.tokens l.i (omega arith), c .token-size2 .ensures, token-most (getD s.tokens l.i noToken))
+
+-- any other
+loop-again-2 : tie.Need-loop-again-2 Inv-loop μ-loop
+loop-again-2 c =
+    let s = c .before .before .before .before .before .args .t1 in
+    let l = c .before .before .before .before .loop in
+    let m : length (s.tokens) ≡ 128 = search (needs, places) in
+    (omega arith, omega (arith, l.inv .1, next-length s.tokens l.i (omega arith) (c .before .before .if1 .left), c .token-size2 .ensures))
+
+returns : tie.Need-returns Inv-loop μ-loop
+returns c =
+    let l = c .before .loop in
+    let e : l.i ≡ c .before .before .args .t1 .len = omega arith in
+    rw (← e) (l.inv .1)
+
+pub list-size-spec : {M : Type 1} → statement M
+list-size-spec =
+    tie.close
+    (tie.spec
+    Inv-loop
+    μ-loop
+    loop-holds
+    (λ c. search needs)
+    (λ c. search needs)
+    (λ c κs. search needs)
+    (λ c. search needs)
+    (λ c. search needs)
+    loop-again
+    add-n
+    (λ c. search needs)
+    (λ c. search needs)
+    (λ c κs. search needs)
+    add-n-2
+    (λ c. search needs)
+    (λ c. search needs)
+    loop-again-2
+    returns)

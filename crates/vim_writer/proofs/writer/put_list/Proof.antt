@@ -1,0 +1,88 @@
+-- `writer::put_list` meets its contract. The invariant of its loop: the list of the first i tokens is written. The measure is the table's length
+-- less i. Assumes nothing.
+use Prim.Native.Nat.{_-_, _≤_}
+use mathlib.Core.Path.{_≡_, refl, ap, sym, _∙_}
+use native.Mathlib.Omega.{arith}
+use borrow.Author.Needs.{needs}
+use lib.ListN.{length, take, getD}
+use Rattle.print.specs.Print.{Wrote}
+use Rattle.print.proofs.Laws.{wrote-none}
+use Rattle.list_tokens.proofs.Lists.{places}
+use Rattle.vim_writer.specs.Written.{written}
+use Rattle.vim_writer.proofs.WrittenLaws.{put-first, put-next, room-first, room-next}
+use Rattle.vim_writer.proofs.writer.put_list.Statement.{statement}
+use Rattle.vim_writer.proofs.writer.put_list.Tie as tie
+
+abbrev Inv-loop : tie.InvT-loop
+Inv-loop room₀ spec len at₀ i₀ room at i = (i ≤ len) × Wrote room₀ 0 (written (take i (spec .tokens))) at room
+
+abbrev μ-loop : tie.MeasureT-loop
+μ-loop room₀ spec len at₀ i₀ room at i = len - i
+
+loop-holds : tie.Need-loop-holds Inv-loop μ-loop
+unfolding written
+loop-holds c = (omega arith, wrote-none _ 0)
+
+put-token-requires : tie.Need-put-token-requires Inv-loop μ-loop
+put-token-requires c κs =
+    let s = c .before .before .before .before .before .before .args .t1 in
+    let l = c .before .before .before .before .loop in
+    let m : length (s.tokens) ≡ 128 = search (needs, places) in
+    omega (arith, room-first s.tokens s.len l.i l.at (length (c .before .before .before .before .before .before .args .room .now)) (omega arith) (omega arith) (c .before .before .before .before .before .before .pre .1) (l.inv .1 .next) (c .before .if1 .taken), l.inv .1 .size)
+
+-- the first token
+loop-again : tie.Need-loop-again Inv-loop μ-loop
+loop-again c =
+    let s = c .before .before .before .before .before .before .before .before .before .args .t1 in
+    let l = c .before .before .before .before .before .before .before .loop in
+    let m : length (s.tokens) ≡ 128 = search (needs, places) in
+    (omega arith, put-first s.tokens l.i (omega arith) (l.inv .1) (c .before .before .before .before .if1 .taken) (c .before .before .put-token .ensures))
+
+put-requires : tie.Need-put-requires Inv-loop μ-loop
+put-requires c κs =
+    let s = c .before .before .before .before .before .before .args .t1 in
+    let l = c .before .before .before .before .loop in
+    let m : length (s.tokens) ≡ 128 = search (needs, places) in
+    omega (arith, room-next s.tokens s.len l.i l.at (length (c .before .before .before .before .before .before .args .room .now)) (omega arith) (omega arith) (c .before .before .before .before .before .before .pre .1) (l.inv .1 .next) (c .before .if1 .left), l.inv .1 .size)
+
+put-token-requires-2 : tie.Need-put-token-requires-2 Inv-loop μ-loop
+put-token-requires-2 c κs =
+    let s = c .before .before .before .before .before .before .before .before .before .before .args .t1 in
+    let l = c .before .before .before .before .before .before .before .before .loop in
+    let m : length (s.tokens) ≡ 128 = search (needs, places) in
+    omega (arith, room-next s.tokens s.len l.i l.at (length (c .before .before .before .before .before .before .before .before .before .before .args .room .now)) (omega arith) (omega arith) (c .before .before .before .before .before .before .before .before .before .before .pre .1) (l.inv .1 .next) (c .before .before .before .before .before .if1 .left), l.inv .1 .size, c .before .before .before .put .ensures .next, c .before .before .before .put .ensures .size)
+
+-- any other
+loop-again-2 : tie.Need-loop-again-2 Inv-loop μ-loop
+loop-again-2 c =
+    let s = c .before .before .before .before .before .before .before .before .before .before .before .before .before .args .t1 in
+    let l = c .before .before .before .before .before .before .before .before .before .before .before .loop in
+    let m : length (s.tokens) ≡ 128 = search (needs, places) in
+    (omega arith, put-next s.tokens l.i (omega arith) (l.inv .1) (c .before .before .before .before .before .before .before .before .if1 .left) (c .before .before .before .before .before .before .put .ensures) (c .before .before .put-token2 .ensures))
+
+returns : tie.Need-returns Inv-loop μ-loop
+returns c =
+    let l = c .before .loop in
+    let e : l.i ≡ c .before .before .before .args .t1 .len = omega arith in
+    rw (← e) (l.inv .1)
+
+pub put-list-spec : {M : Type 1} → statement M
+put-list-spec =
+    tie.close
+    (tie.spec
+    Inv-loop
+    μ-loop
+    loop-holds
+    (λ c. search needs)
+    (λ c. search needs)
+    put-token-requires
+    (λ c. search needs)
+    (λ c. search needs)
+    loop-again
+    put-requires
+    put-token-requires-2
+    (λ c. search needs)
+    (λ c. search needs)
+    loop-again-2
+    (λ c. search needs)
+    returns)
