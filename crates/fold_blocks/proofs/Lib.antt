@@ -2,4 +2,5 @@ pub mod Cuts
 pub mod Files
 pub mod Numbers
 pub mod Rules
+pub mod Whole
 pub mod Toward

@@ -1,17 +1,16 @@
 -- The rules of the layout as statements: what it means that a block breaks none, and so no block of a file. Assumes nothing.
-use mathlib.Core.Path.{_≡_, refl, ap, sym, _∙_}
-use mathlib.Core.List.{List, [], _∷_, _++_}
-use mathlib.Core.Bool.{Bool, true, false, cond, not, _&&_, _||_}
-use Prim.Native.Nat.{ℕ, zero, suc, _+_, _*_, _/_, _%_, _≤_, _<_}
-use native.Mathlib.Decide.{decLt}
+use mathlib.Core.Path.{_≡_, refl}
+use mathlib.Core.List.{List, [], _∷_}
+use mathlib.Core.Bool.{Bool, true, false, not, _&&_, _||_}
+use Prim.Native.Nat.{ℕ, zero, suc, _+_, _*_, _≤_, _<_}
 use native.Mathlib.Omega.{arith}
-use lib.Dec.{eqb, ltb, leb}
+use lib.Dec.{eqb, ltb}
 use lib.ListN.{length, take, drop, length-append}
-use borrow.Author.Tests.{not-true, not-false, ltb-true, ltb-false, eqb-true, eqb-false, lt-ltb, le-ltb, eq-eqb, ne-eqb}
+use borrow.Author.Tests.{not-false, ltb-true, ltb-false, eqb-true, eqb-false, lt-ltb, le-ltb, eq-eqb, ne-eqb}
 use Rattle.lists.specs.Lists.{any}
 use Rattle.fold_blocks.specs.Bytes.{entriesIn}
-use Rattle.fold_blocks.specs.Listed.{cut, blocksOf, foldsIn, numberOf, countOf, totalOf, listed, countAll}
-use Rattle.fold_blocks.specs.Layout.{isUncut, isTorn, isUsed, breaks, broken, isBroken, layoutRefusal}
+use Rattle.fold_blocks.specs.Listed.{numberOf, countOf, totalOf, listed}
+use Rattle.fold_blocks.specs.Layout.{isUsed, breaks, broken}
 
 -- block k of so many, in a file of n folds, keeps each rule
 pub record Keeps (many n k : ℕ) (b : List ℕ) : Type 0 where
@@ -22,7 +21,7 @@ pub record Keeps (many n k : ℕ) (b : List ℕ) : Type 0 where
   pub unused : any isUsed (drop (4 + 9 * countOf b) (take 508 b)) ≡ false
   pub total : totalOf b ≡ n
 
-or-parts : (a b : Bool) → (a || b) ≡ false → (a ≡ false) × (b ≡ false)
+pub or-parts : (a b : Bool) → (a || b) ≡ false → (a ≡ false) × (b ≡ false)
 or-parts true b e = let z : _≡_ {A = ℕ} 0 1 = cc in absurd (omega arith)
 or-parts false b e = (refl, e)
 
@@ -93,44 +92,3 @@ listed-most many n k (b ∷ l) e =
       w .0 .few,
       listed-most many n (k + 1) l (w .1),
     )
-
--- a file that is refused by none of 18 to 20
-pub record Whole (f : List ℕ) : Type 0 where
-  pub blocks : length f % 512 ≡ 0
-  pub some : 0 < length f
-  pub short : length f ≤ 2560
-  pub sums : any isTorn (blocksOf f) ≡ false
-  pub laid : isBroken f ≡ false
-
-pub uncut-false : (f : List ℕ) → isUncut f ≡ false → (length f % 512 ≡ 0) × (0 < length f) × (length f ≤ 2560)
-unfolding isUncut
-uncut-false f e =
-    let p = or-parts _ _ e in
-    let q = or-parts _ _ (p .1) in
-    (eqb-true _ _ (not-false _ (p .0)), some-of (length f) (eqb-false _ _ (q .0)), ltb-false _ _ (q .1))
-  where
-    some-of : (m : ℕ) → (m ≡ 0 → ⊥) → 0 < m
-    some-of zero h = absurd (h refl)
-    some-of (suc m) h = omega arith
-
-pub layout-whole : (f : List ℕ) → layoutRefusal f ≡ 0 → Whole f
-unfolding layoutRefusal
-layout-whole f e = go (isUncut f) (any isTorn (blocksOf f)) (isBroken f) refl refl refl e
-  where
-    go : (a b c : Bool) → isUncut f ≡ a → any isTorn (blocksOf f) ≡ b → isBroken f ≡ c → _≡_ {A = ℕ} (cond a 18 (cond b 19 (cond c 20 0))) 0 → Whole f
-    go true b c p q r h = absurd (omega arith)
-    go false true c p q r h = absurd (omega arith)
-    go false false true p q r h = absurd (omega arith)
-    go false false false p q r h =
-        let u = uncut-false f p in
-        record { blocks = u .0; some = u .1; short = u .2; sums = q; laid = r }
-
-pub length-cut : (n : ℕ) (f : List ℕ) → length (cut n f) ≡ n
-unfolding cut
-length-cut zero f = refl
-length-cut (suc n) f = ap suc (length-cut n (drop 512 f))
-
--- at most 840 numbers
-pub folds-most : (f : List ℕ) → Whole f → length (foldsIn f) ≤ 840
-folds-most f w =
-    omega (arith, listed-most (length f / 512) (countAll (blocksOf f)) 0 (blocksOf f) (w .laid), length-cut (length f / 512) f, w .short)

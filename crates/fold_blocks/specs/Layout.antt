@@ -1,4 +1,4 @@
--- The rules that a file is refused by: 18 its length, 19 a sum, 20 the layout; and the order of a call's refusals. Document 02, #111.
+-- The rules that a file is refused by: 18 its length, 19 a sum, 20 the layout. Document 02, #111.
 -- Definitions only. That the rules of 20 hold exactly of the file of the folds listed: `laid-same` of `fold_laws`. Assumes nothing.
 use Prim.Native.Nat.{ℕ, _+_, _*_, _/_, _%_}
 use mathlib.Core.List.{List, [], _∷_}
@@ -45,8 +45,3 @@ layoutRefusal f = cond (isUncut f) 18 (cond (any isTorn (blocksOf f)) 19 (cond (
 -- 14: too little room for so many places
 unfoldable pub roomRefusal : ℕ → ℕ → ℕ
 roomRefusal n room = cond (leb n room) 0 14
-
--- a call's refusal: the first of these numbers that isn't 0
-unfoldable pub firstOf : List ℕ → ℕ
-firstOf [] = 0
-firstOf (f ∷ rest) = cond (eqb f 0) (firstOf rest) f

@@ -1,8 +1,8 @@
 -- What an answer of the writer or of the reader says: each check passed. Assumes nothing.
-use mathlib.Core.Path.{_≡_, refl, sym, _∙_}
+use mathlib.Core.Path.{_≡_, refl, sym}
 use mathlib.Core.List.{List, [], _∷_}
 use mathlib.Core.Bool.{Bool, true, false, cond, _||_}
-use Prim.Native.Nat.{ℕ, zero, suc, _+_, _/_, _%_, _≤_, _<_}
+use Prim.Native.Nat.{ℕ, _/_, _%_, _≤_}
 use native.Mathlib.Omega.{arith}
 use lib.Dec.{eqb, ltb, leb}
 use lib.ListN.{length}
@@ -11,31 +11,19 @@ use Rattle.text_check.specs.Accept.{textRefusal}
 use Rattle.text_check.proofs.Accepted.{accepted-short}
 use Rattle.text.specs.Text.{rowCount}
 use Rattle.text.proofs.Parts.{count-le}
+use Rattle.positions.proofs.Lowest.{lowest-none}
 use Rattle.folds.specs.Folds.{foldRefusal, anyFold, badFold}
 use Rattle.folds.proofs.Past.{folds-good}
 use Rattle.fold_blocks.specs.Files.{countIn, fileOf}
 use Rattle.fold_blocks.specs.Listed.{foldsIn}
-use Rattle.fold_blocks.specs.Layout.{layoutRefusal, roomRefusal, firstOf}
+use Rattle.fold_blocks.specs.Layout.{layoutRefusal, roomRefusal}
 use Rattle.fold_blocks.proofs.Files.{length-file, blocks-few}
-use Rattle.fold_writer.specs.declared.Written.{Written}
 use Rattle.fold_writer.specs.declared.Written.the-variants.{Bytes, Refused}
 use Rattle.fold_writer.specs.Writing.{writeRefusal, written}
 use Rattle.fold_writer.proofs.Answers.{folds-few, folds-whole}
-use Rattle.fold_reader.specs.declared.Loaded.{Loaded}
 use Rattle.fold_reader.specs.declared.Loaded.the-variants.{Folds, Refused as Loaded·Refused}
 use Rattle.fold_reader.specs.Reading.{readRefusal, loaded}
 use Rattle.fold_laws.proofs.Numbers.{Small}
-
-differ : false ≡ true → ⊥
-differ h = let z : _≡_ {A = ℕ} 0 1 = cc in omega arith
-
-first-none : (f : ℕ) (rest : List ℕ) → firstOf (f ∷ rest) ≡ 0 → (f ≡ 0) × (firstOf rest ≡ 0)
-unfolding firstOf
-first-none f rest e = go (eqb f 0) refl e
-  where
-    go : (b : Bool) → eqb f 0 ≡ b → cond b (firstOf rest) f ≡ 0 → (f ≡ 0) × (firstOf rest ≡ 0)
-    go true p q = (eqb-true f 0 p, q)
-    go false p q = let z : eqb f 0 ≡ true = rw q in absurd (differ (sym p ∙ z))
 
 room-none : (n room : ℕ) → roomRefusal n room ≡ 0 → n ≤ room
 unfolding roomRefusal
@@ -58,9 +46,9 @@ written-accepted t folds room n e = go (eqb (writeRefusal t folds room) 0) refl 
     go : (b : Bool) → eqb (writeRefusal t folds room) 0 ≡ b → cond b (Bytes (length (fileOf folds))) (Refused (writeRefusal t folds room)) ≡ Bytes n →
         WriteAccepted t folds room n
     go true p q =
-        let first = first-none (textRefusal t) _ (eqb-true _ _ p) in
-        let second = first-none (foldRefusal folds (rowCount t)) _ (first .1) in
-        let third = first-none (roomRefusal (length (fileOf folds)) room) _ (second .1) in
+        let first = lowest-none (textRefusal t) _ (eqb-true _ _ p) in
+        let second = lowest-none (foldRefusal folds (rowCount t)) _ (first .1) in
+        let third = lowest-none (roomRefusal (length (fileOf folds)) room) _ (second .1) in
         let same : length (fileOf folds) ≡ n = cc in
         record { text = first .0; taken = second .0; fits = room-none _ _ (third .0); size = sym same }
     go false p q = let z : _≡_ {A = ℕ} 0 1 = cc in absurd (omega arith)
@@ -79,10 +67,10 @@ loaded-accepted t f room n e = go (eqb (readRefusal t f room) 0) refl e
     go : (b : Bool) → eqb (readRefusal t f room) 0 ≡ b → cond b (Folds (countIn (foldsIn f))) (Loaded·Refused (readRefusal t f room)) ≡ Folds n →
         ReadAccepted t f room n
     go true p q =
-        let first = first-none (textRefusal t) _ (eqb-true _ _ p) in
-        let second = first-none (layoutRefusal f) _ (first .1) in
-        let third = first-none (foldRefusal (foldsIn f) (rowCount t)) _ (second .1) in
-        let fourth = first-none (roomRefusal (length (foldsIn f)) room) _ (third .1) in
+        let first = lowest-none (textRefusal t) _ (eqb-true _ _ p) in
+        let second = lowest-none (layoutRefusal f) _ (first .1) in
+        let third = lowest-none (foldRefusal (foldsIn f) (rowCount t)) _ (second .1) in
+        let fourth = lowest-none (roomRefusal (length (foldsIn f)) room) _ (third .1) in
         let same : countIn (foldsIn f) ≡ n = cc in
         record { text = first .0; whole = second .0; taken = third .0; fits = room-none _ _ (fourth .0); size = sym same }
     go false p q = let z : _≡_ {A = ℕ} 0 1 = cc in absurd (omega arith)

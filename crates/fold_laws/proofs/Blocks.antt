@@ -14,7 +14,8 @@ use Rattle.fold_blocks.specs.Files.{countIn, body, block}
 use Rattle.fold_blocks.specs.Listed.{numberOf, countOf, totalOf, sumOf}
 use Rattle.fold_blocks.specs.Layout.{isUsed, isTorn}
 use Rattle.fold_blocks.proofs.Files.{length-entries, length-body, length-block}
-use Rattle.fold_laws.proofs.Numbers.{Small, entries-back, zeros-unused}
+use Rattle.fold_laws.proofs.Numbers.{Small}
+use Rattle.fold_laws.proofs.Entries.{entries-back, zeros-unused}
 
 -- behind a beginning of m values
 behind : (p q : List ℕ) (m j : ℕ) → length p ≡ m → getD (p ++ q) (m + j) 0 ≡ getD q j 0

@@ -13,7 +13,7 @@ use Rattle.lists.specs.Lists.{any}
 use Rattle.fold_blocks.specs.Bytes.{sum}
 use Rattle.fold_blocks.specs.Listed.{cut, blocksOf, sumOf}
 use Rattle.fold_blocks.specs.Layout.{isTorn, isUncut, layoutRefusal}
-use Rattle.fold_blocks.proofs.Rules.{Whole}
+use Rattle.fold_blocks.proofs.Whole.{Whole}
 use Rattle.fold_laws.proofs.Numbers.{Bytes, bytes-at, bytes-take, bytes-drop}
 
 -- the sum moves by the difference

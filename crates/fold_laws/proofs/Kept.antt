@@ -1,30 +1,30 @@
 -- Folds on disk, over the answers of the two calls: written and read again, read and written again, one byte changed; and that the rules of 20 hold
 -- exactly of the file of the folds listed. Assumes nothing.
-use mathlib.Core.Path.{_≡_, refl, ap, sym, _∙_}
+use mathlib.Core.Path.{_≡_, ap, sym, _∙_}
 use mathlib.Core.List.{List, _++_}
-use mathlib.Core.Bool.{Bool, true, false}
-use Prim.Native.Nat.{ℕ, zero, suc, _+_, _*_, _/_, _%_, _≤_, _<_}
+use mathlib.Core.Bool.{false}
+use Prim.Native.Nat.{ℕ, zero, suc, _+_, _*_, _≤_, _<_}
 use native.Mathlib.Omega.{arith}
-use lib.Dec.{eqb, leb}
-use lib.ListN.{length, take, drop, getD, set, length-set}
+use lib.ListN.{length, take, drop, getD, set}
 use lib.Seq.{take-at}
-use borrow.Author.Tests.{le-leb, eq-eqb}
+use borrow.Author.Tests.{le-leb}
 use Rattle.lists.specs.Lists.{any}
 use Rattle.text_check.specs.Accept.{textRefusal}
 use Rattle.text.specs.Text.{rowCount}
 use Rattle.folds.specs.Folds.{foldRefusal}
 use Rattle.fold_blocks.specs.Files.{countIn, fileOf, blocksFor}
 use Rattle.fold_blocks.specs.Listed.{foldsIn, blocksOf}
-use Rattle.fold_blocks.specs.Layout.{isUncut, isTorn, isBroken, layoutRefusal, roomRefusal, firstOf}
-use Rattle.fold_blocks.proofs.Files.{length-file, blocks-few, blocks-some, blocks-none}
-use Rattle.fold_blocks.proofs.Rules.{Whole, layout-whole, uncut-false}
+use Rattle.positions.specs.Positions.{lowest as firstOf}
+use Rattle.fold_blocks.specs.Layout.{isUncut, isTorn, isBroken, layoutRefusal, roomRefusal}
+use Rattle.fold_blocks.proofs.Files.{length-file, blocks-some}
+use Rattle.fold_blocks.proofs.Whole.{layout-whole, uncut-false}
 use Rattle.fold_writer.specs.declared.Written.the-variants.{Bytes}
 use Rattle.fold_writer.specs.Writing.{writeRefusal, written, writtenIn}
 use Rattle.fold_writer.proofs.Answers.{folds-few}
 use Rattle.fold_reader.specs.declared.Loaded.the-variants.{Folds, Refused}
 use Rattle.fold_reader.specs.Reading.{readRefusal, loaded, loadedIn}
-use Rattle.fold_laws.proofs.Numbers.{Bytes as AllBytes, Small}
-use Rattle.fold_laws.proofs.Written.{file-taken, file-listed}
+use Rattle.fold_laws.proofs.Numbers.{Bytes as AllBytes}
+use Rattle.fold_laws.proofs.FileWritten.{file-taken, file-listed}
 use Rattle.fold_laws.proofs.Read.{file-back}
 use Rattle.fold_laws.proofs.Changed.{changed-torn}
 use Rattle.fold_laws.proofs.Accepted.{written-accepted, loaded-accepted, taken-small}

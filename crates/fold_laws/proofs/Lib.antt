@@ -1,6 +1,9 @@
 pub mod Numbers
+pub mod Entries
 pub mod Blocks
 pub mod Written
+pub mod FileWritten
+pub mod BlockRead
 pub mod Read
 pub mod Changed
 pub mod Accepted

@@ -9,10 +9,11 @@ use borrow.Author.Tests.{le-leb, lt-leb, ne-eqb}
 use Rattle.print.specs.Print.{Wrote}
 use Rattle.text_check.specs.Accept.{textRefusal}
 use Rattle.text.specs.Text.{rowCount}
+use Rattle.positions.specs.Positions.{lowest as firstOf}
 use Rattle.folds.specs.Folds.{foldRefusal}
 use Rattle.fold_blocks.specs.Files.{countIn}
 use Rattle.fold_blocks.specs.Listed.{foldsIn}
-use Rattle.fold_blocks.specs.Layout.{layoutRefusal, firstOf, roomRefusal}
+use Rattle.fold_blocks.specs.Layout.{layoutRefusal, roomRefusal}
 use Rattle.fold_reader.specs.declared.Loaded.the-variants.{Folds, Refused}
 use Rattle.fold_reader.specs.Reading.{readRefusal, loaded, loadedIn}
 

@@ -7,14 +7,15 @@ use lib.Dec.{eqb}
 use lib.ListN.{length, drop}
 use Rattle.text_check.specs.Accept.{textRefusal}
 use Rattle.text.specs.Text.{rowCount}
+use Rattle.positions.specs.Positions.{lowest as firstOf}
 use Rattle.folds.specs.Folds.{foldRefusal}
 use Rattle.fold_blocks.specs.Files.{countIn}
 use Rattle.fold_blocks.specs.Listed.{foldsIn}
-use Rattle.fold_blocks.specs.Layout.{layoutRefusal, roomRefusal, firstOf}
+use Rattle.fold_blocks.specs.Layout.{layoutRefusal, roomRefusal}
 use Rattle.fold_reader.specs.declared.Loaded.{Loaded}
 use Rattle.fold_reader.specs.declared.Loaded.the-variants.{Folds, Refused}
 
--- the number that it refuses with, 0 where the folds are read
+-- the number that it refuses with, 0 where the folds are read: the first of these that isn't 0
 unfoldable pub readRefusal : List ℕ → List ℕ → ℕ → ℕ
 readRefusal t f room =
     firstOf (textRefusal t ∷ layoutRefusal f ∷ foldRefusal (foldsIn f) (rowCount t) ∷ roomRefusal (length (foldsIn f)) room ∷ [])

@@ -11,9 +11,10 @@ use borrow.Author.Tests.{le-leb, lt-leb, ne-eqb, eqb-true, ltb-false}
 use Rattle.print.specs.Print.{Wrote}
 use Rattle.text_check.specs.Accept.{textRefusal}
 use Rattle.text.specs.Text.{rowCount}
+use Rattle.positions.specs.Positions.{lowest as firstOf}
 use Rattle.folds.specs.Folds.{foldRefusal, anyFold, badFold}
 use Rattle.fold_blocks.specs.Files.{fileOf}
-use Rattle.fold_blocks.specs.Layout.{firstOf, roomRefusal}
+use Rattle.fold_blocks.specs.Layout.{roomRefusal}
 use Rattle.fold_writer.specs.declared.Written.the-variants.{Bytes, Refused}
 use Rattle.fold_writer.specs.Writing.{writeRefusal, written, writtenIn}
 

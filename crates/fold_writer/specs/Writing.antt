@@ -8,13 +8,14 @@ use lib.Dec.{eqb}
 use lib.ListN.{length, drop}
 use Rattle.text_check.specs.Accept.{textRefusal}
 use Rattle.text.specs.Text.{rowCount}
+use Rattle.positions.specs.Positions.{lowest as firstOf}
 use Rattle.folds.specs.Folds.{foldRefusal}
 use Rattle.fold_blocks.specs.Files.{fileOf}
-use Rattle.fold_blocks.specs.Layout.{roomRefusal, firstOf}
+use Rattle.fold_blocks.specs.Layout.{roomRefusal}
 use Rattle.fold_writer.specs.declared.Written.{Written}
 use Rattle.fold_writer.specs.declared.Written.the-variants.{Bytes, Refused}
 
--- the number that it refuses with, 0 where the file is written
+-- the number that it refuses with, 0 where the file is written: the first of these that isn't 0
 unfoldable pub writeRefusal : List ℕ → List ℕ → ℕ → ℕ
 writeRefusal t folds room =
     firstOf (textRefusal t ∷ foldRefusal folds (rowCount t) ∷ roomRefusal (length (fileOf folds)) room ∷ [])

@@ -10,7 +10,7 @@ use Rattle.positions.specs.Positions.{positionRefusal, lowest}
 use Rattle.fold_blocks.specs.Bytes.{entries, entriesIn, sum}
 use Rattle.fold_blocks.specs.Files.{blocksFor, body, block, blocks, fileOf}
 use Rattle.fold_blocks.specs.Listed.{cut, listed, countAll}
-use Rattle.fold_blocks.specs.Layout.{isUncut, isTorn, breaks, broken, layoutRefusal, roomRefusal, firstOf}
+use Rattle.fold_blocks.specs.Layout.{isUncut, isTorn, breaks, broken, layoutRefusal, roomRefusal}
 use Rattle.fold_writer.specs.Writing.{writeRefusal, written, writtenIn}
 use Rattle.fold_reader.specs.Reading.{readRefusal, loaded, loadedIn}
 use Rattle.edit_places.specs.Replaced.{replaced, zeros, refilled}
@@ -34,5 +34,5 @@ edits-alone = refl
 pub files-alone : judged fileCases ≡ good fileCases
 unfolding fileCases
     any onFirst isSame codes textRefusal rows anyFold foldRefusal entries entriesIn sum blocksFor body block blocks fileOf cut listed countAll
-    isUncut isTorn breaks broken layoutRefusal roomRefusal firstOf writeRefusal written writtenIn readRefusal loaded loadedIn toldWritten toldLoaded
+    isUncut isTorn breaks broken layoutRefusal roomRefusal lowest writeRefusal written writtenIn readRefusal loaded loadedIn toldWritten toldLoaded
 files-alone = refl

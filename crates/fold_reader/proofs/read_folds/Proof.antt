@@ -3,7 +3,7 @@ use mathlib.Core.Path.{sym, _∙_}
 use native.Mathlib.Omega.{arith}
 use borrow.Author.Needs.{needs}
 use lib.Seq.{length-take-le}
-use Rattle.fold_blocks.proofs.Rules.{layout-whole, folds-most}
+use Rattle.fold_blocks.proofs.Whole.{layout-whole, folds-most}
 use Rattle.fold_reader.proofs.Answers.{taken-front, read-text, read-layout, read-folds, read-short, read-list}
 use Rattle.fold_reader.proofs.read_folds.Statement.{statement}
 use Rattle.fold_reader.proofs.read_folds.Tie as tie

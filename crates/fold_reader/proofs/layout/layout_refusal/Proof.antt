@@ -2,7 +2,7 @@
 use mathlib.Core.Path.{sym, _∙_}
 use borrow.Author.Needs.{needs}
 use Rattle.fold_blocks.specs.Layout.{layoutRefusal}
-use Rattle.fold_blocks.proofs.Rules.{uncut-false}
+use Rattle.fold_blocks.proofs.Whole.{uncut-false}
 use Rattle.fold_reader.proofs.layout.layout_refusal.Statement.{statement}
 use Rattle.fold_reader.proofs.layout.layout_refusal.Tie as tie
 
