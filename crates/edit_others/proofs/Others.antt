@@ -13,10 +13,8 @@ use Rattle.motions.specs.declared.Moved.the-variants.{To}
 use Rattle.motions.specs.Carets.{here}
 use Rattle.edit_positions.specs.Change.{endOf}
 use Rattle.edit_checks.specs.declared.Sizes.{Sizes}
-use Rattle.edit_checks.specs.Refusals.{editRefusal}
 use Rattle.edit_checks.specs.Checks.{checkOf}
 use Rattle.edit_checks.proofs.Spots.{inside-stays}
-use Rattle.edit_carets.specs.Carets.{caretAfter, correctedBy}
 use Rattle.edit_carets.proofs.Follows.{corrected-after}
 use Rattle.edits.specs.Edits.{refusalOf}
 use Rattle.edits.proofs.Making.{near, fits-caret}

@@ -6,8 +6,9 @@ use motions::Moved;
 ghost use mathlib.Core.Path.{_≡_};
 ghost use Rattle.edit_others.specs.Others.{followed};
 
-// A caret after a change, as `edit_carets::corrected` has it; 4 where a row or a column could outgrow
-// a caret. No caret that stands in the text of an accepted edit is refused (`others-follow`).
+// A caret after a change, as `edit_carets::corrected` has it; 4 where a row or a column could
+// outgrow a caret. No caret that stands in the text of an accepted edit is refused
+// (`others-follow`).
 pub fn follow(k: Caret, c: Change) -> Moved
     ensures { λ r. ⌜ r ≡ followed k c ⌝ }
 {

@@ -1,13 +1,12 @@
 -- What is printed, by the answers of the writer and of the reader. Assumes nothing.
 use mathlib.Core.Path.{_≡_, refl, ap, sym, _∙_}
-use mathlib.Core.List.{List, [], _∷_, _++_}
+use mathlib.Core.List.{List, _++_}
 use mathlib.Core.Bool.{Bool, true, false, cond}
-use Prim.Native.Nat.{ℕ, _+_, _*_, _/_, _≤_, _<_}
+use Prim.Native.Nat.{ℕ, _+_, _*_, _/_, _≤_}
 use native.Mathlib.Omega.{arith}
 use lib.Dec.{eqb}
 use lib.ListN.{length, take, drop, length-append}
 use lib.Seq.{take-at, length-take-le}
-use Rattle.folds.specs.Folds.{foldRefusal}
 use Rattle.text.specs.Text.{rowCount}
 use Rattle.fold_blocks.specs.Files.{fileOf}
 use Rattle.fold_blocks.specs.Listed.{foldsIn}
@@ -17,7 +16,7 @@ use Rattle.fold_writer.proofs.Answers.{folds-whole}
 use Rattle.fold_reader.specs.declared.Loaded.the-variants.{Folds, Refused as Loaded·Refused}
 use Rattle.fold_reader.specs.Reading.{readRefusal, loaded, loadedIn}
 use Rattle.fold_laws.proofs.Accepted.{loaded-accepted}
-use Rattle.fold_trial.specs.Runs.{unread, refusalRow, foldRow, byWritten, fileShown, byLoaded, foldsShown, Prints}
+use Rattle.fold_trial.specs.Runs.{refusalRow, foldRow, byWritten, fileShown, byLoaded, foldsShown, Prints}
 
 -- the writer, into the room that is printed from
 module _ (t folds out : List ℕ) (size : length out ≡ 8450) where
@@ -26,7 +25,8 @@ module _ (t folds out : List ℕ) (size : length out ≡ 8450) where
   stored-bytes n out′ e l = go (eqb (writeRefusal t folds (length out)) 0) refl e l
     where
       go :
-          (b : Bool) → eqb (writeRefusal t folds (length out)) 0 ≡ b → cond b (Bytes (length (fileOf folds))) (Refused (writeRefusal t folds (length out))) ≡ Bytes n →
+          (b : Bool) → eqb (writeRefusal t folds (length out)) 0 ≡ b →
+          cond b (Bytes (length (fileOf folds))) (Refused (writeRefusal t folds (length out))) ≡ Bytes n →
           out′ ≡ cond b (fileOf folds ++ drop (length (fileOf folds)) out) out → Prints (fileShown t folds) n out′
       go true p f k =
           let m : length (fileOf folds) ≡ n = cc in

@@ -1,5 +1,5 @@
 -- What an input prints, by the check of its text and by its first row. Assumes nothing.
-use mathlib.Core.Path.{_≡_, refl, ap, sym, _∙_}
+use mathlib.Core.Path.{_≡_, _∙_}
 use mathlib.Core.List.{List, [], _∷_}
 use mathlib.Core.Bool.{Bool, true, false, cond}
 use Prim.Native.Nat.{ℕ, suc, _+_, _-_, _≤_, _<_}
@@ -14,7 +14,7 @@ use Rattle.session_input.specs.Parts.{isBad}
 use Rattle.replay_rows.specs.Cases.{part}
 use Rattle.replay_rows.specs.declared.Numbers.{Numbers}
 use Rattle.replay_rows.specs.declared.Numbers.the-variants.{Count, Malformed}
-use Rattle.replay_rows.specs.Rows.{these, malformed, readRow, rowLength, got, RowRead}
+use Rattle.replay_rows.specs.Rows.{these, malformed, readRow, rowLength, RowRead}
 use Rattle.fold_trial.specs.Runs.{unread, fileShown, foldsShown, storeIn, loadIn, byKey, byRow, runOf}
 
 -- what is lent from an index on is all the rest

@@ -1,10 +1,10 @@
 -- Laws of the rows that are printed: their lengths, the numbers of folds one after another, and that what was written is what is printed.
 -- Assumes nothing.
-use mathlib.Core.Path.{_≡_, refl, ap, sym, _∙_}
+use mathlib.Core.Path.{_≡_, ap, sym}
 use mathlib.Core.List.{List, [], _∷_, _++_, append-assoc}
 use Prim.Native.Nat.{ℕ, _+_, _*_, _≤_, _<_}
 use native.Mathlib.Omega.{arith}
-use lib.ListN.{length, getD, take, drop, length-append, drop-of-length-le}
+use lib.ListN.{length, getD, drop, length-append, drop-of-length-le}
 use lib.Seq.{length-take-le}
 use Rattle.lists.specs.Codes.{codes}
 use Rattle.lists.proofs.Lists.{drop-at}

@@ -1,7 +1,7 @@
 // What an input prints. Its first row is `w` and folds, three numbers each, or `r` and how many
-// bytes of a fold file follow it; then come those bytes, and the text, UTF-8. `w` prints the file of
-// the folds, and `r` the row that `w` takes for the folds of the file. A refusal prints `!` and its
-// number, and an input that is none of this `refused`.
+// bytes of a fold file follow it; then come those bytes, and the text, UTF-8. `w` prints the file
+// of the folds, and `r` the row that `w` takes for the folds of the file. A refusal prints `!` and
+// its number, and an input that is none of this `refused`.
 use fold_reader::Loaded;
 use fold_writer::Written;
 use print::put;

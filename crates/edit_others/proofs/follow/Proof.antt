@@ -8,25 +8,42 @@ use Rattle.edit_others.proofs.follow.Statement.{statement}
 use Rattle.edit_others.proofs.follow.Tie as tie
 
 returns : tie.Need-returns
-returns c = let a = c .before .before .before .before .args in from-row-far (a .k) (a .c) (c .if1 .taken)
+returns c =
+    let entry = c .before .before .before .before in
+    let a = entry .args in from-row-far (a .k) (a .c) (c .if1 .taken)
 
 returns-2 : tie.Need-returns-2
-returns-2 c = let a = c .before .before .before .before .before .before .args in from-col-far (a .k) (a .c) (c .before .before .if1 .left) (c .if2 .taken)
+returns-2 c =
+    let at-if1 = c .before .before in
+    let entry = at-if1 .before .before .before .before in
+    let a = entry .args in from-col-far (a .k) (a .c) (at-if1 .if1 .left) (c .if2 .taken)
 
 returns-3 : tie.Need-returns-3
 returns-3 c =
-    let a = c .before .before .before .before .before .before .before .before .before .args in
-    row-far (a .k) (a .c) (c .before .before .before .before .before .if1 .left) (c .before .before .before .if2 .left) (omega (arith, c .if3 .taken))
+    let at-if2 = c .before .before .before in
+    let at-if1 = at-if2 .before .before in
+    let entry = at-if1 .before .before .before .before in
+    let a = entry .args in
+    row-far (a .k) (a .c) (at-if1 .if1 .left) (at-if2 .if2 .left) (omega (arith, c .if3 .taken))
 
 returns-4 : tie.Need-returns-4
 returns-4 c =
-    let a = c .before .before .before .before .before .before .before .before .before .before .before .before .args in
-    col-far (a .k) (a .c) (c .before .before .before .before .before .before .before .before .if1 .left) (c .before .before .before .before .before .before .if2 .left) (omega (arith, c .before .before .before .if3 .left)) (omega (arith, c .if4 .taken))
+    let at-if3 = c .before .before .before in
+    let at-if2 = at-if3 .before .before .before in
+    let at-if1 = at-if2 .before .before in
+    let entry = at-if1 .before .before .before .before in
+    let a = entry .args in
+    col-far (a .k) (a .c) (at-if1 .if1 .left) (at-if2 .if2 .left) (omega (arith, at-if3 .if3 .left)) (omega (arith, c .if4 .taken))
 
 returns-5 : tie.Need-returns-5
 returns-5 c =
-    let a = c .before .before .before .before .before .before .before .before .before .before .before .before .before .args in
-    let fits = near-fits (a .k) (a .c) (c .before .before .before .before .before .before .before .before .before .if1 .left) (c .before .before .before .before .before .before .before .if2 .left) (omega (arith, c .before .before .before .before .if3 .left)) (omega (arith, c .before .if4 .left)) in
+    let at-if4 = c .before in
+    let at-if3 = at-if4 .before .before .before in
+    let at-if2 = at-if3 .before .before .before in
+    let at-if1 = at-if2 .before .before in
+    let entry = at-if1 .before .before .before .before in
+    let a = entry .args in
+    let fits = near-fits (a .k) (a .c) (at-if1 .if1 .left) (at-if2 .if2 .left) (omega (arith, at-if3 .if3 .left)) (omega (arith, at-if4 .if4 .left)) in
     ap To (c .corrected .ensures) ∙ follows (a .k) (a .c) fits
 
 pub follow-spec : {M : Type 1} → statement M

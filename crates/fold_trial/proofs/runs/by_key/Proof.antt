@@ -8,27 +8,42 @@ use Rattle.fold_trial.proofs.runs.by_key.Tie as tie
 
 returns : tie.Need-returns
 returns c =
-    let a = c .before .before .before .before .before .before .before .before .args in
-    rw (key-write (a .key) (a .numbers .now) (a .bytes .now) (c .before .before .before .before .if1 .taken)) (c .before .before .store-in .ensures)
+    let at-store-in = c .before .before in
+    let at-if1 = at-store-in .before .before in
+    let entry = at-if1 .before .before .before .before in
+    let a = entry .args in
+    rw (key-write (a .key) (a .numbers .now) (a .bytes .now) (at-if1 .if1 .taken)) (at-store-in .store-in .ensures)
 
 returns-2 : tie.Need-returns-2
 returns-2 c =
-    let entry = c .before .before .before .before .before .before .before .before .before in
+    let at-not-read = c .before .before in
+    let at-if2 = at-not-read .before .before in
+    let at-if1 = at-if2 .before in
+    let entry = at-if1 .before .before .before .before in
     let a = entry .args in
-    rw (key-none (a .key) (a .numbers .now) (a .bytes .now) (c .before .before .before .before .before .if1 .left) (c .before .before .before .before .if2 .taken))
-    (prints unread-fits (entry .pre .1) (c .before .before .not-read .ensures))
+    rw (key-none (a .key) (a .numbers .now) (a .bytes .now) (at-if1 .if1 .left) (at-if2 .if2 .taken))
+    (prints unread-fits (entry .pre .1) (at-not-read .not-read .ensures))
 
 returns-3 : tie.Need-returns-3
 returns-3 c =
-    let entry = c .before .before .before .before .before .before .before .before .before .before in
+    let at-not-read2 = c .before .before in
+    let at-if3 = at-not-read2 .before .before in
+    let at-if2 = at-if3 .before in
+    let at-if1 = at-if2 .before in
+    let entry = at-if1 .before .before .before .before in
     let a = entry .args in
-    rw (key-many (a .key) (a .numbers .now) (a .bytes .now) (c .before .before .before .before .before .before .if1 .left) (c .before .before .before .before .before .if2 .left) (c .before .before .before .before .if3 .taken))
-    (prints unread-fits (entry .pre .1) (c .before .before .not-read2 .ensures))
+    rw (key-many (a .key) (a .numbers .now) (a .bytes .now) (at-if1 .if1 .left) (at-if2 .if2 .left) (at-if3 .if3 .taken))
+    (prints unread-fits (entry .pre .1) (at-not-read2 .not-read2 .ensures))
 
 returns-4 : tie.Need-returns-4
 returns-4 c =
-    let a = c .before .before .before .before .before .before .before .before .before .before .before .args in
-    rw (key-read (a .key) (a .numbers .now) (a .bytes .now) (c .before .before .before .before .before .before .before .if1 .left) (c .before .before .before .before .before .before .if2 .left) (c .before .before .before .before .before .if3 .left)) (c .before .before .load-in .ensures)
+    let at-load-in = c .before .before in
+    let at-if3 = at-load-in .before .before .before in
+    let at-if2 = at-if3 .before in
+    let at-if1 = at-if2 .before in
+    let entry = at-if1 .before .before .before .before in
+    let a = entry .args in
+    rw (key-read (a .key) (a .numbers .now) (a .bytes .now) (at-if1 .if1 .left) (at-if2 .if2 .left) (at-if3 .if3 .left)) (at-load-in .load-in .ensures)
 
 pub by-key-spec : {M : Type 1} → statement M
 by-key-spec =

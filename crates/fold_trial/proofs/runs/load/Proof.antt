@@ -1,60 +1,79 @@
 -- `load` meets its contract, by the answers of the reader. Assumes nothing.
 use Prim.Native.Nat.{ℕ}
-use mathlib.Core.Path.{sym, _∙_}
+use mathlib.Core.Path.{_≡_, sym, _∙_}
+use mathlib.Core.List.{List}
 use native.Mathlib.Omega.{arith}
 use borrow.Author.Needs.{needs}
-use lib.ListN.{replicate, length-replicate}
+use lib.ListN.{length, replicate, length-replicate}
 use Rattle.fold_blocks.specs.Listed.{foldsIn}
 use Rattle.fold_trial.proofs.Rows.{fold-row-fits, refusal-row-fits, prints}
 use Rattle.fold_trial.proofs.Answers.{loaded-front, loaded-counts, loaded-few, loaded-within, loaded-shown, loaded-refused}
 use Rattle.fold_trial.proofs.runs.load.Statement.{statement}
 use Rattle.fold_trial.proofs.runs.load.Tie as tie
 
+-- the room that is lent
+abbrev room : List ℕ
+room = replicate 768 0
+
+roomy : length room ≡ 768
+roomy = length-replicate {A = ℕ} 768 0
+
 mul-end : tie.Need-mul-end
 mul-end c =
-    let answered = c .before .before .before .before in
-    let a = c .before .before .before .before .before .before .before .before .before .args in
-    omega (arith, loaded-few (a .text .now) (a .file .now) (replicate {A = ℕ} 768 0) (length-replicate {A = ℕ} 768 0) _ (sym (answered .read-folds .ensures .0) ∙ c .before .n .given .1))
+    let at-n = c .before in
+    let answered = at-n .before .before .before in
+    let entry = answered .before .before .before .before .before in
+    let a = entry .args in
+    omega (arith, loaded-few (a .text .now) (a .file .now) room roomy _ (sym (answered .read-folds .ensures .0) ∙ at-n .n .given .1))
 
 prefix : tie.Need-array-share-prefix-folds
 prefix c =
-    let answered = c .before .before .before .before .before in
-    let a = c .before .before .before .before .before .before .before .before .before .before .args in
-    omega (arith, loaded-few (a .text .now) (a .file .now) (replicate {A = ℕ} 768 0) (length-replicate {A = ℕ} 768 0) _ (sym (answered .read-folds .ensures .0) ∙ c .before .before .n .given .1))
+    let at-n = c .before .before in
+    let answered = at-n .before .before .before in
+    let entry = answered .before .before .before .before .before in
+    let a = entry .args in
+    omega (arith, loaded-few (a .text .now) (a .file .now) room roomy _ (sym (answered .read-folds .ensures .0) ∙ at-n .n .given .1))
 
 lent : tie.Need-slice-aggregate-put-folds
 lent c =
-    let answered = c .before .before .before .before .before .before in
-    let a = c .before .before .before .before .before .before .before .before .before .before .before .args in
-    loaded-counts (a .text .now) (a .file .now) (replicate {A = ℕ} 768 0) (length-replicate {A = ℕ} 768 0) _ _ (sym (answered .read-folds .ensures .0) ∙ c .before .before .before .n .given .1) (answered .read-folds .ensures .1)
+    let at-n = c .before .before .before in
+    let answered = at-n .before .before .before in
+    let entry = answered .before .before .before .before .before in
+    let a = entry .args in
+    loaded-counts (a .text .now) (a .file .now) room roomy _ _ (sym (answered .read-folds .ensures .0) ∙ at-n .n .given .1) (answered .read-folds .ensures .1)
 
 put-folds-requires : tie.Need-put-folds-requires
 put-folds-requires c κs =
-    let answered = c .before .before .before .before .before .before in
-    let entry = c .before .before .before .before .before .before .before .before .before .before .before in
+    let at-n = c .before .before .before in
+    let answered = at-n .before .before .before in
+    let entry = answered .before .before .before .before .before in
     let a = entry .args in
-    let e = sym (answered .read-folds .ensures .0) ∙ c .before .before .before .n .given .1 in
-    let front = loaded-front (a .text .now) (a .file .now) (replicate {A = ℕ} 768 0) (length-replicate {A = ℕ} 768 0) _ _ e (answered .read-folds .ensures .1) in
-    (rw front (loaded-within (a .text .now) (a .file .now) (replicate {A = ℕ} 768 0) (length-replicate {A = ℕ} 768 0) _ e), entry .pre)
+    let e = sym (answered .read-folds .ensures .0) ∙ at-n .n .given .1 in
+    let front = loaded-front (a .text .now) (a .file .now) room roomy _ _ e (answered .read-folds .ensures .1) in
+    (rw front (loaded-within (a .text .now) (a .file .now) room roomy _ e), entry .pre)
 
 returns : tie.Need-returns
 returns c =
-    let answered = c .before .before .before .before .before .before .before .before .before in
-    let entry = c .before .before .before .before .before .before .before .before .before .before .before .before .before .before in
+    let at-put-folds = c .before .before in
+    let at-n = at-put-folds .before .before .before .before in
+    let answered = at-n .before .before .before in
+    let entry = answered .before .before .before .before .before in
     let a = entry .args in
-    let e = sym (answered .read-folds .ensures .0) ∙ c .before .before .before .before .before .before .n .given .1 in
-    let front = loaded-front (a .text .now) (a .file .now) (replicate {A = ℕ} 768 0) (length-replicate {A = ℕ} 768 0) _ _ e (answered .read-folds .ensures .1) in
-    let within = loaded-within (a .text .now) (a .file .now) (replicate {A = ℕ} 768 0) (length-replicate {A = ℕ} 768 0) _ e in
-    rw (loaded-shown (a .text .now) (a .file .now) (replicate {A = ℕ} 768 0) (length-replicate {A = ℕ} 768 0) _ e)
-    (prints (fold-row-fits (foldsIn (a .file .now)) within) (entry .pre) (rw front at (c .before .before .put-folds .ensures)))
+    let e = sym (answered .read-folds .ensures .0) ∙ at-n .n .given .1 in
+    let front = loaded-front (a .text .now) (a .file .now) room roomy _ _ e (answered .read-folds .ensures .1) in
+    let within = loaded-within (a .text .now) (a .file .now) room roomy _ e in
+    rw (loaded-shown (a .text .now) (a .file .now) room roomy _ e)
+    (prints (fold-row-fits (foldsIn (a .file .now)) within) (entry .pre) (rw front at (at-put-folds .put-folds .ensures)))
 
 returns-2 : tie.Need-returns-2
 returns-2 c =
-    let answered = c .before .before .before .before .before .before .before .before in
-    let entry = c .before .before .before .before .before .before .before .before .before .before .before .before .before in
+    let at-refuse = c .before .before in
+    let at-f = at-refuse .before .before .before in
+    let answered = at-f .before .before .before in
+    let entry = answered .before .before .before .before .before in
     let a = entry .args in
-    rw (loaded-refused (a .text .now) (a .file .now) (replicate {A = ℕ} 768 0) (length-replicate {A = ℕ} 768 0) _ (sym (answered .read-folds .ensures .0) ∙ c .before .before .before .before .before .f .given .1))
-    (prints (refusal-row-fits _) (entry .pre) (c .before .before .refuse .ensures))
+    rw (loaded-refused (a .text .now) (a .file .now) room roomy _ (sym (answered .read-folds .ensures .0) ∙ at-f .f .given .1))
+    (prints (refusal-row-fits _) (entry .pre) (at-refuse .refuse .ensures))
 
 pub load-spec : {M : Type 1} → statement M
 load-spec =

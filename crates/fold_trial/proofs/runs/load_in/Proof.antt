@@ -10,25 +10,39 @@ use Rattle.fold_trial.proofs.runs.load_in.Tie as tie
 
 returns : tie.Need-returns
 returns c =
-    let entry = c .before .before .before .before .before .before .before in
+    let at-not-read = c .before .before in
+    let at-if1 = at-not-read .before .before in
+    let entry = at-if1 .before .before .before in
     let a = entry .args in
-    rw (load-long (a .n) (a .bytes .now) (c .before .before .before .before .if1 .taken)) (prints unread-fits (entry .pre .1) (c .before .before .not-read .ensures))
+    rw (load-long (a .n) (a .bytes .now) (at-if1 .if1 .taken)) (prints unread-fits (entry .pre .1) (at-not-read .not-read .ensures))
 
 lent : tie.Need-slice-aggregate-load-2
-lent c = sym (length-take-le _ _ (c .before .before .before .before .before .before .before .before .before .if1 .left))
+lent c =
+    let at-if1 = c .before .before .before .before .before .before .before .before .before in
+    sym (length-take-le _ _ (at-if1 .if1 .left))
 
 returns-2 : tie.Need-returns-2
 returns-2 c =
-    let a = c .before .before .before .before .before .before .before .before .before .before .before .before .before .before .before .before .args in
-    let good = check-good _ (sym (c .before .before .before .before .before .before .before .before .before .enum-told .given .1) ∙ c .before .before .before .before .before .before .before .before .before .before .before .check .ensures) in
-    rw (load-good (a .n) (a .bytes .now) (c .before .before .before .before .before .before .before .before .before .before .before .before .before .if1 .left) good) (rw (c .before .before .before .before .before .before .before .read-text .ensures .front) at (c .before .before .load .ensures))
+    let at-load = c .before .before in
+    let at-read-text = at-load .before .before .before .before .before in
+    let at-enum-told = at-read-text .before .before in
+    let at-check = at-enum-told .before .before in
+    let at-if1 = at-check .before .before in
+    let entry = at-if1 .before .before .before in
+    let a = entry .args in
+    let good = check-good _ (sym (at-enum-told .enum-told .given .1) ∙ at-check .check .ensures) in
+    rw (load-good (a .n) (a .bytes .now) (at-if1 .if1 .left) good) (rw (at-read-text .read-text .ensures .front) at (at-load .load .ensures))
 
 returns-3 : tie.Need-returns-3
 returns-3 c =
-    let entry = c .before .before .before .before .before .before .before .before .before .before .before in
+    let at-not-read2 = c .before .before in
+    let at-enum-told2 = at-not-read2 .before .before in
+    let at-check = at-enum-told2 .before .before in
+    let at-if1 = at-check .before .before in
+    let entry = at-if1 .before .before .before in
     let a = entry .args in
-    let bad = check-bad _ (sym (c .before .before .before .before .enum-told2 .given .1) ∙ c .before .before .before .before .before .before .check .ensures) in
-    rw (load-bad (a .n) (a .bytes .now) (c .before .before .before .before .before .before .before .before .if1 .left) bad) (prints unread-fits (entry .pre .1) (c .before .before .not-read2 .ensures))
+    let bad = check-bad _ (sym (at-enum-told2 .enum-told2 .given .1) ∙ at-check .check .ensures) in
+    rw (load-bad (a .n) (a .bytes .now) (at-if1 .if1 .left) bad) (prints unread-fits (entry .pre .1) (at-not-read2 .not-read2 .ensures))
 
 pub load-in-spec : {M : Type 1} → statement M
 load-in-spec =

@@ -26,12 +26,14 @@ loop-holds c = (omega arith, toward-start _ _ _)
 -- there is room for the next number, and for the row's end
 put-requires-2 : tie.Need-put-requires-2 Inv-loop μ-loop
 put-requires-2 c κs =
-    let at-loop = c .before .before in
-    let entry = c .before .before .before .before .before .before .before .before .before in
-    let key = c .before .before .before .before .before .put .ensures in
+    let tested = c .before in
+    let at-loop = tested .before in
+    let at-put = at-loop .before .before .before in
+    let entry = at-put .before .before .before .before in
+    let key = at-put .put .ensures in
     let l = entry .args .folds .now in
     let i = at-loop .loop .i in
-    let piece = spaced-at l i (c .before .loop-test .taken) in
+    let piece = spaced-at l i (tested .loop-test .taken) in
     omega (
       arith,
       toward-room (32 ∷ decimal (getD l i 0)) (spaced (drop (i + 1) l) ++ (10 ∷ [])) (at-loop .loop .inv .1) piece,
@@ -44,13 +46,16 @@ put-requires-2 c κs =
 
 put-decimal-requires : tie.Need-put-decimal-requires Inv-loop μ-loop
 put-decimal-requires c κs =
-    let at-loop = c .before .before .before .before .before .before .before in
-    let entry = c .before .before .before .before .before .before .before .before .before .before .before .before .before .before in
-    let key = c .before .before .before .before .before .before .before .before .before .before .put .ensures in
+    let at-put2 = c .before .before .before .before in
+    let tested = at-put2 .before .before in
+    let at-loop = tested .before in
+    let at-put = at-loop .before .before .before in
+    let entry = at-put .before .before .before .before in
+    let key = at-put .put .ensures in
     let l = entry .args .folds .now in
     let i = at-loop .loop .i in
-    let piece = spaced-at l i (c .before .before .before .before .before .before .loop-test .taken) in
-    let space = c .before .before .before .before .put2 .ensures in
+    let piece = spaced-at l i (tested .loop-test .taken) in
+    let space = at-put2 .put2 .ensures in
     omega (
       arith,
       toward-room (32 ∷ decimal (getD l i 0)) (spaced (drop (i + 1) l) ++ (10 ∷ [])) (at-loop .loop .inv .1) piece,
@@ -65,34 +70,48 @@ put-decimal-requires c κs =
 
 loop-again : tie.Need-loop-again Inv-loop μ-loop
 loop-again c =
-    let at-loop = c .before .before .before .before .before .before .before .before .before .before in
-    let l = c .before .before .before .before .before .before .before .before .before .before .before .before .before .before .before .before .before .args .folds .now in
+    let at-put-decimal = c .before .before in
+    let at-put2 = at-put-decimal .before .before .before .before .before in
+    let tested = at-put2 .before .before in
+    let at-loop = tested .before in
+    let entry = at-loop .before .before .before .before .before .before .before in
+    let l = entry .args .folds .now in
     let i = at-loop .loop .i in
-    let h = c .before .before .before .before .before .before .before .before .before .loop-test .taken in (
+    let h = tested .loop-test .taken in (
       omega (arith, h),
       toward-on (32 ∷ decimal (getD l i 0)) (spaced (drop (i + 1) l) ++ (10 ∷ [])) (at-loop .loop .inv .1) (spaced-at l i h)
-          (wrote-then (c .before .before .before .before .before .before .before .put2 .ensures) (c .before .before .put-decimal .ensures)),
+          (wrote-then (at-put2 .put2 .ensures) (at-put-decimal .put-decimal .ensures)),
     )
 
 put-requires-3 : tie.Need-put-requires-3 Inv-loop μ-loop
 put-requires-3 c κs =
-    let at-loop = c .before .before in
-    let entry = c .before .before .before .before .before .before .before .before .before in
-    let key = c .before .before .before .before .before .put .ensures in
+    let tested = c .before in
+    let at-loop = tested .before in
+    let at-put = at-loop .before .before .before in
+    let entry = at-put .before .before .before .before in
+    let key = at-put .put .ensures in
     let l = entry .args .folds .now in
-    let last = spaced-end l (at-loop .loop .i) (c .before .loop-test .left) in
+    let last = spaced-end l (at-loop .loop .i) (tested .loop-test .left) in
     omega
     (arith, toward-room (10 ∷ []) [] (at-loop .loop .inv .1) last, fold-row-fits l (entry .pre .0), fold-row-length l, entry .pre .1, key .next, key .size)
 
 same-length : tie.Need-same-length Inv-loop μ-loop
-same-length c = omega (arith, c .before .before .put3 .ensures .size, c .before .before .before .before .before .loop .inv .1 .size, c .before .before .before .before .before .before .before .before .put .ensures .size)
+same-length c =
+    let at-put3 = c .before .before in
+    let at-loop = at-put3 .before .before .before in
+    let at-put = at-loop .before .before .before in
+    omega (arith, at-put3 .put3 .ensures .size, at-loop .loop .inv .1 .size, at-put .put .ensures .size)
 
 returns : tie.Need-returns Inv-loop μ-loop
 unfolding foldRow
 returns c =
-    let at-loop = c .before .before .before .before .before in
-    let last = spaced-end (c .before .before .before .before .before .before .before .before .before .before .before .before .args .folds .now) (at-loop .loop .i) (c .before .before .before .before .loop-test .left) in
-    wrote-then (c .before .before .before .before .before .before .before .before .put .ensures) (toward-end (toward-on (10 ∷ []) [] (at-loop .loop .inv .1) last (c .before .before .put3 .ensures)) refl)
+    let at-put3 = c .before .before in
+    let tested = at-put3 .before .before in
+    let at-loop = tested .before in
+    let at-put = at-loop .before .before .before in
+    let entry = at-put .before .before .before .before in
+    let last = spaced-end (entry .args .folds .now) (at-loop .loop .i) (tested .loop-test .left) in
+    wrote-then (at-put .put .ensures) (toward-end (toward-on (10 ∷ []) [] (at-loop .loop .inv .1) last (at-put3 .put3 .ensures)) refl)
 
 pub put-folds-spec : {M : Type 1} → statement M
 put-folds-spec =

@@ -7,16 +7,21 @@ use Rattle.fold_trial.proofs.runs.refuse.Statement.{statement}
 use Rattle.fold_trial.proofs.runs.refuse.Tie as tie
 
 put-decimal-requires : tie.Need-put-decimal-requires
-put-decimal-requires c κs = omega (arith, length-decimal (c .before .before .before .before .before .before .args .f))
+put-decimal-requires c κs =
+    let entry = c .before .before .before .before .before .before in
+    omega (arith, length-decimal (entry .args .f))
 
 put-requires-2 : tie.Need-put-requires-2
-put-requires-2 c κs = omega (arith, length-decimal (c .before .before .before .before .before .before .before .before .before .before .args .f))
+put-requires-2 c κs =
+    let entry = c .before .before .before .before .before .before .before .before .before .before in
+    omega (arith, length-decimal (entry .args .f))
 
 returns : tie.Need-returns
 unfolding refusalRow
 returns c =
-    let second = c .before .before .before .before .before .before in
-    wrote-then (wrote-then (second .before .before .before .before .put .ensures) (second .put-decimal .ensures)) (c .before .before .put2 .ensures)
+    let at-put2 = c .before .before in
+    let second = at-put2 .before .before .before .before in
+    wrote-then (wrote-then (second .before .before .before .before .put .ensures) (second .put-decimal .ensures)) (at-put2 .put2 .ensures)
 
 pub refuse-spec : {M : Type 1} → statement M
 refuse-spec = tie.close (tie.spec (λ c κs. search needs) put-decimal-requires put-requires-2 (λ c. search needs) returns)

@@ -11,54 +11,96 @@ use Rattle.fold_trial.proofs.runs.run.Statement.{statement}
 use Rattle.fold_trial.proofs.runs.run.Tie as tie
 
 returns : tie.Need-returns
-returns c = rw (run-long (c .before .before .before .before .args .input .now) (c .before .before .if1 .taken)) (prints unread-fits (omega arith) (c .not-read .ensures))
+returns c =
+    let at-if1 = c .before .before in
+    let entry = at-if1 .before .before in
+    rw (run-long (entry .args .input .now) (at-if1 .if1 .taken)) (prints unread-fits (omega arith) (c .not-read .ensures))
 
 returns-2 : tie.Need-returns-2
 returns-2 c =
-    let input = c .before .before .before .before .before .before .args .input .now in
-    rw (run-short input (c .before .before .before .row-end .ensures) (c .before .before .before .before .if1 .left) (c .before .before .if2 .taken)) (prints unread-fits (omega arith) (c .not-read2 .ensures))
+    let at-if2 = c .before .before in
+    let at-row-end = at-if2 .before in
+    let at-if1 = at-row-end .before in
+    let entry = at-if1 .before .before in
+    let input = entry .args .input .now in
+    rw (run-short input (at-row-end .row-end .ensures) (at-if1 .if1 .left) (at-if2 .if2 .taken)) (prints unread-fits (omega arith) (c .not-read2 .ensures))
 
 -- the row lies within the input
 sub : tie.Need-sub-read-row
-sub c = omega (arith, row-most (c .before .before .before .before .args .input .now), c .before .row-end .ensures)
+sub c =
+    let at-row-end = c .before in
+    let entry = at-row-end .before .before .before in
+    omega (arith, row-most (entry .args .input .now), at-row-end .row-end .ensures)
 
 start : tie.Need-part-read-row-start
-start c = omega (arith, row-most (c .before .before .before .before .args .input .now), c .before .row-end .ensures)
+start c =
+    let at-row-end = c .before in
+    let entry = at-row-end .before .before .before in
+    omega (arith, row-most (entry .args .input .now), at-row-end .row-end .ensures)
 
 end : tie.Need-part-read-row-end
-end c = omega (arith, row-most (c .before .before .before .before .args .input .now), c .before .row-end .ensures)
+end c =
+    let at-row-end = c .before in
+    let entry = at-row-end .before .before .before in
+    omega (arith, row-most (entry .args .input .now), at-row-end .row-end .ensures)
 
 first : tie.Need-shared-slice-read-by-key
-first c = omega (arith, row-most (c .before .before .before .before .before .before .before .before .before .before .before .before .args .input .now), c .before .before .before .before .before .before .before .before .before .row-end .ensures)
+first c =
+    let at-row-end = c .before .before .before .before .before .before .before .before .before in
+    let entry = at-row-end .before .before .before in
+    omega (arith, row-most (entry .args .input .now), at-row-end .row-end .ensures)
 
 prefix : tie.Need-array-share-prefix-numbers
 prefix c =
-    let w = c .before .before .before .before .before .read-row .ensures in
-    omega (arith, count-within w _ (c .before .before .n .given .1), w .kept)
+    let at-n = c .before .before in
+    let at-read-row = at-n .before .before .before in
+    let w = at-read-row .read-row .ensures in
+    omega (arith, count-within w _ (at-n .n .given .1), w .kept)
 
 lent : tie.Need-slice-aggregate-by-key
-lent c = sym (length-take-le _ _ (count-within (c .before .before .before .before .before .before .read-row .ensures) _ (c .before .before .before .n .given .1)))
+lent c =
+    let at-n = c .before .before .before in
+    let at-read-row = at-n .before .before .before in
+    sym (length-take-le _ _ (count-within (at-read-row .read-row .ensures) _ (at-n .n .given .1)))
 
 sub-2 : tie.Need-sub-by-key
-sub-2 c = omega (arith, row-most (c .before .before .before .before .before .before .before .before .before .before .before .before .before .args .input .now), c .before .before .before .before .before .before .before .before .before .before .row-end .ensures)
+sub-2 c =
+    let at-row-end = c .before .before .before .before .before .before .before .before .before .before in
+    let entry = at-row-end .before .before .before in
+    omega (arith, row-most (entry .args .input .now), at-row-end .row-end .ensures)
 
 start-2 : tie.Need-part-by-key-start
-start-2 c = omega (arith, row-most (c .before .before .before .before .before .before .before .before .before .before .before .before .before .args .input .now), c .before .before .before .before .before .before .before .before .before .before .row-end .ensures)
+start-2 c =
+    let at-row-end = c .before .before .before .before .before .before .before .before .before .before in
+    let entry = at-row-end .before .before .before in
+    omega (arith, row-most (entry .args .input .now), at-row-end .row-end .ensures)
 
 returns-3 : tie.Need-returns-3
 returns-3 c =
-    let input = c .before .before .before .before .before .before .before .before .before .before .before .before .before .before .before .before .args .input .now in
-    let is = c .before .before .before .before .before .before .before .before .before .before .before .before .before .row-end .ensures in
-    rw (run-count input is (c .before .before .before .before .before .before .before .before .before .before .before .before .before .before .if1 .left) (c .before .before .before .before .before .before .before .before .before .before .before .before .if2 .left) (c .before .before .before .before .before .before .before .before .before .read-row .ensures) (length-replicate {A = ℕ} 1024 0) _
-    (c .before .before .before .before .before .before .n .given .1))
+    let at-n = c .before .before .before .before .before .before in
+    let at-read-row = at-n .before .before .before in
+    let at-if2 = at-read-row .before .before .before in
+    let at-row-end = at-if2 .before in
+    let at-if1 = at-row-end .before in
+    let entry = at-if1 .before .before in
+    let input = entry .args .input .now in
+    let is = at-row-end .row-end .ensures in
+    rw (run-count input is (at-if1 .if1 .left) (at-if2 .if2 .left) (at-read-row .read-row .ensures) (length-replicate {A = ℕ} 1024 0) _
+    (at-n .n .given .1))
     (c .by-key .ensures)
 
 returns-4 : tie.Need-returns-4
 returns-4 c =
-    let input = c .before .before .before .before .before .before .before .before .before .before .before .before .args .input .now in
-    let is = c .before .before .before .before .before .before .before .before .before .row-end .ensures in
-    rw (run-malformed input is (c .before .before .before .before .before .before .before .before .before .before .if1 .left) (c .before .before .before .before .before .before .before .before .if2 .left) (c .before .before .before .before .before .read-row .ensures) (length-replicate {A = ℕ} 1024 0)
-    (c .before .before .enum-told .given .1))
+    let at-enum-told = c .before .before in
+    let at-read-row = at-enum-told .before .before .before in
+    let at-if2 = at-read-row .before .before .before in
+    let at-row-end = at-if2 .before in
+    let at-if1 = at-row-end .before in
+    let entry = at-if1 .before .before in
+    let input = entry .args .input .now in
+    let is = at-row-end .row-end .ensures in
+    rw (run-malformed input is (at-if1 .if1 .left) (at-if2 .if2 .left) (at-read-row .read-row .ensures) (length-replicate {A = ℕ} 1024 0)
+    (at-enum-told .enum-told .given .1))
     (prints unread-fits (omega arith) (c .not-read3 .ensures))
 
 pub run-spec : {M : Type 1} → statement M

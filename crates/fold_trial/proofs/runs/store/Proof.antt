@@ -9,21 +9,34 @@ use Rattle.fold_trial.proofs.runs.store.Tie as tie
 
 returns : tie.Need-returns
 returns c =
-    let answered = c .before .before .before .before .before in
-    let entry = c .before .before .before .before .before .before .before .before .before .before in
+    let at-n = c .before in
+    let answered = at-n .before .before .before .before in
+    let entry = answered .before .before .before .before .before in
     let a = entry .args in
-    stored-bytes (a .text .now) (a .folds .now) (a .out .now) (entry .pre) _ _ (sym (answered .write-folds .ensures .0) ∙ c .before .n .given .1)
+    stored-bytes (a .text .now) (a .folds .now) (a .out .now) (entry .pre) _ _ (sym (answered .write-folds .ensures .0) ∙ at-n .n .given .1)
     (answered .write-folds .ensures .1)
 
 returns-2 : tie.Need-returns-2
 returns-2 c =
-    let answered = c .before .before .before .before .before .before .before .before .before in
-    let entry = c .before .before .before .before .before .before .before .before .before .before .before .before .before .before in
+    let at-refuse = c .before .before in
+    let at-f = at-refuse .before .before .before in
+    let answered = at-f .before .before .before .before in
+    let entry = answered .before .before .before .before .before in
     let a = entry .args in
-    let e = sym (answered .write-folds .ensures .0) ∙ c .before .before .before .before .before .f .given .1 in
+    let e = sym (answered .write-folds .ensures .0) ∙ at-f .f .given .1 in
     let kept = answered .write-folds .ensures .1 ∙ stored-kept (a .text .now) (a .folds .now) (a .out .now) (entry .pre) _ e in
     rw (stored-refused (a .text .now) (a .folds .now) (a .out .now) (entry .pre) _ e)
-    (prints (refusal-row-fits _) (ap length kept ∙ entry .pre) (c .before .before .refuse .ensures))
+    (prints (refusal-row-fits _) (ap length kept ∙ entry .pre) (at-refuse .refuse .ensures))
 
 pub store-spec : {M : Type 1} → statement M
-store-spec = tie.close (tie.spec (λ c κs. search needs) (λ c. search needs) (λ c. search needs) (λ c κs. search needs) (λ c. search needs) returns (λ c. search needs) returns-2)
+store-spec =
+    tie.close
+    (tie.spec
+    (λ c κs. search needs)
+    (λ c. search needs)
+    (λ c. search needs)
+    (λ c κs. search needs)
+    (λ c. search needs)
+    returns
+    (λ c. search needs)
+    returns-2)

@@ -9,16 +9,24 @@ use Rattle.fold_trial.proofs.runs.store_in.Tie as tie
 
 returns : tie.Need-returns
 returns c =
-    let a = c .before .before .before .before .before .before .before .before .before .before .before .before .before .before .args in
-    let good = check-good (a .bytes .now) (sym (c .before .before .before .before .before .before .before .before .enum-told .given .1) ∙ c .before .before .before .before .before .before .before .before .before .before .check .ensures) in
-    rw (store-good (a .bytes .now) (a .folds .now) good) (rw (c .before .before .before .before .before .before .read-text .ensures .front) at (c .before .before .store .ensures))
+    let at-store = c .before .before in
+    let at-read-text = at-store .before .before .before .before in
+    let at-enum-told = at-read-text .before .before in
+    let at-check = at-enum-told .before .before in
+    let entry = at-check .before .before .before .before in
+    let a = entry .args in
+    let good = check-good (a .bytes .now) (sym (at-enum-told .enum-told .given .1) ∙ at-check .check .ensures) in
+    rw (store-good (a .bytes .now) (a .folds .now) good) (rw (at-read-text .read-text .ensures .front) at (at-store .store .ensures))
 
 returns-2 : tie.Need-returns-2
 returns-2 c =
-    let entry = c .before .before .before .before .before .before .before .before .before .before in
+    let at-not-read = c .before .before in
+    let at-enum-told2 = at-not-read .before .before in
+    let at-check = at-enum-told2 .before .before in
+    let entry = at-check .before .before .before .before in
     let a = entry .args in
-    let bad = check-bad (a .bytes .now) (sym (c .before .before .before .before .enum-told2 .given .1) ∙ c .before .before .before .before .before .before .check .ensures) in
-    rw (store-bad (a .bytes .now) (a .folds .now) bad) (prints unread-fits (entry .pre .1) (c .before .before .not-read .ensures))
+    let bad = check-bad (a .bytes .now) (sym (at-enum-told2 .enum-told2 .given .1) ∙ at-check .check .ensures) in
+    rw (store-bad (a .bytes .now) (a .folds .now) bad) (prints unread-fits (entry .pre .1) (at-not-read .not-read .ensures))
 
 pub store-in-spec : {M : Type 1} → statement M
 store-in-spec =
