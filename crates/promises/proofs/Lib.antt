@@ -17,3 +17,4 @@ pub mod CountsAdd
 pub mod Methods
 pub mod Apart
 pub mod Remembering
+pub mod ByClass

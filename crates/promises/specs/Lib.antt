@@ -12,3 +12,4 @@ pub mod CountsAdd
 pub mod Methods
 pub mod Apart
 pub mod Remembering
+pub mod ByClass
