@@ -7,3 +7,4 @@ pub mod Places
 pub mod Lists
 pub mod Written
 pub mod Again
+pub mod Common
