@@ -152,6 +152,30 @@ uint32_t tsivareza_delete(uint32_t *text, size_t text_len, uint32_t *folds, size
                           uint32_t col, uint32_t end_row, uint32_t end_col, uint32_t caret[6],
                           uint32_t sizes[2]);
 
+/* Row starts: puts where each row of the text starts into the first places of `starts`, the last empty row
+ * too, and how many rows have content into out[0]. Places behind the rows stay. Refused with 1, 2, 3, and
+ * with 15 where there are fewer places than rows. */
+uint32_t tsivareza_row_starts_u32(const uint32_t *text, size_t text_len, uint32_t *starts, size_t starts_len,
+                                  uint32_t out[1]);
+uint32_t tsivareza_row_starts(const uint8_t *text, size_t text_len, uint32_t *room, size_t room_len,
+                              uint32_t *starts, size_t starts_len, uint32_t out[1]);
+
+/* Edits that keep them: as insert and delete above, and `starts` and sizes[2], how many rows have content,
+ * are those of the new text then. Places of `starts` that become free are 0. After 12 they are refused
+ * with 15 where `starts` has fewer places than the text has rows, before the edit or after it, and with 16
+ * where it or sizes[2] is not the text's. */
+uint32_t tsivareza_insert_rows_u32(uint32_t *text, size_t text_len, uint32_t *folds, size_t folds_len,
+                                   uint32_t *starts, size_t starts_len, const uint32_t *points,
+                                   size_t points_len, uint32_t row, uint32_t col, uint32_t caret[6],
+                                   uint32_t sizes[3]);
+uint32_t tsivareza_insert_rows(uint32_t *text, size_t text_len, uint32_t *folds, size_t folds_len,
+                               uint32_t *starts, size_t starts_len, const uint8_t *points, size_t points_len,
+                               uint32_t *room, size_t room_len, uint32_t row, uint32_t col, uint32_t caret[6],
+                               uint32_t sizes[3]);
+uint32_t tsivareza_delete_rows(uint32_t *text, size_t text_len, uint32_t *folds, size_t folds_len,
+                               uint32_t *starts, size_t starts_len, uint32_t row, uint32_t col,
+                               uint32_t end_row, uint32_t end_col, uint32_t caret[6], uint32_t sizes[3]);
+
 /* Motions of a text and a caret; a count of 0 acts as the Rust has it. */
 enum {
     TSIVAREZA_MOVE_LEFT,

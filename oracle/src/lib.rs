@@ -1,8 +1,8 @@
 //! What the given Rust answers, on plain values: the judge of the port's answers.
 //!
 //! `calls` has one function per public call, `refusals` the refusal table of document 01, written
-//! apart from it, `pairs`, `plus`, `kept`, `edits`, `fold_file` and `classes` what document 02 adds on pairs, on plus signs, on screen moves that
-//! remember, on edits, on fold files and on the classes of places,
+//! apart from it, `pairs`, `plus`, `kept`, `edits`, `row_table`, `fold_file` and `classes` what document 02 adds on pairs, on plus signs, on screen moves
+//! that remember, on edits, on row starts that are kept, on fold files and on the classes of places,
 //! from its words, `case` a call with its inputs as one line of text, `generate` cases from a seed and small families,
 //! `replay` the list that the program `replay` runs, `session` document 01's
 //! session over the given motions, `utf8` RFC 3629's tables and `std::str`, `wide` the calls on widths under the setting
@@ -20,6 +20,7 @@ pub mod plus;
 pub mod refusals;
 pub mod replay;
 pub mod replay_buffers;
+pub mod row_table;
 pub mod session;
 pub mod utf8;
 pub mod wide;

@@ -25,6 +25,7 @@ mod rows;
 mod runs;
 mod seeks;
 mod signs;
+mod tables;
 mod tabs;
 mod terms;
 mod upright;

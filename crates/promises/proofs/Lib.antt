@@ -4,6 +4,7 @@ pub mod Runs
 pub mod Codings
 pub mod Entries
 pub mod Buffers
+pub mod ResultTables
 pub mod Results
 pub mod Landings
 pub mod KeyMoves

@@ -8,6 +8,7 @@ use Rattle.text.specs.declared.Position.{Position}
 use Rattle.call_bytes.specs.Reply.{unfitOne}
 use Rattle.call_edits.specs.Bytes.{EditsFilled}
 use Rattle.promises.specs.Results.{OneResult}
+use Rattle.promises.proofs.ResultTables.{fills-one, keeps-one}
 
 -- an edit on bytes: of those that are fit, and of those that are not
 filled-one : {buf fold : List ℕ} {p : Position} {s room caret sizes : List ℕ} {x y : ℕ × List ℕ × List ℕ × List ℕ × List ℕ × List ℕ} →
@@ -73,4 +74,26 @@ one-result =
         (a .sizes-left .out-left ∙ sym (b .sizes-left .out-left)) i,
       );
       edited-filled = λ buf fold p s room caret sizes x y a b. filled-one (ℕ-discrete (unfitOne s room) 0) a b;
+      filled = λ t table x y a b. λ i. ((a .answer ∙ sym (b .answer)) i, (a .table ∙ sym (b .table)) i);
+      host-filled = λ t table out x y a b. λ i. (
+        (a .out-left .numbered ∙ sym (b .out-left .numbered)) i,
+        (a .starts-left ∙ sym (b .starts-left)) i,
+        (a .out-left .out-left ∙ sym (b .out-left .out-left)) i,
+      );
+      filled-filled = λ s room table out x y a b. fills-one (ℕ-discrete (unfitOne s room) 0) a b;
+      kept = λ buf fold table s content p q c k x y a b. λ i. (
+        (a .answer ∙ sym (b .answer)) i,
+        (a .text ∙ sym (b .text)) i,
+        (a .folds ∙ sym (b .folds)) i,
+        (a .starts ∙ sym (b .starts)) i,
+      );
+      host-kept = λ buf fold table p q c caret sizes x y a b. λ i. (
+        (a .caret-left .numbered ∙ sym (b .caret-left .numbered)) i,
+        (a .text-left ∙ sym (b .text-left)) i,
+        (a .folds-left ∙ sym (b .folds-left)) i,
+        (a .starts-left ∙ sym (b .starts-left)) i,
+        (a .caret-left .out-left ∙ sym (b .caret-left .out-left)) i,
+        (a .sizes-left .out-left ∙ sym (b .sizes-left .out-left)) i,
+      );
+      kept-filled = λ buf fold table p s room caret sizes x y a b. keeps-one (ℕ-discrete (unfitOne s room) 0) a b;
     }

@@ -17,6 +17,12 @@ use Rattle.edits.specs.declared.Edited.{Edited}
 use Rattle.edits.specs.Edits.{EditsTo}
 use Rattle.call_edits.specs.Edits.{HostEdits}
 use Rattle.call_edits.specs.Bytes.{EditsFilled}
+use Rattle.text.specs.declared.Counted.{Counted}
+use Rattle.row_table.specs.Fill.{FillsTo}
+use Rattle.edit_rows.specs.declared.EditedRows.{EditedRows}
+use Rattle.edit_rows.specs.Rows.{KeepsTo}
+use Rattle.call_row_table.specs.Tables.{HostFills, HostKeeps}
+use Rattle.call_row_table.specs.Bytes.{FillsFilled, KeepsFilled}
 
 -- a contract allows one result at most
 abbrev pub One : {A : Type 0} → (A → Type 0) → Type 0
@@ -47,3 +53,15 @@ pub record OneResult : Type 1 where
       One (λ (x : ℕ × List ℕ × List ℕ × List ℕ × List ℕ). HostEdits buf fold p q c caret sizes (x .0) (x .1) (x .2) (x .3) (x .4))
   pub edited-filled : (buf fold : List ℕ) (p : Position) (s room caret sizes : List ℕ) →
       One (λ (x : ℕ × List ℕ × List ℕ × List ℕ × List ℕ × List ℕ). EditsFilled buf fold p s room caret sizes (x .0) (x .1) (x .2) (x .3) (x .4) (x .5))
+  -- a table filled: the answer, and every place of it; for hosts the number, the table and the places for the answer, and on bytes the room
+  pub filled : (t table : List ℕ) → One (λ (x : Counted × List ℕ). FillsTo t table (x .0) (x .1))
+  pub host-filled : (t table out : List ℕ) → One (λ (x : ℕ × List ℕ × List ℕ). HostFills t table out (x .0) (x .1) (x .2))
+  pub filled-filled : (s room table out : List ℕ) →
+      One (λ (x : ℕ × List ℕ × List ℕ × List ℕ). FillsFilled s room table out (x .0) (x .1) (x .2) (x .3))
+  -- an edit that keeps a table: as an edit, and every place of the table
+  pub kept : (buf fold table : List ℕ) (s : Sizes) (content : ℕ) (p q : Position) (c : List ℕ) (k : Caret) →
+      One (λ (x : EditedRows × List ℕ × List ℕ × List ℕ). KeepsTo buf fold table s content p q c k (x .0) (x .1) (x .2) (x .3))
+  pub host-kept : (buf fold table : List ℕ) (p q : Position) (c caret sizes : List ℕ) →
+      One (λ (x : ℕ × List ℕ × List ℕ × List ℕ × List ℕ × List ℕ). HostKeeps buf fold table p q c caret sizes (x .0) (x .1) (x .2) (x .3) (x .4) (x .5))
+  pub kept-filled : (buf fold at : List ℕ) (p : Position) (s room k z : List ℕ) →
+      One (λ (x : ℕ × List ℕ × List ℕ × List ℕ × List ℕ × List ℕ × List ℕ). KeepsFilled buf fold at p s room k z (x .0) (x .1) (x .2) (x .3) (x .4) (x .5) (x .6))

@@ -22,6 +22,7 @@ mod fold_files;
 mod inner;
 mod kept;
 mod raw;
+mod row_table;
 mod signs;
 mod upright;
 
@@ -38,6 +39,7 @@ pub use encodings::{utf8_decode, utf8_encode};
 pub use fold_files::{folds_read, folds_write};
 pub use inner::{Kind, Range, Ranges, inner_pair};
 pub use kept::{Kept, ScreenKept, screen_kept, screen_kept_as};
+pub use row_table::{TabledPage, row_starts};
 pub use signs::{Enter, enter, without_plus};
 pub use upright::{Steps, Vertical, Viewport, vertical, vertical_as, viewport};
 

@@ -233,6 +233,66 @@ unsafe extern "C" {
         caret: *mut [u32; 6],
         sizes: *mut [u32; 2],
     ) -> u32;
+    pub fn tsivareza_row_starts(
+        text: *const u8,
+        text_len: usize,
+        room: *mut u32,
+        room_len: usize,
+        starts: *mut u32,
+        starts_len: usize,
+        out: *mut [u32; 1],
+    ) -> u32;
+    pub fn tsivareza_row_starts_u32(
+        text: *const u32,
+        text_len: usize,
+        starts: *mut u32,
+        starts_len: usize,
+        out: *mut [u32; 1],
+    ) -> u32;
+    pub fn tsivareza_insert_rows(
+        text: *mut u32,
+        text_len: usize,
+        folds: *mut u32,
+        folds_len: usize,
+        starts: *mut u32,
+        starts_len: usize,
+        points: *const u8,
+        points_len: usize,
+        room: *mut u32,
+        room_len: usize,
+        row: u32,
+        col: u32,
+        caret: *mut [u32; 6],
+        sizes: *mut [u32; 3],
+    ) -> u32;
+    pub fn tsivareza_insert_rows_u32(
+        text: *mut u32,
+        text_len: usize,
+        folds: *mut u32,
+        folds_len: usize,
+        starts: *mut u32,
+        starts_len: usize,
+        points: *const u32,
+        points_len: usize,
+        row: u32,
+        col: u32,
+        caret: *mut [u32; 6],
+        sizes: *mut [u32; 3],
+    ) -> u32;
+    pub fn tsivareza_delete_rows(
+        text: *mut u32,
+        text_len: usize,
+        folds: *mut u32,
+        folds_len: usize,
+        starts: *mut u32,
+        starts_len: usize,
+        row: u32,
+        col: u32,
+        end_row: u32,
+        end_col: u32,
+        caret: *mut [u32; 6],
+        sizes: *mut [u32; 3],
+    ) -> u32;
     pub fn tsivareza_inner_pair(
         kind: u32,
         text: *const u8,

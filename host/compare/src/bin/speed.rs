@@ -197,6 +197,40 @@ fn edits() {
     }
 }
 
+/// The same edits with a table of row starts and without, and filling that table, by the library.
+fn row_table() {
+    println!("\n## Edits that keep the row starts\n\n| Code points | Call | With the table | Without | Ratio |\n|---|---|---|---|---|");
+    let points = [0x61, 0x0A, 0x61];
+    for (_, n) in SIZES.map(|(what, n)| (what, n - 3)) {
+        let text = prose(n, false);
+        let at = ((n / 120) as u32, 5);
+        let to = (at.0 + 1, 1);
+        let mut page = tsivareza::Page { text: [&text[..], &[0; 3]].concat(), folds: vec![], caret: [0; 6], sizes: [n as u32, 0] };
+        let mut table = vec![0; n + 1];
+        let content = tsivareza::row_starts(&text, &mut table).expect("a fill");
+        let mut host = tsivareza::TabledPage { page: page.clone(), table: table.clone(), content };
+        let least = |times: &[f64]| times.iter().copied().fold(f64::MAX, f64::min);
+        let timed = |call: &mut dyn FnMut()| {
+            let start = Instant::now();
+            call();
+            start.elapsed().as_nanos() as f64
+        };
+        let mut all: [Vec<f64>; 5] = Default::default();
+        for _ in 0..31 {
+            all[0].push(timed(&mut || black_box(host.insert(&points, at)).expect("an insert")));
+            all[1].push(timed(&mut || black_box(page.insert(&points, at)).expect("an insert")));
+            all[2].push(timed(&mut || black_box(host.delete(at, to)).expect("a delete")));
+            all[3].push(timed(&mut || black_box(page.delete(at, to)).expect("a delete")));
+            all[4].push(timed(&mut || drop(black_box(tsivareza::row_starts(&text, &mut table)))));
+        }
+        for (what, with, without) in [("insert of 3", &all[0], &all[1]), ("delete of 3", &all[2], &all[3])] {
+            let (with, without) = (least(with), least(without));
+            println!("| {n} | {what} | {} | {} | {:.2} |", shown(with), shown(without), with / without);
+        }
+        println!("| {n} | fill | {} | | |", shown(least(&all[4])));
+    }
+}
+
 /// What could grow faster than the text: one row of many segments, and many folds over many rows.
 fn growth() -> Result<(), String> {
     let n = SIZES[2].1;
@@ -395,6 +429,7 @@ fn main() {
         Some("widths") => widths(),
         Some("engines") => engines(),
         Some("edits") => Ok(edits()),
+        Some("rows") => Ok(row_table()),
         Some("check") => Ok(check()),
         _ => table()
             .and_then(|()| letters())
@@ -403,7 +438,8 @@ fn main() {
             .and_then(|()| pairs())
             .and_then(|()| widths())
             .and_then(|()| engines())
-            .map(|()| edits()),
+            .map(|()| edits())
+            .map(|()| row_table()),
     };
     if let Err(why) = done {
         eprintln!("speed: {why}");

@@ -1,0 +1,220 @@
+//! The table of row starts, filled and kept, against the naive one of the oracle, which counts anew after each edit.
+//! `./compare --row-table --help` says how.
+
+use oracle::edits;
+use oracle::generate::{self, Dice};
+use oracle::row_table::{Tabled, counted, fill};
+use std::process::ExitCode;
+use tsivareza::{Page, Room, TabledPage, bytes, row_starts};
+
+const HELP: &str = "\
+./compare --row-table [--runs N] [--seed S] [--small MOST]
+    every text of up to MOST code points (4) with tables exact, one short and longer; with every stretch,
+    inserts of up to 2, and tables and counts that are right, damaged at each place and beside another
+    count; N random runs of edits from the seed S (300 from 1) with a count anew after each; damaged texts;
+    the limits";
+
+struct Count {
+    room: Room,
+    fills: u64,
+    edits: u64,
+    differ: u64,
+}
+
+#[derive(Clone, Copy, Debug)]
+enum Edit<'a> {
+    Insert(&'a [u32], (u32, u32)),
+    Delete((u32, u32), (u32, u32)),
+}
+
+fn ours(h: &Tabled) -> TabledPage {
+    let p = &h.page;
+    let page = Page { text: p.text.clone(), folds: p.folds.clone(), caret: p.caret, sizes: p.sizes };
+    TabledPage { page, table: h.table.clone(), content: h.content }
+}
+
+impl Count {
+    fn told(&mut self, same: bool, what: impl FnOnce() -> String) {
+        if !same {
+            self.differ += 1;
+            if self.differ == 1 {
+                println!("differs: {}", what());
+            }
+        }
+    }
+
+    /// A fill in each form: the answer, and every place of the table.
+    fn fill(&mut self, text: &[u32], table: &[u32]) {
+        self.fills += 1;
+        let (mut wanted, mut first, mut second) = (table.to_vec(), table.to_vec(), table.to_vec());
+        let answer = fill(text, &mut wanted);
+        let (on_points, on_bytes) = (row_starts(text, &mut first), self.room.row_starts(&bytes(text), &mut second));
+        let same = (on_points, &first) == (answer, &wanted) && (on_bytes, &second) == (answer, &wanted);
+        self.told(same, || format!("the rows of {text:?} into {table:?}: {on_points:?} {first:?}, and not {answer:?} {wanted:?}"));
+    }
+
+    /// One edit, in each form: the number, and every place of all that is lent.
+    fn edit(&mut self, host: &mut Tabled, edit: Edit) -> u32 {
+        self.edits += 1;
+        let (mut first, mut second) = (ours(host), ours(host));
+        let before = host.clone();
+        let (wanted, on_points, on_bytes) = match edit {
+            Edit::Insert(points, at) => {
+                let wanted = host.insert(points, at);
+                (wanted, first.insert(points, at), self.room.insert_rows(&mut second, &bytes(points), at))
+            }
+            Edit::Delete(from, to) => (host.delete(from, to), first.delete(from, to), second.delete(from, to)),
+        };
+        let number = |r: Result<(), u32>| r.err().unwrap_or(0);
+        let same = (number(on_points), &first) == (wanted, &ours(host)) && (number(on_bytes), &second) == (wanted, &ours(host));
+        self.told(same, || format!("{edit:?} of {before:?}: {on_points:?} {first:?}, and not {wanted} {host:?}"));
+        wanted
+    }
+}
+
+/// The positions of a text, and some that lie outside it.
+fn places(text: &[u32]) -> Vec<(u32, u32)> {
+    let rows: Vec<usize> = text.split(|&x| x == 10).map(<[u32]>::len).collect();
+    let in_rows = rows.iter().enumerate().flat_map(|(r, &n)| (0..=n + 1).map(move |c| (r as u32, c as u32)));
+    in_rows.chain([(rows.len() as u32, 0)]).collect()
+}
+
+/// Tables and counts for a text: its own in tables of several lengths, and damaged ones.
+fn tables(text: &[u32]) -> Vec<(Vec<u32>, u32)> {
+    let (starts, content) = counted(text);
+    let mut all = Vec::new();
+    for more in [0, 1, 3] {
+        let mut table = starts.clone();
+        table.resize(starts.len() + more, 777);
+        all.push((table, content));
+    }
+    all.push((starts[..starts.len() - 1].to_vec(), content));
+    all.extend([(starts.clone(), content + 1), (starts.clone(), content.wrapping_sub(1))]);
+    for place in 0..starts.len() {
+        for wrong in [0, 1, starts[place].wrapping_sub(1), starts[place] + 1, text.len() as u32, u32::MAX] {
+            let mut table = starts.clone();
+            table[place] = wrong;
+            table.push(5);
+            all.push((table, content));
+        }
+    }
+    all
+}
+
+fn small(count: &mut Count, most: usize) {
+    let put = generate::texts(&[0x62, 0x0A], 2);
+    for text in generate::texts(&[0x61, 0x0A], most) {
+        for length in 0..text.len() + 3 {
+            count.fill(&text, &vec![9; length]);
+        }
+        let places = places(&text);
+        for (table, content) in tables(&text) {
+            let mut buffer = text.clone();
+            buffer.resize(text.len() + 1, 7);
+            let page = edits::Page { text: buffer, folds: vec![0, 0, 1, 9], caret: [0; 6], sizes: [text.len() as u32, 1] };
+            let host = Tabled { page, table, content };
+            for &from in &places {
+                for points in &put {
+                    count.edit(&mut host.clone(), Edit::Insert(points, from));
+                }
+                for &to in &places {
+                    count.edit(&mut host.clone(), Edit::Delete(from, to));
+                }
+            }
+        }
+    }
+}
+
+/// A run of edits from a fresh fill, refused ones among them; now and then the table is damaged, and filled again.
+fn run(count: &mut Count, dice: &mut Dice) {
+    let (room, places_held) = (dice.pick(&[4, 12, 40, 200]), dice.pick(&[1, 2, 6, 60]));
+    let page = edits::Page { text: vec![3; room], folds: vec![6; 9], caret: [0; 6], sizes: [0, 0] };
+    let mut host = Tabled { page, table: vec![8; places_held], content: 0 };
+    host.content = fill(&[], &mut host.table).expect("a fill");
+    for _ in 0..40 {
+        let text = host.page.text[..host.page.sizes[0] as usize].to_vec();
+        let places = places(&text);
+        let at = dice.pick(&places);
+        if dice.once_in(9) {
+            let place = dice.below(host.table.len());
+            host.table[place] = dice.pick(&[0, 1, 2, 5, u32::MAX]);
+        }
+        if dice.once_in(3) {
+            let to = dice.pick(&places);
+            let (from, to) = if dice.once_in(8) { (at, to) } else { (at.min(to), at.max(to)) };
+            count.edit(&mut host, Edit::Delete(from, to));
+        } else {
+            let mut points: Vec<u32> = (0..dice.below(9)).map(|_| dice.pick(&[0x61, 0x62, 0x0A, 0x0A, 0xE9])).collect();
+            if dice.once_in(12) {
+                points.push(dice.pick(&[0x0D, 0x2028, 0xD800, 0x11_0000]));
+            }
+            count.edit(&mut host, Edit::Insert(&points, at));
+        }
+        let text = host.page.text[..host.page.sizes[0] as usize].to_vec();
+        count.fill(&text, &host.table);
+        if let Ok(content) = fill(&text, &mut host.table) {
+            host.content = content;
+        }
+    }
+}
+
+/// Texts that are refused, and the longest.
+fn limits(count: &mut Count) {
+    const LIMIT: usize = 1_048_576;
+    for wrong in [0x0D, 0x2028, 0xD800, 0x11_0000] {
+        count.fill(&[0x61, wrong], &[9; 3]);
+        count.fill(&[0x61, wrong], &[]);
+    }
+    for (text, places) in [(vec![0x0A; LIMIT], LIMIT + 1), (vec![0x0A; LIMIT], LIMIT), (vec![0x61; LIMIT + 1], 1), (vec![0x61; LIMIT], 1)] {
+        count.fill(&text, &vec![9; places]);
+    }
+    let (table, content) = counted(&vec![0x0A; LIMIT]);
+    let page = edits::Page { text: vec![0x0A; LIMIT], folds: vec![], caret: [0; 6], sizes: [LIMIT as u32, 0] };
+    let mut host = Tabled { page, table, content };
+    count.edit(&mut host, Edit::Insert(&[0x0A], (3, 0)));
+    count.edit(&mut host, Edit::Delete((3, 0), (1_000_000, 0)));
+    count.edit(&mut host, Edit::Insert(&[0x61; 7], (2, 0)));
+    count.edit(&mut host, Edit::Insert(&vec![0x0A; 999_990], (0, 0)));
+}
+
+fn asked(words: &[String]) -> Result<Count, String> {
+    let (mut runs, mut seed, mut most) = (300, 1, 4);
+    let mut words = words.iter();
+    while let Some(word) = words.next() {
+        let mut number = || -> Result<u64, String> {
+            let value = words.next().ok_or(format!("{word} wants a number"))?;
+            value.parse().map_err(|_| format!("`{value}` is no number"))
+        };
+        match word.as_str() {
+            "--runs" => runs = number()?,
+            "--seed" => seed = number()?,
+            "--small" => most = number()? as usize,
+            word => return Err(format!("`{word}` is not known\n{HELP}")),
+        }
+    }
+    let mut count = Count { room: Room::new(1_100_000), fills: 0, edits: 0, differ: 0 };
+    small(&mut count, most);
+    limits(&mut count);
+    for i in 0..runs {
+        run(&mut count, &mut Dice::new(seed, i));
+    }
+    Ok(count)
+}
+
+fn main() -> ExitCode {
+    let words: Vec<String> = std::env::args().skip(1).collect();
+    if words.first().is_some_and(|word| word == "--help") {
+        println!("{HELP}");
+        return ExitCode::SUCCESS;
+    }
+    match asked(&words) {
+        Ok(Count { fills, edits, differ, .. }) => {
+            println!("row table: {fills} fills, {edits} edits, {differ} differ");
+            ExitCode::from(u8::from(differ != 0))
+        }
+        Err(why) => {
+            eprintln!("row_table: {why}");
+            ExitCode::from(2)
+        }
+    }
+}
