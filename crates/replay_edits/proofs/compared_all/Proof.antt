@@ -13,43 +13,65 @@ second c κs = let p = c .before .before .before .put-all .ensures in omega (ari
 
 third : tie.Need-put-all-requires-3
 third c κs =
-    let p = c .before .before .before .before .before .before .put-all .ensures in
-    let q = c .before .before .put-all2 .ensures in
-    omega (arith, p .next, p .size, q .next, q .size, c .before .before .before .before .before .before .before .before .before .before .before .before .pre .0)
+    let at-put-all2 = c .before .before in
+    let at-put-all = at-put-all2 .before .before .before .before in
+    let entry = at-put-all .before .before .before .before .before .before in
+    let p = at-put-all .put-all .ensures in
+    let q = at-put-all2 .put-all2 .ensures in
+    omega (arith, p .next, p .size, q .next, q .size, entry .pre .0)
 
 fourth : tie.Need-put-all-requires-4
 fourth c κs =
-    let p = c .before .before .before .before .before .before .before .before .before .put-all .ensures in
-    let q = c .before .before .before .before .before .put-all2 .ensures in
-    let r = c .before .before .put-all3 .ensures in
-    omega (arith, p .next, p .size, q .next, q .size, r .next, r .size, c .before .before .before .before .before .before .before .before .before .before .before .before .before .before .before .pre .0, c .before .before .before .before .before .before .before .before .before .before .before .before .before .before .before .pre .1)
+    let at-put-all3 = c .before .before in
+    let at-put-all2 = at-put-all3 .before .before .before in
+    let at-put-all = at-put-all2 .before .before .before .before in
+    let entry = at-put-all .before .before .before .before .before .before in
+    let p = at-put-all .put-all .ensures in
+    let q = at-put-all2 .put-all2 .ensures in
+    let r = at-put-all3 .put-all3 .ensures in
+    omega (arith, p .next, p .size, q .next, q .size, r .next, r .size, entry .pre .0, entry .pre .1)
 
 prefix : tie.Need-array-share-prefix-all
 prefix c =
-    let p = c .before .before .before .before .before .before .before .before .before .before .before .put-all .ensures in
-    let q = c .before .before .before .before .before .before .before .put-all2 .ensures in
-    let r = c .before .before .before .before .put-all3 .ensures in
-    let s = c .before .put-all4 .ensures in
-    omega (arith, p .next, q .next, r .next, s .next, c .before .before .before .before .before .before .before .before .before .before .before .before .before .before .before .before .before .pre .0, c .before .before .before .before .before .before .before .before .before .before .before .before .before .before .before .before .before .pre .1)
+    let at-put-all4 = c .before in
+    let at-put-all3 = at-put-all4 .before .before .before in
+    let at-put-all2 = at-put-all3 .before .before .before in
+    let at-put-all = at-put-all2 .before .before .before .before in
+    let entry = at-put-all .before .before .before .before .before .before in
+    let p = at-put-all .put-all .ensures in
+    let q = at-put-all2 .put-all2 .ensures in
+    let r = at-put-all3 .put-all3 .ensures in
+    let s = at-put-all4 .put-all4 .ensures in
+    omega (arith, p .next, q .next, r .next, s .next, entry .pre .0, entry .pre .1)
 
 lent : tie.Need-slice-aggregate-compared
 lent c =
-    let p = c .before .before .before .before .before .before .before .before .before .before .before .before .put-all .ensures in
-    let q = c .before .before .before .before .before .before .before .before .put-all2 .ensures in
-    let r = c .before .before .before .before .before .put-all3 .ensures in
-    let s = c .before .before .put-all4 .ensures in
+    let at-put-all4 = c .before .before in
+    let at-put-all3 = at-put-all4 .before .before .before in
+    let at-put-all2 = at-put-all3 .before .before .before in
+    let at-put-all = at-put-all2 .before .before .before .before in
+    let entry = at-put-all .before .before .before .before .before .before in
+    let p = at-put-all .put-all .ensures in
+    let q = at-put-all2 .put-all2 .ensures in
+    let r = at-put-all3 .put-all3 .ensures in
+    let s = at-put-all4 .put-all4 .ensures in
     sym
     (length-take-le _ _
-    (omega (arith, p .next, p .size, q .next, q .size, r .next, r .size, s .next, s .size, c .before .before .before .before .before .before .before .before .before .before .before .before .before .before .before .before .before .before .pre .0, c .before .before .before .before .before .before .before .before .before .before .before .before .before .before .before .before .before .before .pre .1)))
+    (omega (arith, p .next, p .size, q .next, q .size, r .next, r .size, s .next, s .size, entry .pre .0, entry .pre .1)))
 
 returns : tie.Need-returns
 returns c =
-    let p = c .before .before .before .before .before .before .before .before .before .before .before .before .before .put-all .ensures in
-    let q = c .before .before .before .before .before .before .before .before .before .put-all2 .ensures in
-    let r = c .before .before .before .before .before .before .put-all3 .ensures in
-    let s = c .before .before .before .put-all4 .ensures in
+    let at-put-all4 = c .before .before .before in
+    let at-put-all3 = at-put-all4 .before .before .before in
+    let at-put-all2 = at-put-all3 .before .before .before in
+    let at-put-all = at-put-all2 .before .before .before .before in
+    let entry = at-put-all .before .before .before .before .before .before in
+    let p = at-put-all .put-all .ensures in
+    let q = at-put-all2 .put-all2 .ensures in
+    let r = at-put-all3 .put-all3 .ensures in
+    let s = at-put-all4 .put-all4 .ensures in
     let all = wrote-then (wrote-then (wrote-then p q) r) s in
-    let front = written-front all (omega (arith, all .next, p .next, q .next, r .next, s .next, c .before .before .before .before .before .before .before .before .before .before .before .before .before .before .before .before .before .before .before .pre .0, c .before .before .before .before .before .before .before .before .before .before .before .before .before .before .before .before .before .before .before .pre .1)) in
+    let front = written-front all (omega (arith, all .next, p .next, q .next, r .next, s .next, entry .pre .0, entry .pre .1)) in
     rw front at (c .compared .ensures)
 
 pub compared-all-spec : {M : Type 1} → statement M

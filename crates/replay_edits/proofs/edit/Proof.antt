@@ -18,24 +18,39 @@ unfolding editVerdict
 returns-2 c = rw (le-leb _ 64 (c .before .if1 .left), lt-leb _ 64 (c .if2 .taken))
 
 lent : tie.Need-slice-aggregate-edit-into
-lent c = sym (length-take-le _ _ (omega (arith, c .before .before .before .before .before .put-all .ensures .size, c .before .before .before .before .before .before .before .before .if1 .left)))
+lent c =
+    let at-put-all = c .before .before .before .before .before in
+    let at-if1 = at-put-all .before .before .before in
+    sym (length-take-le _ _ (omega (arith, at-put-all .put-all .ensures .size, at-if1 .if1 .left)))
 
 lent-2 : tie.Need-slice-aggregate-edit-into-2
-lent-2 c = sym (length-take-le _ _ (omega (arith, c .before .before .before .put-all2 .ensures .size, c .before .before .before .before .before .before .before .before .if2 .left)))
+lent-2 c =
+    let at-put-all2 = c .before .before .before in
+    let at-if2 = at-put-all2 .before .before .before .before .before in
+    sym (length-take-le _ _ (omega (arith, at-put-all2 .put-all2 .ensures .size, at-if2 .if2 .left)))
 
 edit-into-requires : tie.Need-edit-into-requires
 edit-into-requires c κs =
-    let text-fits = c .before .before .before .before .before .before .before .before .before .if1 .left in
-    let folds-fit = c .before .before .before .before .before .before .before .before .if2 .left in
-    (rw (lent-front (c .before .before .before .before .before .before .put-all .ensures) text-fits) text-fits, rw (lent-front (c .before .before .before .put-all2 .ensures) folds-fit) folds-fit)
+    let at-put-all2 = c .before .before .before in
+    let at-put-all = at-put-all2 .before .before .before in
+    let at-if2 = at-put-all .before .before in
+    let at-if1 = at-if2 .before in
+    let text-fits = at-if1 .if1 .left in
+    let folds-fit = at-if2 .if2 .left in
+    (rw (lent-front (at-put-all .put-all .ensures) text-fits) text-fits, rw (lent-front (at-put-all2 .put-all2 .ensures) folds-fit) folds-fit)
 
 returns-3 : tie.Need-returns-3
 unfolding editVerdict
 returns-3 c =
-    let text-fits = c .before .before .before .before .before .before .before .before .before .before .before .before .if1 .left in
-    let folds-fit = c .before .before .before .before .before .before .before .before .before .before .before .if2 .left in
+    let at-edit-into = c .before .before in
+    let at-put-all2 = at-edit-into .before .before .before .before in
+    let at-put-all = at-put-all2 .before .before .before in
+    let at-if2 = at-put-all .before .before in
+    let at-if1 = at-if2 .before in
+    let text-fits = at-if1 .if1 .left in
+    let folds-fit = at-if2 .if2 .left in
     rw (le-leb _ 64 text-fits, le-leb _ 64 folds-fit)
-    (rw (lent-front (c .before .before .before .before .before .before .before .before .before .put-all .ensures) text-fits, lent-front (c .before .before .before .before .before .before .put-all2 .ensures) folds-fit) at (c .before .before .edit-into .ensures))
+    (rw (lent-front (at-put-all .put-all .ensures) text-fits, lent-front (at-put-all2 .put-all2 .ensures) folds-fit) at (at-edit-into .edit-into .ensures))
 
 pub edit-spec : {M : Type 1} → statement M
 edit-spec =

@@ -6,8 +6,10 @@ use Rattle.replay_edits.proofs.edit_into.Tie as tie
 
 returns : tie.Need-returns
 returns c =
-    let a = c .before .before .before .before .before .before .before .before .before .before .before .before .before .before .before .before .before .before .args in
-    edited-compared (a .k) (a .points .now) (a .text .now) (a .folds .now) (a .stored .now) (c .before .before .before .before .before .before .before .before .before .edited .ensures) (c .compared-all .ensures)
+    let at-edited = c .before .before .before .before .before .before .before .before .before in
+    let entry = at-edited .before .before .before .before .before .before .before .before .before in
+    let a = entry .args in
+    edited-compared (a .k) (a .points .now) (a .text .now) (a .folds .now) (a .stored .now) (at-edited .edited .ensures) (c .compared-all .ensures)
 
 pub edit-into-spec : {M : Type 1} → statement M
 edit-into-spec = tie.close (tie.spec (λ c κs. search needs) (λ c κs. search needs) (λ c. search needs) (λ c. search needs) returns)

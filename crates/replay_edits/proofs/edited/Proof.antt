@@ -6,15 +6,21 @@ use Rattle.replay_edits.proofs.edited.Tie as tie
 
 returns : tie.Need-returns
 returns c =
-    let a = c .before .before .before .before .before .before .before .before .before .before .before .before .before .before .args in
-    let e = c .before .before .before .before .before .before .before .before .before .if1 .taken in
-    rw (to-insert (a .k) (a .points .now) e, put-insert (a .k) (a .points .now) e) (c .before .before .before .before .insert .ensures)
+    let at-insert = c .before .before .before .before in
+    let at-if1 = at-insert .before .before .before .before .before in
+    let entry = at-if1 .before .before .before .before .before in
+    let a = entry .args in
+    let e = at-if1 .if1 .taken in
+    rw (to-insert (a .k) (a .points .now) e, put-insert (a .k) (a .points .now) e) (at-insert .insert .ensures)
 
 returns-2 : tie.Need-returns-2
 returns-2 c =
-    let a = c .before .before .before .before .before .before .before .before .before .before .before .before .before .before .args in
-    let n = c .before .before .before .before .before .before .before .before .before .if1 .left in
-    rw (to-delete (a .k) (a .points .now) n, put-delete (a .k) (a .points .now) n) (c .before .before .before .before .delete .ensures)
+    let at-delete = c .before .before .before .before in
+    let at-if1 = at-delete .before .before .before .before .before in
+    let entry = at-if1 .before .before .before .before .before in
+    let a = entry .args in
+    let n = at-if1 .if1 .left in
+    rw (to-delete (a .k) (a .points .now) n, put-delete (a .k) (a .points .now) n) (at-delete .delete .ensures)
 
 pub edited-spec : {M : Type 1} → statement M
 edited-spec =
