@@ -104,7 +104,8 @@ module _ (t : List ℕ) (word : ℕ → Bool) (room now : List ℕ) (e : now ≡
     asked-of good = subst (λ (x : List ℕ). Asked x folds p) (sym front-of) (asked t word p w folds good)
 
     module _ (big : Bool) (m : Motion) (stop : Bool) (count : ℕ) (q : Position)
-        (s : q ≡ positionOf (take (length t + 1) now) (motion (take (length t + 1) now) folds big m stop count (startOf (take (length t + 1) now) (p .row) + p .col)))
+        (s : q ≡ positionOf (take (length t + 1) now)
+        (motion (take (length t + 1) now) folds big m stop count (startOf (take (length t + 1) now) (p .row) + p .col)))
       where
         led : q ≡ positionOf (classesOf word t) (motion (classesOf word t) folds big m stop count (startOf (classesOf word t) (p .row) + p .col))
         led = s ∙ ap (λ (x : List ℕ). positionOf x (motion x folds big m stop count (startOf x (p .row) + p .col))) front-of

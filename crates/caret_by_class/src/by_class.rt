@@ -18,7 +18,7 @@ ghost use Rattle.motions.specs.Carets.{Inside, placed};
 ghost use Rattle.motions.specs.WordMoves.{foldsOf, wordCaret};
 ghost use Rattle.caret_by_class.specs.ByClass.{classRefusal, moveByClass};
 
-// The caret at another row and column.
+// The caret at another row and column: its sticky column stays.
 fn placed(k: Caret, p: Position) -> Caret
     requires { ⌜ (p .row < 2 ^ 32) × (p .col < 2 ^ 32) ⌝ }
     ensures { λ r. ⌜ r ≡ placed k (p .row) (p .col) ⌝ }
@@ -59,7 +59,7 @@ fn by_classes(
     placed(k, to)
 }
 
-// How many of the folds' numbers a motion takes: all of them, but none for `ge`.
+// How many of the folds' numbers a motion takes: all of them, 6 of two folds, but none for `ge`.
 fn taken(m: Motion, folds: &[u32]) -> usize
     ensures { λ r. ⌜ (r ≤ length (now (folds .entry))) ×
         (take r (now (folds .entry)) ≡ foldsOf m (now (folds .entry))) ⌝ }
@@ -72,11 +72,11 @@ fn taken(m: Motion, folds: &[u32]) -> usize
     }
 }
 
-// A word motion by the classes: where it leads to, or the number that the call is refused with. The
-// refusals are those of the first engine, and then 14 where the slice has fewer places than the
-// text's code points and its end. The classes stand at the front of the slice afterwards, and the
-// places past them stay; of a refused call the whole slice stays. `stop` is for `e` that may stay in
-// the first round.
+// A word motion by the classes: where it leads to, or the number that the call is refused with. By
+// 2 `w` leads from column 0 of `if (n) {` to column 4. The refusals are those of the first engine,
+// and then 14 where the slice has fewer places than the text's code points and its end, here 9. The
+// classes stand at the front of the slice afterwards, and the places past them stay; of a refused
+// call the whole slice stays. `stop` is for `e` that may stay in the first round.
 pub fn word_by_class(
     k: Caret,
     t: &[u32],

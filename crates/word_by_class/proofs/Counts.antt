@@ -31,7 +31,8 @@ module _ (round : ℕ → Turned) where
 
 -- the first round, and the rest
 module _ (c folds : List ℕ) (big : Bool) (m : Motion) (stop : Bool) (count i j : ℕ) where
-  pub motion-on : (n : ℕ) → roundOf c folds big m stop i ≡ On j → n ≡ max count 1 - 1 → counted (roundOf c folds big m false) n j ≡ motion c folds big m stop count i
+  pub motion-on : (n : ℕ) → roundOf c folds big m stop i ≡ On j → n ≡ max count 1 - 1 →
+      counted (roundOf c folds big m false) n j ≡ motion c folds big m stop count i
   unfolding motion
   motion-on n e w = rw (e, w)
 

@@ -69,7 +69,8 @@ module _ {c : List ℕ} (k : Classes c) where
   first-empty e = rw (k .same) (first-of (k .word) (k .text) (rw (k .same) at e))
 
   pub some-rows : (0 < rowsOf c) × (contentOf c ≤ rowsOf c) × (0 < contentOf c)
-  some-rows = let d = held true in let n = content-near (k .text) in (omega (arith, d .rows), omega (arith, d .rows, d .content-rows), omega (arith, d .content-rows))
+  some-rows = let d = held true in let n = content-near (k .text) in
+      (omega (arith, d .rows), omega (arith, d .rows, d .content-rows), omega (arith, d .content-rows))
 
   module _ (folds : List ℕ) (i : ℕ) (h : i + 1 ≤ length c) where
     in-text : i ≤ length (k .text)

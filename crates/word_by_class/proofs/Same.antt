@@ -41,7 +41,8 @@ module _ {t : List ℕ} {tell : ℕ → ℕ} {c : List ℕ} {big : Bool} (d : De
       go false = turn-same from h (nextEnd c big from) (Words.nextWordEnd t tell (pos t from)) (end-same d from h)
 
   module _ (folds : List ℕ) where
-    pub round-same : (m : Motion) (stop : Bool) (i : ℕ) → i ≤ length t → Turns t (roundOf c folds big m stop i) (first.roundOf t folds tell big m stop (pos t i))
+    pub round-same : (m : Motion) (stop : Bool) (i : ℕ) → i ≤ length t →
+        Turns t (roundOf c folds big m stop i) (first.roundOf t folds tell big m stop (pos t i))
     unfolding roundOf first.roundOf
     round-same Fwd stop i h =
         let j = fwd-same d folds i h in rw (j .0) (turn-same (jumpFwd c folds i) (j .1) (nextStart c big (jumpFwd c folds i)) _ (start-same d _ (j .1)))

@@ -1,4 +1,5 @@
-// Out of a closed fold, before a word is sought.
+// Out of a closed fold, before a word is sought. The examples are of the rows `ab`, an empty one
+// and `c`, with the classes 0 0 4 3 0 4, and a closed fold over the first two.
 use folds::Span;
 use word_classes::EMPTY_ROW;
 use word_kinds::Spot;
@@ -8,7 +9,7 @@ ghost use Rattle.word_class_rows.specs.Rows.{rowsOf, endOf, lastOf, Stands};
 ghost use Rattle.word_class_laws.specs.Determines.{Classes};
 ghost use Rattle.word_by_class.specs.Rounds.{jumpFwd, jumpBack, Ready};
 
-// The place that ends a row, from any place.
+// The place that ends a row, from any place: of row 0, from 4, place 2.
 fn end_of(c: &[u8], p: Spot, row: usize) -> usize
     requires { ⌜ Stands (now c) p × (row < rowsOf (now c)) ⌝ }
     ensures { λ r. ⌜ r ≡ endOf (now (c .entry)) row ⌝ }
@@ -27,7 +28,8 @@ fn end_of(c: &[u8], p: Spot, row: usize) -> usize
     word_class_rows::row_end(c, p, row)
 }
 
-// The last character of a row, or its only place where it is empty.
+// The last character of a row, or its only place where it is empty: of row 0 place 1, of row 1
+// place 3.
 fn row_last(c: &[u8], p: Spot, row: usize) -> usize
     requires { ⌜ Classes (now c) × Stands (now c) p × (row < rowsOf (now c)) ⌝ }
     ensures { λ r. ⌜ r ≡ lastOf (now (c .entry)) row ⌝ }
@@ -39,7 +41,8 @@ fn row_last(c: &[u8], p: Spot, row: usize) -> usize
     end - 1
 }
 
-// From a closed fold to the last character of its last row: `w` and `e` begin there.
+// From a closed fold to the last character of its last row: `w` and `e` begin there. From 0 to 3,
+// the empty row; from 4, which is in no closed fold, to 4.
 pub fn jump_fwd(c: &[u8], folds: &[u32], rows: usize, content: usize, p: Spot) -> usize
     requires { ⌜ Ready (now c) (now folds) rows content p ⌝ }
     ensures { λ r. ⌜ r ≡ jumpFwd (now (c .entry)) (now (folds .entry)) (p .at) ⌝ }
@@ -50,7 +53,7 @@ pub fn jump_fwd(c: &[u8], folds: &[u32], rows: usize, content: usize, p: Spot) -
     }
 }
 
-// From a closed fold to the first place of its first row: `b` begins there.
+// From a closed fold to the first place of its first row: `b` begins there. From 3 to 0.
 pub fn jump_back(c: &[u8], folds: &[u32], rows: usize, content: usize, p: Spot) -> usize
     requires { ⌜ Ready (now c) (now folds) rows content p ⌝ }
     ensures { λ r. ⌜ r ≡ jumpBack (now (c .entry)) (now (folds .entry)) (p .at) ⌝ }

@@ -1,4 +1,5 @@
-// The rounds of a word motion, and the motion from a row and a column to another.
+// The rounds of a word motion, and the motion from a row and a column to another. The examples are
+// of `if (n) {`, with the classes 0 0 2 1 0 1 2 1 4, small words and no folds.
 use crate::Turned;
 use crate::jumps::jump_back;
 use crate::jumps::jump_fwd;
@@ -20,7 +21,8 @@ ghost use Rattle.word_by_class.specs.Rounds.{turn, endTurn, roundOf, cou
 ghost use Rattle.word_by_class.specs.Rounds.{motion as Rounds·motion};
 ghost use Rattle.word_by_class.specs.Rounds.{positionOf, Ready, Asked};
 
-// The round's answer: the word found, or the place from which none was found.
+// The round's answer: the word found, or the place from which none was found. From 0, with the word
+// at 3, it goes on from 3; from 8, with none, it ends at 8.
 fn turned(from: usize, found: Reach) -> Turned
     ensures { λ r. ⌜ r ≡ turn from found ⌝ }
 {
@@ -30,7 +32,7 @@ fn turned(from: usize, found: Reach) -> Turned
     }
 }
 
-// A round of `e`; `stop` holds it at the end of a word.
+// A round of `e`; `stop` holds it at the end of a word: from 1 to 3, and with `stop` from 1 to 1.
 fn end_round(c: &[u8], big: bool, stop: bool, from: usize) -> Turned
     requires { ⌜ from < length (now c) ⌝ }
     ensures { λ r. ⌜ r ≡ endTurn (now (c .entry)) big stop from ⌝ }
@@ -44,7 +46,8 @@ fn end_round(c: &[u8], big: bool, stop: bool, from: usize) -> Turned
     turned(from, word_hops::next_end(c, big, from))
 }
 
-// A round of a motion: out of a closed fold, and then one word. `ge` takes no folds.
+// A round of a motion: out of a closed fold, and then one word: of `w` from 0 to 3. `ge` takes no
+// folds.
 fn round(
     c: &[u8],
     folds: &[u32],
@@ -72,8 +75,8 @@ fn round(
     }
 }
 
-// The rounds after the first, up to a count. One that changes nothing ends them, and so does one
-// that finds no word.
+// The rounds after the first, up to a count: two of `w` from 0 to 4. One that changes nothing ends
+// them, and so does one that finds no word: nine of `w` from 0 end at 8.
 fn rounds(
     c: &[u8],
     folds: &[u32],
@@ -107,7 +110,7 @@ fn rounds(
     cur.at
 }
 
-// How many rounds follow the first: count 0 acts as 1.
+// How many rounds follow the first: of count 3 there are 2, and of count 0, which acts as 1, none.
 fn rest(count: u32) -> u32
     ensures { λ r. ⌜ r ≡ max count 1 - 1 ⌝ }
 {
@@ -117,7 +120,8 @@ fn rest(count: u32) -> u32
     count - 1
 }
 
-// A motion from a place. `stop` holds in the first round alone.
+// A motion from a place. `stop` holds in the first round alone: by 2 `e` with `stop` goes from 1 to
+// 1, and then to 3.
 fn motion(
     c: &[u8],
     folds: &[u32],
@@ -139,7 +143,7 @@ fn motion(
     }
 }
 
-// The first place of a row.
+// The first place of a row: of row 0 place 0, and of the next one the place behind the end of it.
 fn start_of(c: &[u8], row: usize) -> usize
     requires { ⌜ row < rowsOf (now c) ⌝ }
     ensures { λ r. ⌜ r ≡ startOf (now (c .entry)) row ⌝ }
@@ -150,8 +154,8 @@ fn start_of(c: &[u8], row: usize) -> usize
     row_end(c, Spot { row: 0, at: 0 }, row - 1) + 1
 }
 
-// A word motion from a row and a column to another, by the classes and the folds alone. The column
-// may be behind the row's last character.
+// A word motion from a row and a column to another, by the classes and the folds alone: `w` by 2
+// goes from row 0, column 0 to row 0, column 4. The column may be behind the row's last character.
 pub fn word_by_class(
     c: &[u8],
     folds: &[u32],

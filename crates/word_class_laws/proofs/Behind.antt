@@ -46,7 +46,8 @@ module _ {t : List ℕ} {tell : ℕ → ℕ} {c : List ℕ} {big : Bool} (d : De
       Meets t (At (Hops.runStart c big q)) (Words.frontHere t tell (pos t q))
   front-same q h e n =
       rw (class-of d q h)
-      (go (back c big (soft c big q) q) (first.back t tell (named (soft c big q)) (pos t q)) (back-same d (soft c big q) q h) (back-below (over (soft c big q)) (q + 1) q))
+      (go (back c big (soft c big q) q) (first.back t tell (named (soft c big q)) (pos t q))
+      (back-same d (soft c big q) q h) (back-below (over (soft c big q)) (q + 1) q))
     where
       held : over (soft c big q) q ≡ true
       held = rw (eq-eqb (soft c big q) (soft c big q) refl, n)

@@ -14,7 +14,8 @@ use Rattle.word_kinds.specs.declared.Spot.{Spot}
 use Rattle.word_kinds.specs.Spots.{placeOf, IsSpot, Ends}
 use Rattle.word_kinds.specs.Places
 use Rattle.word_kinds.specs.Places.{Went, To, Nowhere}
-use Rattle.word_kinds.proofs.Ahead.{end-kind, nl-kind, char-kind, end-forward, nl-forward, last-forward, row-forward, char-forward, char-spot, char-inc, nl-inc, end-empty, empty-row}
+use Rattle.word_kinds.proofs.Ahead.{end-kind, nl-kind, char-kind, end-forward, nl-forward, last-forward, row-forward, char-forward}
+use Rattle.word_kinds.proofs.Ahead.{char-spot, char-inc, nl-inc, end-empty, empty-row}
 use Rattle.word_kinds.proofs.Onto.{next-yes, next-no}
 use Rattle.word_kinds.proofs.Back.{back-none, back-row, back-char, starts-first, starts-by}
 use Rattle.word_classes.specs.Classes.{endClass, classOf, classesOf}
@@ -78,11 +79,13 @@ module _ (word : ℕ → Bool) (t : List ℕ) where
     kind-of : Stand i → Places.kindAt t (Places.kindOf word big) (pos t i) ≡ named (kind c big i)
     unfolding named spot
     kind-of (atLast l) =
-        sym (end-kind t spot (spot-of t i h) l (Places.kindOf word big)) ∙ sym (ap named (ap (kindFor big) (last-class i (omega arith)) ∙ end-says word big _ .0))
+        sym (end-kind t spot (spot-of t i h) l (Places.kindOf word big))
+        ∙ sym (ap named (ap (kindFor big) (last-class i (omega arith)) ∙ end-says word big _ .0))
     kind-of (atBreak l e) =
         sym (nl-kind t spot (spot-of t i h) l e (Places.kindOf word big)) ∙ sym (ap named (ap (kindFor big) (break-class i l e) ∙ end-says word big _ .0))
     kind-of (atChar l n) =
-        sym (char-kind t spot (spot-of t i h) l n (Places.kindOf word big)) ∙ char-says word big _ .0 ∙ ap (λ (x : ℕ). named (kindFor big x)) (sym (char-class i l n))
+        sym (char-kind t spot (spot-of t i h) l n (Places.kindOf word big)) ∙ char-says word big _ .0
+        ∙ ap (λ (x : ℕ). named (kindFor big x)) (sym (char-class i l n))
 
     pub kinds : Places.kindAt t (Places.kindOf word big) (pos t i) ≡ named (kind c big i)
     kinds = kind-of (stand i)

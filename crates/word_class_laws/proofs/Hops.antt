@@ -143,4 +143,5 @@ module _ {t : List ℕ} {tell : ℕ → ℕ} {c : List ℕ} {big : Bool} (d : De
   unfolding Hops.nextEnd Words.nextWordEnd
   end-same i h =
       rw (d .on i h)
-      (step-on (forward c i) (λ j. Hops.endFrom c big (over c big 2 4 j)) (λ q. Words.runFrom t tell (first.skip t tell 0 3 q)) (λ j w. end-from-same j (low i j w)))
+      (step-on (forward c i) (λ j. Hops.endFrom c big (over c big 2 4 j))
+      (λ q. Words.runFrom t tell (first.skip t tell 0 3 q)) (λ j w. end-from-same j (low i j w)))

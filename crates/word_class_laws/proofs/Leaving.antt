@@ -37,7 +37,8 @@ module _ {t : List ℕ} {tell : ℕ → ℕ} {c : List ℕ} {big : Bool} (d : De
     abbrev whole : Position → Halt
     whole q = first.walk stays (Places.stepForward t) (length t + 1) q
 
-    turn : (j : ℕ) → j ≤ length t → whole (pos t j) ≡ cond (stays (pos t j)) (Places.further (Places.stepForward t (pos t j)) whole (Stuck (pos t j))) (Onto (pos t j))
+    turn : (j : ℕ) → j ≤ length t →
+        whole (pos t j) ≡ cond (stays (pos t j)) (Places.further (Places.stepForward t (pos t j)) whole (Stuck (pos t j))) (Onto (pos t j))
     turn j h = loop-turn (forward-way t) stays (pos t j) (pos-in t j h)
 
     out : (j : ℕ) → InRun d k real j → Offsets.rowOf t j ≡ Offsets.rowOf t from → runs c big k j ≡ false → (r : Reach) → forward c j ≡ r →
@@ -55,7 +56,8 @@ module _ {t : List ℕ} {tell : ℕ → ℕ} {c : List ℕ} {big : Bool} (d : De
         fails : (b : Bool) → isEnd c (j + 1) ≡ b → stays (pos t q) ≡ false
         fails true f =
             let z = next-row d k real j q (o .inside) (run-char d k real j o) f s in
-            both (eqb (Places.kindAt t tell (pos t q)) (named k)) (eqb (Offsets.rowOf t q) (Offsets.rowOf t from)) (ne-eqb (Offsets.rowOf t q) (Offsets.rowOf t from) (λ v. omega (arith, z, w, v)))
+            both (eqb (Places.kindAt t tell (pos t q)) (named k)) (eqb (Offsets.rowOf t q) (Offsets.rowOf t from))
+            (ne-eqb (Offsets.rowOf t q) (Offsets.rowOf t from) (λ v. omega (arith, z, w, v)))
         fails false f =
             let m = before-end d j (o .inside) (run-char d k real j o) in
             let same : q ≡ j + 1 = cc (sym s ∙ next-char d k real j (o .inside) (run-char d k real j o) f) in

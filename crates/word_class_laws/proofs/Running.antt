@@ -39,7 +39,8 @@ module _ {t : List ℕ} {tell : ℕ → ℕ} {c : List ℕ} {big : Bool} (d : De
       over-end : (r : Reach) → forward c j ≡ r → isEnd c (j + 1) ≡ true → Places.further (went t r) (beyond j) false ≡ false
       over-end NoStep w f = refl
       over-end (At q) w f =
-          off (pos t q) (ne-eqb (Offsets.rowOf t q) (Offsets.rowOf t j) (λ e. let z = next-row d k real j q (o .inside) (run-char d k real j o) f w in omega (arith, e, z)))
+          off (pos t q) (ne-eqb (Offsets.rowOf t q) (Offsets.rowOf t j)
+          (λ e. let z = next-row d k real j q (o .inside) (run-char d k real j o) f w in omega (arith, e, z)))
 
       stops : isEnd c (j + 1) ≡ true → runs c big k j ≡ false
       stops f =

@@ -102,13 +102,15 @@ end-there [] r h = absurd (omega arith)
 end-there (x ∷ c) zero h = go (leb 3 x) refl (λ l. end-there c zero l)
   where
     go : (b : Bool) → leb 3 x ≡ b → (0 < rowsOf c → (endOf c 0 < length c) × (isEnd c (endOf c 0) ≡ true) × (rowOf c (endOf c 0) ≡ 0)) →
-        (cond b 0 (suc (endOf c zero)) < suc (length c)) × (isEnd (x ∷ c) (cond b 0 (suc (endOf c zero))) ≡ true) × (rowOf (x ∷ c) (cond b 0 (suc (endOf c zero))) ≡ 0)
+        (cond b 0 (suc (endOf c zero)) < suc (length c)) × (isEnd (x ∷ c) (cond b 0 (suc (endOf c zero))) ≡ true) ×
+        (rowOf (x ∷ c) (cond b 0 (suc (endOf c zero))) ≡ 0)
     go true k ih = (omega arith, k, refl)
     go false k ih = let l : 0 < rowsOf c = rw k at h in let w = ih l in (omega (arith, w .0), w .1, rw k (w .2))
 end-there (x ∷ c) (suc r) h = go (leb 3 x) refl (λ s l. end-there c s l)
   where
     go : (b : Bool) → leb 3 x ≡ b → ((s : ℕ) → s < rowsOf c → (endOf c s < length c) × (isEnd c (endOf c s) ≡ true) × (rowOf c (endOf c s) ≡ s)) →
-        (suc (endOf c (cond b r (suc r))) < suc (length c)) × (isEnd c (endOf c (cond b r (suc r))) ≡ true) × (rowOf (x ∷ c) (suc (endOf c (cond b r (suc r)))) ≡ suc r)
+        (suc (endOf c (cond b r (suc r))) < suc (length c)) × (isEnd c (endOf c (cond b r (suc r))) ≡ true) ×
+        (rowOf (x ∷ c) (suc (endOf c (cond b r (suc r)))) ≡ suc r)
     go true k ih =
         let l : suc r < suc (rowsOf c) = rw k at h in
         let w = ih r (omega arith) in (omega (arith, w .0), w .1, rw k (ap suc (w .2)))

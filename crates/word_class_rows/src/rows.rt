@@ -26,6 +26,7 @@ pub fn ends(c: &[u8], a: usize, b: usize) -> usize
 }
 
 // How many rows have content, of so many rows: all but an empty last row that is not the only one.
+// Here all 3; of the classes 0 4 3, which have 2 rows, 1.
 pub fn content_of(c: &[u8], rows: usize) -> usize
     requires { ⌜ rows ≡ rowsOf (now c) ⌝ }
     ensures { λ r. ⌜ r ≡ contentOf (now (c .entry)) ⌝ }

@@ -18,8 +18,8 @@ pub fn places_refusal(t: &[u32], classes: &[u8]) -> u32
 }
 
 // Writes the classes of a text to the front of a slice, and answers how many: of `if (n) {` 9. The
-// places past them stay. Or answers the number that the call is refused with, 1 to 3 for the text, 7
-// and 8 for the list, and then 14 where the slice has too few places; the whole slice stays then.
+// places past them stay. Or answers the number that the call is refused with, 1 to 3 for the text,
+// 7 and 8 for the list, and then 14 where the slice has too few places; the slice stays then.
 pub fn word_classes(t: &[u32], list: &[u32], classes: &mut [u8]) -> Written
     ensures answer { λ r. ⌜ r ≡ writtenOf (now (t .entry)) (now (list .entry))
         (now (classes .entry)) ⌝ }

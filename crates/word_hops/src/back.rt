@@ -60,8 +60,8 @@ fn back_over_space(c: &[u8], big: bool, i: usize) -> Reach
     }
 }
 
-// The same, after the rest of a run: for the kind of a word from 1 to 1, and for that of a mark too,
-// since there is nothing to go over.
+// The same, after the rest of a run: for the kind of a mark from 1 to 1, since there is nothing to
+// go over, and for that of a word from 1 to 0.
 fn back_from(c: &[u8], big: bool, k: u8, i: usize) -> Reach
     ensures { λ r. ⌜ r ≡ backFrom (now (c .entry)) big (back (now (c .entry)) big k i) ⌝ }
 {
@@ -72,8 +72,8 @@ fn back_from(c: &[u8], big: bool, k: u8, i: usize) -> Reach
 }
 
 // `ge`: the end of the word before. From 4, the `n`: one back, 3, a mark, so there is nothing left
-// of the run of `n`, nor a space: 3, the `(`. From 3: one back, 2, and back over spaces, 1, the `f`.
-// From 1: one back, 0, and over the rest of the run to the first place, 0.
+// of the run of `n`, nor a space: 3, the `(`. From 3: one back, 2, and back over spaces, 1, the
+// `f`. From 1: one back, 0, and over the rest of the run to the first place, 0.
 pub fn prev_end(c: &[u8], big: bool, i: usize) -> Reach
     ensures { λ r. ⌜ r ≡ prevEnd (now (c .entry)) big i ⌝ }
 {

@@ -46,7 +46,8 @@ fn over_space(c: &[u8], big: bool, i: usize) -> Reach
 }
 
 // On from the first place behind a row's end: big words go over empty rows too, and stay where
-// there is nothing else.
+// there is nothing else. Of the rows `a`, an empty one and `b`, with the classes 0 4 3 0 4, from 2:
+// for small words 2, for big ones 3.
 fn from_end(c: &[u8], big: bool, i: usize) -> Reach
     ensures { λ r. ⌜ r ≡ fromEnd (now (c .entry)) big i ⌝ }
 {

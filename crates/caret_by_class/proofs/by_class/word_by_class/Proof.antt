@@ -76,7 +76,8 @@ by-classes-requires c κs =
     let at-entry = at-folds .before in
     let at-own = at-entry .before .before in
     let given = at-own .before .before .before .before .before .args in
-    let e = entered-three (given .t .now) _ (take (at-own .taken .result) (given .folds .now)) (given .k) _ (at-entry .enter .ensures) refl (at-folds .or-folds .ensures) in
+    let e = entered-three (given .t .now) _ (take (at-own .taken .result) (given .folds .now)) (given .k) _ (at-entry .enter .ensures) refl
+    (at-folds .or-folds .ensures) in
     let z = three-none (given .t .now) (take (at-own .taken .result) (given .folds .now)) (given .k) (sym e ∙ at-test .if1 .left) in (
       z .0,
       z .1,
@@ -104,8 +105,10 @@ returns-4 c =
     (given .classes .now) (sym e ∙ at-test .if1 .left) (sym p ∙ at-list .if2 .left)) in
     let kept-is = parse-kept (given .list .now) (at-parse .parse .result) (at-parse .parse .ensures) (at-list .if2 .left) in
     let a = at-call .by-classes .ensures .0
-    ∙ ap (λ (ts : List Token). wordCaret (given .t .now) (take (at-own .taken .result) (given .folds .now)) (anyToken ts) (given .big) (given .m) (given .stop) (given .count) (given .k)) kept-is
-    ∙ ap (λ (own : List ℕ). wordCaret (given .t .now) own (inList (given .list .now)) (given .big) (given .m) (given .stop) (given .count) (given .k)) (at-own .taken .ensures .1) in (
+    ∙ ap (λ (ts : List Token). wordCaret (given .t .now) (take (at-own .taken .result) (given .folds .now)) (anyToken ts)
+    (given .big) (given .m) (given .stop) (given .count) (given .k)) kept-is
+    ∙ ap (λ (own : List ℕ). wordCaret (given .t .now) own (inList (given .list .now)) (given .big) (given .m) (given .stop)
+    (given .count) (given .k)) (at-own .taken .ensures .1) in (
       answer-given q _ _ (at-last .if3 .left) a,
       slice-written q (given .t .now) (given .list .now) (given .classes .now) _ (at-last .if3 .left)
           (at-call .by-classes .ensures .1 ∙ ap (λ (ts : List Token). holding (classesOf (anyToken ts) (given .t .now)) (given .classes .now)) kept-is),

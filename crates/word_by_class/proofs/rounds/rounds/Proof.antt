@@ -67,7 +67,8 @@ returns-3 : tie.Need-returns-3 Inv-loop μ-loop
 returns-3 c =
     let at-loop = c .before in
     let given = at-loop .before .before .before .args in
-    sym (at-loop .loop .inv .1 ∙ counted-none (roundOf (given .c .now) (given .folds .now) (given .big) (given .m) false) _ _ (omega (arith, c .loop-test .left)))
+    sym (at-loop .loop .inv .1 ∙ counted-none (roundOf (given .c .now) (given .folds .now) (given .big) (given .m) false) _ _
+    (omega (arith, c .loop-test .left)))
 
 pub rounds-spec : {M : Type 1} → statement M
 rounds-spec =

@@ -21,7 +21,8 @@ motion-requires c κs =
     let at-start = c .before .before in
     let at-ends = at-start .before in
     let start = at-ends .before .before .before in
-    asked-ready (start .pre) _ _ _ (omega (arith, at-ends .ends .ensures, row-first (start .args .c .now))) (c .content-of .ensures) (at-start .start-of .ensures)
+    asked-ready (start .pre) _ _ _ (omega (arith, at-ends .ends .ensures, row-first (start .args .c .now))) (c .content-of .ensures)
+    (at-start .start-of .ensures)
 
 moved-requires : tie.Need-moved-requires
 moved-requires c κs =
@@ -36,7 +37,8 @@ moved-requires c κs =
       omega (
         arith,
         c .motion .ensures,
-        motion-in (start .pre .classes) (given .folds .now) (at-start .start-of .result + given .at .col) (ready .inside) (given .big) (given .m) (given .stop) (given .count),
+        motion-in (start .pre .classes) (given .folds .now) (at-start .start-of .result + given .at .col) (ready .inside)
+            (given .big) (given .m) (given .stop) (given .count),
       ),
     )
 
