@@ -20,7 +20,8 @@ use Rattle.list_tokens.specs.declared.Token.{Token}
 use Rattle.list_tokens.specs.Grammar.{noToken, alpha, codes, isAt, rangeOf, codeOf, tokenOf}
 use Rattle.list_tokens.specs.Tokens.{tokensIn, tokens, tokenHolds, anyToken, inList}
 use Rattle.list_tokens.proofs.TokenLaws.{tokens-keep}
-use Rattle.list_signs.proofs.WhiteLaws.{noWhite, and-split}
+use Rattle.lists.proofs.Both.{both}
+use Rattle.list_signs.proofs.WhiteLaws.{noWhite}
 use Rattle.list_signs.proofs.TrimLaws.{trim-none}
 use Rattle.list_signs.proofs.DigitLaws.{digits-no-white, digits-no-minus, digits-up-to}
 use Rattle.list_signs.proofs.RangeLaws.{no-range}
@@ -49,12 +50,12 @@ noComma (x ∷ p) = not (eqb x 44) && noComma p
 comma-append : (p q : List ℕ) → noComma p ≡ true → noComma q ≡ true → noComma (p ++ q) ≡ true
 unfolding noComma
 comma-append [] q a b = b
-comma-append (x ∷ p) q a b = let s = and-split (not (eqb x 44)) (noComma p) a in rw (s .0) (comma-append p q (s .1) b)
+comma-append (x ∷ p) q a b = let s = both (not (eqb x 44)) (noComma p) a in rw (s .0) (comma-append p q (s .1) b)
 
 white-append : (p q : List ℕ) → noWhite p ≡ true → noWhite q ≡ true → noWhite (p ++ q) ≡ true
 unfolding noWhite
 white-append [] q a b = b
-white-append (x ∷ p) q a b = let s = and-split (not (isWhite x)) (noWhite p) a in rw (s .0) (white-append p q (s .1) b)
+white-append (x ∷ p) q a b = let s = both (not (isWhite x)) (noWhite p) a in rw (s .0) (white-append p q (s .1) b)
 
 digits-comma : (ds : List ℕ) → allDigits ds ≡ true → noComma ds ≡ true
 unfolding noComma
@@ -65,14 +66,14 @@ split-comma : (p r : List ℕ) → noComma p ≡ true → split 44 (p ++ (44 ∷
 unfolding split onFirst noComma
 split-comma [] r h = refl
 split-comma (x ∷ p) r h =
-    let s = and-split (not (eqb x 44)) (noComma p) h in
+    let s = both (not (eqb x 44)) (noComma p) h in
     rw (not-true (eqb x 44) (s .0)) (ap (onFirst x) (split-comma p r (s .1)))
 
 split-end : (p : List ℕ) → noComma p ≡ true → split 44 p ≡ p ∷ []
 unfolding split onFirst noComma
 split-end [] h = refl
 split-end (x ∷ p) h =
-    let s = and-split (not (eqb x 44)) (noComma p) h in
+    let s = both (not (eqb x 44)) (noComma p) h in
     rw (not-true (eqb x 44) (s .0)) (ap (onFirst x) (split-end p (s .1)))
 
 -- a part that the first reader keeps as t
@@ -179,13 +180,13 @@ keeps p t ps k =
 parts-tokens : {l : List ℕ} {ts : List VimToken} → Parts l ts → allCommon ts ≡ true → tokens l ≡ firstTokens ts
 unfolding allCommon firstTokens tokensIn
 parts-tokens (last {p = p} {t = t} d) e =
-    let k = kept-part d (and-split (isCommon t) true e .0) in
+    let k = kept-part d (both (isCommon t) true e .0) in
     ap tokensIn (split-end p (k .commas)) ∙ keeps p t [] k
 parts-tokens caret e =
     let k = kept-caret in
     ap tokensIn (split-end (94 ∷ []) (k .commas)) ∙ keeps (94 ∷ []) (one false true 94) [] k
 parts-tokens (more {p = p} {l = l} {t = t} {ts = ts} d r) e =
-    let s = and-split (isCommon t) (allCommon ts) e in
+    let s = both (isCommon t) (allCommon ts) e in
     let k = kept-part d (s .0) in
     ap tokensIn (split-comma p l (k .commas)) ∙ keeps p t (split 44 l) k ∙ ap (λ (us : List Token). firstToken t ∷ us) (parts-tokens r (s .1))
 
@@ -228,11 +229,11 @@ parts-decided :
     {l : List ℕ} {ts : List VimToken} → Parts l ts → allCommon ts ≡ true → (b : Bool) (c : ℕ) → decided b ts c ≡ (b || anyToken (firstTokens ts) c)
 unfolding allCommon firstTokens
 parts-decided (last {t = t} d) e b c =
-    let w = said c d (and-split (isCommon t) true e .0) in
+    let w = said c d (both (isCommon t) true e .0) in
     on-token t [] [] b c (w .0) (w .1) (λ a. none-left a c)
 parts-decided caret e b c = on-token (one false true 94) [] [] b c (caret-said c) refl (λ a. none-left a c)
 parts-decided (more {t = t} {ts = ts} d r) e b c =
-    let s = and-split (isCommon t) (allCommon ts) e in
+    let s = both (isCommon t) (allCommon ts) e in
     let w = said c d (s .0) in
     on-token t ts (firstTokens ts) b c (w .0) (w .1) (λ a. parts-decided r (s .1) a c)
 
