@@ -151,14 +151,14 @@ int main(void) {
     expect("the sizes after a delete", fold[1], 0, sizes, two, 2);
 
     /* Row starts: filled, kept in an edit, and refused where they are not the text's. */
-    uint32_t rows[] = {'a', 10, 'b', 0}, starts[] = {9, 9, 9, 9}, at[] = {0, 0, 0, 0, 0, 0}, held[] = {3, 0, 0};
-    static const uint32_t filled[] = {0, 2, 9, 9}, kept[] = {0, 2, 4, 9}, then[] = {4, 0, 2};
-    expect("row starts", tsivareza_row_starts_u32(rows, 3, starts, 4, held + 2), 0, starts, filled, 4);
-    expect("an insert that keeps them", tsivareza_insert_rows_u32(rows, 4, fold, 0, starts, 4, put + 1, 1, 1, 1, at, held), 0, starts, kept, 4);
-    expect("the sizes then", 0, 0, held, then, 3);
-    expect("too few places", tsivareza_row_starts_u32(rows, 4, starts, 2, held + 2), 15, starts, kept, 4);
+    uint32_t lines[] = {'a', 10, 'b', 0}, starts[] = {9, 9, 9, 9}, home[] = {0, 0, 0, 0, 0, 0}, held[] = {3, 0, 0};
+    static const uint32_t row_places[] = {0, 2, 9, 9}, later_places[] = {0, 2, 4, 9}, later_sizes[] = {4, 0, 2};
+    expect("row starts", tsivareza_row_starts_u32(lines, 3, starts, 4, held + 2), 0, starts, row_places, 4);
+    expect("an insert that keeps them", tsivareza_insert_rows_u32(lines, 4, fold, 0, starts, 4, put + 1, 1, 1, 1, home, held), 0, starts, later_places, 4);
+    expect("the sizes then", 0, 0, held, later_sizes, 3);
+    expect("too few places", tsivareza_row_starts_u32(lines, 4, starts, 2, held + 2), 15, starts, later_places, 4);
     starts[1] = 1;
-    expect("another table", tsivareza_delete_rows(rows, 4, fold, 0, starts, 4, 0, 0, 0, 1, at, held), 16, held, then, 3);
+    expect("another table", tsivareza_delete_rows(lines, 4, fold, 0, starts, 4, 0, 0, 0, 1, home, held), 16, held, later_sizes, 3);
 
     /* Folds in a file and back; a byte changed is refused, and leaves everything. */
     static const uint32_t folded[] = {0, 1, 1};
