@@ -10,7 +10,7 @@ ghost use Rattle.call_signs.specs.Entry.{placed, placedReply, placedMatc
 ghost use Rattle.call_signs.specs.Entry.{enteredCount, enteredMatches, entering};
 
 // A refusal's number, and the place in the list that it names.
-fn placed_at(n: u32, place: usize) -> u64
+pub fn placed_at(n: u32, place: usize) -> u64
     requires { ⌜ place ≤ 1024 ⌝ }
     ensures { λ r. ⌜ r ≡ placed n place ⌝ }
 {
@@ -72,7 +72,7 @@ fn enter_by(op: u32, list: &[u32], x: u32) -> Placed
 }
 
 // Puts a number into `out` and answers 0, or answers the refusal with its place.
-fn reply_placed(m: Placed, out: &mut [u32; 1]) -> u64
+pub fn reply_placed(m: Placed, out: &mut [u32; 1]) -> u64
     ensures { λ r. ⌜ Replied (placedReply m) (now (out .entry)) r (now (out .exit)) ⌝ }
 {
     match m {

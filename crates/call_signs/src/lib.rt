@@ -4,6 +4,8 @@ mod entry;
 mod plain;
 
 pub use entry::enter;
+pub use entry::placed_at;
+pub use entry::reply_placed;
 pub use plain::without_plus;
 
 // A number, or a refusal: its number in the low half, its place in the high half.

@@ -92,7 +92,7 @@ pub record Taken (l : List ℕ) : Type 0 where
 no-refusal : (n : ℕ) (r : VimRead) → r ≡ refusedAt n 0 → r .refusal ≡ 0 → n ≡ 0
 no-refusal n r e z = sym (ap (λ (q : VimRead). q .refusal) e) ∙ z
 
-taken : (l : List ℕ) → readOf l .refusal ≡ 0 → Taken l
+pub taken : (l : List ℕ) → readOf l .refusal ≡ 0 → Taken l
 unfolding answered
 taken l z = list (leb (length l) 1024) refl (any notScalar l) refl
   where

@@ -1,0 +1,13 @@
+-- `written::vim_write` meets its contract: it hands on what the call answers. Assumes nothing.
+use borrow.Author.Needs.{needs}
+use Rattle.call_signs.specs.Entry.{placedReply}
+use Rattle.call_vim.proofs.written.vim_write.Statement.{statement}
+use Rattle.call_vim.proofs.written.vim_write.Tie as tie
+
+returns : tie.Need-returns
+returns c =
+    let s = c .before .before .before .before .vim-written .ensures in
+    (rw (← s .0) (c .reply-placed .ensures), s .1)
+
+pub vim-write-spec : {M : Type 1} → statement M
+vim-write-spec = tie.close (tie.spec (λ c κs. search needs) (λ c κs. search needs) (λ c. search needs) returns)

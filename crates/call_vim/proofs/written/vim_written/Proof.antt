@@ -1,0 +1,41 @@
+-- `written::vim_written` meets its contract: a refusal is handed on with its place, else what writing answers. Assumes nothing.
+use mathlib.Core.Path.{ap, sym, _∙_}
+use native.Mathlib.Omega.{arith}
+use borrow.Author.Needs.{needs}
+use Rattle.vim_reader.specs.declared.VimRead.{VimRead}
+use Rattle.vim_writer.specs.Written.{writtenOf}
+use Rattle.call_signs.specs.declared.Placed.the-variants.{Value, Refused}
+use Rattle.call_vim.specs.Vim.{writtenPlaced}
+use Rattle.call_vim.proofs.Bounds.{read-place, written-size, writing-refused, writing-told}
+use Rattle.call_vim.proofs.written.vim_written.Statement.{statement}
+use Rattle.call_vim.proofs.written.vim_written.Tie as tie
+
+placed-at-requires : tie.Need-placed-at-requires
+placed-at-requires c κs = rw (c .before .before .parse .ensures) (read-place (c .before .before .before .before .before .args .list .now))
+
+returns : tie.Need-returns
+returns c = writing-refused (c .before .before .before .before .before .before .args .list .now) (c .before .before .before .before .before .before .args .written .now) _ (c .before .before .before .parse .ensures) _ (c .placed-at .ensures) (c .before .if1 .taken)
+
+cast-t13 : tie.Need-cast-t13
+cast-t13 c =
+    let l = c .before .before .before .before .before .before .before .before .before .before .before .before .before .args .list .now in
+    let room = c .before .before .before .before .before .before .before .before .before .before .before .before .before .args .written .now in
+    let is = c .before .before .before .before .before .before .before .before .before .before .parse .ensures in
+    let none = sym (ap (λ (r : VimRead). r .refusal) is) ∙ c .before .before .before .before .before .before .before .before .if1 .left in
+    let made = sym (ap (λ (r : VimRead). writtenOf (r .spec) room) is) ∙ sym (c .before .before .before .before .before .write .ensures .0) ∙ c .before .n .given .1 in
+    omega (arith, written-size l room _ none made)
+
+returns-2 : tie.Need-returns-2
+unfolding writtenPlaced
+returns-2 c =
+    let w = writing-told (c .before .before .before .before .before .before .before .before .before .before .before .before .before .args .list .now) (c .before .before .before .before .before .before .before .before .before .before .before .before .before .args .written .now) _ (c .before .before .before .before .before .before .before .before .before .before .parse .ensures) (c .before .before .before .before .before .before .before .before .if1 .left) _ _ (c .before .before .before .before .before .write .ensures) in
+    (sym (ap writtenPlaced (c .before .n .given .1)) ∙ w .0, w .1)
+
+returns-3 : tie.Need-returns-3
+unfolding writtenPlaced
+returns-3 c =
+    let w = writing-told (c .before .before .before .before .before .before .before .before .before .before .before .before .before .args .list .now) (c .before .before .before .before .before .before .before .before .before .before .before .before .before .args .written .now) _ (c .before .before .before .before .before .before .before .before .before .before .parse .ensures) (c .before .before .before .before .before .before .before .before .if1 .left) _ _ (c .before .before .before .before .before .write .ensures) in
+    (sym (ap writtenPlaced (c .before .f .given .1)) ∙ w .0, w .1)
+
+pub vim-written-spec : {M : Type 1} → statement M
+vim-written-spec = tie.close (tie.spec (λ c κs. search needs) placed-at-requires returns (λ c κs. search needs) (λ c. search needs) cast-t13 (λ c. search needs) (λ c. search needs) (λ c. search needs) returns-2 (λ c. search needs) returns-3)
