@@ -10,7 +10,7 @@ ghost use Rattle.call_signs.specs.Entry.{placed, placedReply, placedMatc
 ghost use Rattle.call_signs.specs.Entry.{enteredCount, enteredMatches, entering};
 
 // A refusal's number, and the place in the list that it names.
-pub fn placed_at(n: u32, place: usize) -> u64
+fn placed_at(n: u32, place: usize) -> u64
     requires { ⌜ place ≤ 1024 ⌝ }
     ensures { λ r. ⌜ r ≡ placed n place ⌝ }
 {

@@ -4,7 +4,6 @@ mod entry;
 mod plain;
 
 pub use entry::enter;
-pub use entry::placed_at;
 pub use entry::reply_placed;
 pub use plain::without_plus;
 

@@ -1,7 +1,6 @@
 // The calls for hosts on Vim's own keyword lists (document 02, #108), by numbers: a list read, whose
 // refusal 17 has a place, a character by it, and a list read and written again.
 mod list;
-mod written;
 
 pub use list::vim_list;
-pub use written::vim_write;
+pub use list::vim_write;

@@ -1,4 +1,4 @@
--- `written::vim_written` meets its contract: a refusal is handed on with its place, else what writing answers. Assumes nothing.
+-- `list::vim_written` meets its contract: a refusal is handed on with its place, else what writing answers. Assumes nothing.
 use mathlib.Core.Path.{ap, sym, _∙_}
 use native.Mathlib.Omega.{arith}
 use borrow.Author.Needs.{needs}
@@ -7,8 +7,8 @@ use Rattle.vim_writer.specs.Written.{writtenOf}
 use Rattle.call_signs.specs.declared.Placed.the-variants.{Value, Refused}
 use Rattle.call_vim.specs.Vim.{writtenPlaced}
 use Rattle.call_vim.proofs.Bounds.{read-place, written-size, writing-refused, writing-told}
-use Rattle.call_vim.proofs.written.vim_written.Statement.{statement}
-use Rattle.call_vim.proofs.written.vim_written.Tie as tie
+use Rattle.call_vim.proofs.list.vim_written.Statement.{statement}
+use Rattle.call_vim.proofs.list.vim_written.Tie as tie
 
 placed-at-requires : tie.Need-placed-at-requires
 placed-at-requires c κs = rw (c .before .before .parse .ensures) (read-place (c .before .before .before .before .before .args .list .now))
