@@ -1,1 +1,2 @@
 pub mod Asunder
+pub mod Spans

@@ -3,3 +3,4 @@ pub mod Jumping
 pub mod Same
 pub mod Fits
 pub mod Counts
+pub mod Bare

@@ -3,6 +3,7 @@
 use crate::Turned;
 use crate::jumps::jump_back;
 use crate::jumps::jump_fwd;
+use fold_stretches::Stretch;
 use text::Position;
 use word_class_rows::content_of;
 use word_class_rows::ends;
@@ -16,6 +17,7 @@ ghost use mathlib.Core.Path.{_≡_};
 ghost use mathlib.Core.Bool.{false};
 ghost use Prim.Native.Nat.{_+_, _-_, _≤_, _<_, max};
 ghost use lib.ListN.{length};
+ghost use Rattle.fold_stretches.specs.Stretches.{NoFold};
 ghost use Rattle.word_class_rows.specs.Rows.{rowsOf, startOf};
 ghost use Rattle.word_by_class.specs.Rounds.{turn, endTurn, roundOf, counted};
 ghost use Rattle.word_by_class.specs.Rounds.{motion as Rounds·motion};
@@ -75,8 +77,31 @@ fn round(
     }
 }
 
+// A round after the first, where a stretch of rows without closed folds is known: in it the folds
+// are not asked.
+fn round_near(
+    c: &[u8],
+    folds: &[u32],
+    rows: usize,
+    content: usize,
+    m: Motion,
+    big: bool,
+    w: Stretch,
+    p: Spot,
+) -> Turned
+    requires { ⌜ Ready (now c) (now folds) rows content p × NoFold (now folds) w ⌝ }
+    ensures { λ r. ⌜ r ≡ roundOf (now (c .entry)) (now (folds .entry)) big m false (p .at) ⌝ }
+{
+    if (w.lo <= p.row) & (p.row < w.hi) {
+        let none = &folds[..0];
+        return round(c, none, rows, content, m, big, false, p);
+    }
+    round(c, folds, rows, content, m, big, false, p)
+}
+
 // The rounds after the first, up to a count: two of `w` from 0 to 4. One that changes nothing ends
-// them, and so does one that finds no word: nine of `w` from 0 end at 8.
+// them, and so does one that finds no word: nine of `w` from 0 end at 8. The folds are asked where a
+// round leaves a stretch of rows without closed folds, and not at every round.
 fn rounds(
     c: &[u8],
     folds: &[u32],
@@ -93,8 +118,10 @@ fn rounds(
 {
     let mut cur = p;
     let mut left = count;
+    let mut w = fold_stretches::around(folds, rows, p.row);
     while left > 0 {
-        match round(c, folds, rows, content, m, big, false, cur) {
+        w = fold_stretches::near(folds, rows, w, cur.row);
+        match round_near(c, folds, rows, content, m, big, w, cur) {
             Turned::On(j) => {
                 if j == cur.at {
                     return j;

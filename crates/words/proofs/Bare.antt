@@ -2,11 +2,9 @@
 use mathlib.Core.Path.{_≡_, refl}
 use mathlib.Core.List.{List, []}
 use mathlib.Core.Bool.{Bool, true, false, _&&_}
-use Prim.Native.Nat.{ℕ, _+_}
-use native.Mathlib.Omega.{arith}
+use Prim.Native.Nat.{ℕ}
 use lib.Dec.{ltb, leb}
-use borrow.Author.Tests.{ltb-true, leb-true}
-use Rattle.lists.proofs.Both.{both}
+use Rattle.text.specs.Text.{rowCount, contentRows}
 use Rattle.text.specs.declared.Position.{Position}
 use Rattle.folds.specs.Folds.{anyFold, foldRefusal}
 use Rattle.folds.specs.declared.Span.the-variants.{NoSpan}
@@ -14,6 +12,7 @@ use Rattle.word_kinds.specs.declared.Spot.{Spot}
 use Rattle.word_kinds.specs.declared.Setting.{Setting}
 use Rattle.fold_stretches.specs.declared.Stretch.{Stretch}
 use Rattle.fold_stretches.specs.Stretches.{NoFold}
+use Rattle.fold_stretches.proofs.Spans.{no-span, none-span}
 use Rattle.word_rounds.specs.declared.Motion.{Motion}
 use Rattle.word_rounds.specs.declared.Motion.the-variants.{Fwd, Back, End, EndBack}
 use Rattle.word_rounds.specs.Rounds.{foldAt, roundOf}
@@ -21,22 +20,17 @@ use Rattle.word_rounds.specs.Turns.{Set}
 
 -- at a row of the stretch there is no closed fold, so a round from it is one without folds
 module _ (t folds : List ℕ) {w : Stretch} (b : NoFold folds w) (p : Position) (h : (leb (w .lo) (p .row) && ltb (p .row) (w .hi)) ≡ true) where
-  no-span : foldAt t folds p ≡ NoSpan
-  no-span =
-      let k = both (leb (w .lo) (p .row)) (ltb (p .row) (w .hi)) h in
-      let l = leb-true (w .lo) (p .row) (k .0) in
-      let m = ltb-true (p .row) (w .hi) (k .1) in
-      rw (b .shown (p .row) l (omega arith), b .shown (p .row + 1) (omega arith) (omega arith))
+  gone : foldAt t folds p ≡ NoSpan
+  gone = no-span (rowCount t) (contentRows t) (p .row) b h
 
-  none-span : foldAt t [] p ≡ NoSpan
-  unfolding anyFold
-  none-span = refl
+  none : foldAt t [] p ≡ NoSpan
+  none = none-span (rowCount t) (contentRows t) (p .row)
 
   pub round-bare : (kind : ℕ → ℕ) (big : Bool) (m : Motion) (stop : Bool) → roundOf t [] kind big m stop p ≡ roundOf t folds kind big m stop p
   unfolding roundOf
-  round-bare kind big Fwd stop = rw (no-span, none-span)
-  round-bare kind big Back stop = rw (no-span, none-span)
-  round-bare kind big End stop = rw (no-span, none-span)
+  round-bare kind big Fwd stop = rw (gone, none)
+  round-bare kind big Back stop = rw (gone, none)
+  round-bare kind big End stop = rw (gone, none)
   round-bare kind big EndBack stop = refl
 
 -- what a round without folds requires

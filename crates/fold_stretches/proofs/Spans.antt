@@ -1,0 +1,27 @@
+-- At a row of a stretch there is no closed fold. Assumes nothing.
+use mathlib.Core.Path.{_≡_, refl}
+use mathlib.Core.List.{List, []}
+use mathlib.Core.Bool.{true, _&&_}
+use Prim.Native.Nat.{ℕ, _+_}
+use native.Mathlib.Omega.{arith}
+use lib.Dec.{ltb, leb}
+use borrow.Author.Tests.{ltb-true, leb-true}
+use Rattle.lists.proofs.Both.{both}
+use Rattle.folds.specs.Folds.{anyFold, closedFoldAt}
+use Rattle.folds.specs.declared.Span.the-variants.{NoSpan}
+use Rattle.fold_stretches.specs.declared.Stretch.{Stretch}
+use Rattle.fold_stretches.specs.Stretches.{NoFold}
+
+module _ (rows content row : ℕ) where
+  pub no-span : {folds : List ℕ} {w : Stretch} → NoFold folds w → (leb (w .lo) row && ltb row (w .hi)) ≡ true →
+      closedFoldAt folds rows content row ≡ NoSpan
+  no-span {folds} {w} b h =
+      let k = both (leb (w .lo) row) (ltb row (w .hi)) h in
+      let l = leb-true (w .lo) row (k .0) in
+      let m = ltb-true row (w .hi) (k .1) in
+      rw (b .shown row l (omega arith), b .shown (row + 1) (omega arith) (omega arith))
+
+  -- nor is there one where there are no folds
+  pub none-span : closedFoldAt [] rows content row ≡ NoSpan
+  unfolding anyFold
+  none-span = refl
