@@ -1,6 +1,7 @@
 //! Row starts in a lent table, and edits that keep it, which the given Rust does not have: from the words of document 02, #106.
 //! The table is counted anew from the text of each page; the edit itself is that of `edits`.
 
+use crate::Outcome;
 use crate::edits::Page;
 use crate::refusals::{Inputs, refusal};
 
@@ -23,6 +24,20 @@ pub fn fill(text: &[u32], table: &mut [u32]) -> Result<u32, u32> {
     let places = table.get_mut(..starts.len()).ok_or(15_u32)?;
     places.copy_from_slice(&starts);
     Ok(content)
+}
+
+/// What a motion answers beside a table and a number of rows with content: `first`, its answer without them; then 15 for
+/// fewer places than the text has rows, and 16 for a table or number that is not the text's.
+pub fn second(first: Outcome, text: &[u32], table: &[u32], content: u32) -> Outcome {
+    if let Outcome::Refused(_) = first {
+        return first;
+    }
+    let (starts, rows) = counted(text);
+    match table.get(..starts.len()) {
+        None => Outcome::Refused(15),
+        Some(places) if places == starts && content == rows => first,
+        Some(_) => Outcome::Refused(16),
+    }
 }
 
 /// A page with its table, and the number of rows with content beside it.
@@ -101,6 +116,17 @@ mod tests {
         assert_eq!((&host.table[..], host.content), (&[0, 3, 0, 0, 777][..], 2));
         assert_eq!(host.insert(&[0x0A], (0, 0)), 0);
         assert_eq!((&host.table[..], host.content), (&[0, 1, 4, 0, 777][..], 3));
+    }
+
+    #[test]
+    fn a_motion_is_refused_before_its_table() {
+        let (text, there) = (points("a\n"), Outcome::Place(None));
+        assert_eq!(second(there.clone(), &text, &[0, 2, 9], 1), there);
+        assert_eq!(second(there.clone(), &text, &[0], 5), Outcome::Refused(15));
+        for (table, content) in [([0, 1], 1), ([1, 2], 1), ([0, 2], 2)] {
+            assert_eq!(second(there.clone(), &text, &table, content), Outcome::Refused(16));
+        }
+        assert_eq!(second(Outcome::Refused(4), &text, &[0], 5), Outcome::Refused(4));
     }
 
     #[test]

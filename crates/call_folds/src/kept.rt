@@ -30,7 +30,7 @@ fn asked(mode: Wrap, width: u16, down: bool, ambiguous: Ambiguous) -> Asked
 
 // The move that a number stands for under a setting: 0 `move_screen_up_kept`, 1
 // `move_screen_down_kept`.
-fn kept_of(op: u32, ambiguous: Ambiguous, mode: Wrap, width: u16) -> Asked
+pub fn kept_of(op: u32, ambiguous: Ambiguous, mode: Wrap, width: u16) -> Asked
     ensures { λ r. ⌜ r ≡ keptOf ambiguous op mode width ⌝ }
 {
     match op {

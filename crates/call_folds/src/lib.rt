@@ -4,6 +4,10 @@ mod kept;
 mod terms;
 mod upright;
 
+pub use kept::kept_of;
 pub use kept::screen_kept;
 pub use terms::word;
+pub use terms::word_of;
+pub use upright::mode_of;
+pub use upright::upright_of;
 pub use upright::vertical;

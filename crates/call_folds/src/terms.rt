@@ -23,7 +23,7 @@ fn by(motion: Motion, big: bool, stop: bool) -> Asked
 
 // The word motion that a number stands for: 0 `move_word_fwd`, 1 `move_word_back`, 2 and 3
 // `move_word_end` with stop off and on, 4 `move_word_end_back`, which takes no folds.
-fn word_of(op: u32, big: bool) -> Asked
+pub fn word_of(op: u32, big: bool) -> Asked
     ensures { λ r. ⌜ r ≡ wordOf op big ⌝ }
 {
     match op {

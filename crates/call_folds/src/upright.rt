@@ -18,7 +18,7 @@ ghost use Rattle.call_folds.specs.Upright.{uprightOf, verticals};
 ghost use Rattle.call_folds.specs.Upright.{vertical as Upright·vertical};
 
 // The modes by their numbers: 0 None, 1 Char, 2 Word.
-pub(crate) fn mode_of(mode: u32) -> Wrap
+pub fn mode_of(mode: u32) -> Wrap
     ensures { λ r. ⌜ r ≡ modeOf mode ⌝ }
 {
     match mode {
@@ -52,7 +52,7 @@ fn rows(down: bool, ambiguous: Ambiguous) -> Asked
 
 // The motion that a number stands for under a setting: 0 `move_up`, 1 `move_down`, 2 `move_screen_up`, 3
 // `move_screen_down`.
-fn upright_of(op: u32, ambiguous: Ambiguous, mode: Wrap, width: u16) -> Asked
+pub fn upright_of(op: u32, ambiguous: Ambiguous, mode: Wrap, width: u16) -> Asked
     ensures { λ r. ⌜ r ≡ uprightOf ambiguous op mode width ⌝ }
 {
     match op {

@@ -19,9 +19,13 @@ pub use inners::inner_pair;
 pub use moves::caret_of;
 pub use moves::motion;
 pub use moves::place;
+pub use moves::way_of;
 pub use pairs::matching_bracket_pos;
 pub use rows::content_row_count;
 pub use seeks::seek;
+pub use seeks::seek_of;
+pub use seeks::tell;
+pub use viewports::edge_of;
 pub use viewports::viewport;
 
 // What a number asks for: a move, or nothing where it stands for none.

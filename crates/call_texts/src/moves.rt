@@ -61,7 +61,7 @@ pub fn place(m: Moved, out: &mut [u32; 4]) -> u32
 }
 
 // The move that a number stands for, in the order of motions.rs.
-fn way_of(op: u32) -> Asked
+pub fn way_of(op: u32) -> Asked
     ensures { λ r. ⌜ r ≡ wayOf op ⌝ }
 {
     match op {

@@ -12,7 +12,7 @@ ghost use Rattle.call_texts.specs.Carets.{caretOf};
 ghost use Rattle.call_texts.specs.Seeks.{sought, seekOf, seeks};
 
 // Puts 1 or 0, found or missing, and the caret into `out`; answers 0, or the refusal's number.
-fn tell(m: Sought, out: &mut [u32; 5]) -> u32
+pub fn tell(m: Sought, out: &mut [u32; 5]) -> u32
     ensures { λ r. ⌜ Replied (sought m) (now (out .entry)) r (now (out .exit)) ⌝ }
 {
     match m {
@@ -44,7 +44,7 @@ fn find(x: u32, forward: bool, till: bool, skip: bool) -> Asked
 
 // What a number stands for: 0 `match_bracket`, which seeks no character; 1 and on
 // `find_char_on_line`, 1 more for forward, 2 more for till, 4 more for skip_adjacent.
-fn seek_of(op: u32, x: u32) -> Asked
+pub fn seek_of(op: u32, x: u32) -> Asked
     ensures { λ r. ⌜ r ≡ seekOf op x ⌝ }
 {
     match op {

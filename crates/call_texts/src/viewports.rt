@@ -24,7 +24,7 @@ fn to(edge: Edge, top: u32, height: u16, offset: u32) -> Asked
 
 // The viewport motion that a number stands for: 0 `move_viewport_top`, which takes no height, 1
 // `move_viewport_middle`, which takes no offset, 2 `move_viewport_bottom`.
-fn edge_of(op: u32, top: u32, height: u16, offset: u32) -> Asked
+pub fn edge_of(op: u32, top: u32, height: u16, offset: u32) -> Asked
     ensures { λ r. ⌜ r ≡ edgeOf op top height offset ⌝ }
 {
     match op {

@@ -116,7 +116,7 @@ module _ (buf folds : List ℕ) (s : Sizes) (p q : Position) (c : List ℕ) (k :
               there : Stretches t p q
               there = stretches t p q (sym number ∙ x)
 
-              at : r ≡ record { refusal = 0; from = offsetOf t p; to = offsetOf t q }
+              at : r ≡ record { refusal = 0; from = offsetOf t p; to = offsetOf t q; rows = rowCount t }
               at = checked-at t p q D r r-is (sym number ∙ x)
 
               from-is : r .from ≡ offsetOf t p

@@ -80,7 +80,7 @@ module _ (t : List ℕ) (p : Position) where
 
 module _ (t : List ℕ) (p q : Position) where
   -- an answer of the checks, by the number that refuses
-  pub checked-none : (f : ℕ) (r : Checked) → f ≡ 0 → r ≡ record { refusal = 0; from = offsetOf t p; to = offsetOf t q } → r ≡ checkedBy f t p q
+  pub checked-none : (f : ℕ) (r : Checked) → f ≡ 0 → r ≡ record { refusal = 0; from = offsetOf t p; to = offsetOf t q; rows = rowCount t } → r ≡ checkedBy f t p q
   unfolding checkedBy
   checked-none f r z e = rw (eq-eqb f 0 z) e
 
@@ -92,11 +92,11 @@ module _ (t : List ℕ) (p q : Position) where
   unfolding checkedBy
   checked-number f r e = go (eqb f 0) refl e
     where
-      go : (b : Bool) → eqb f 0 ≡ b → r ≡ cond b (record { refusal = 0; from = offsetOf t p; to = offsetOf t q }) (refusedBy f) → r .refusal ≡ f
+      go : (b : Bool) → eqb f 0 ≡ b → r ≡ cond b (record { refusal = 0; from = offsetOf t p; to = offsetOf t q; rows = rowCount t }) (refusedBy f) → r .refusal ≡ f
       go true u v = ap (λ (x : Checked). x .refusal) v ∙ sym (eqb-true f 0 u)
       go false u v = ap (λ (x : Checked). x .refusal) v
 
-  pub checked-at : (f : ℕ) (r : Checked) → r ≡ checkedBy f t p q → f ≡ 0 → r ≡ record { refusal = 0; from = offsetOf t p; to = offsetOf t q }
+  pub checked-at : (f : ℕ) (r : Checked) → r ≡ checkedBy f t p q → f ≡ 0 → r ≡ record { refusal = 0; from = offsetOf t p; to = offsetOf t q; rows = rowCount t }
   unfolding checkedBy
   checked-at f r e z = e ∙ rw (eq-eqb f 0 z)
 
@@ -114,12 +114,12 @@ module _ (t : List ℕ) (p q : Position) where
   stretch-order a b true e = rw (a, b, e)
   stretch-order a b false e = rw (a, b, e)
 
-  pub stretch-none : (l m : Line) → (isInside t p ≡ true) × (l ≡ lineAt t (p .row)) → (isInside t q ≡ true) × (m ≡ lineAt t (q .row)) →
-      isBefore q p ≡ false → record { refusal = 0; from = l .start + p .col; to = m .start + q .col } ≡ stretchOf t p q
-  stretch-none l m u v o =
+  pub stretch-none : (l m : Line) (rows : ℕ) → rows ≡ rowCount t → (isInside t p ≡ true) × (l ≡ lineAt t (p .row)) → (isInside t q ≡ true) × (m ≡ lineAt t (q .row)) →
+      isBefore q p ≡ false → record { refusal = 0; from = l .start + p .col; to = m .start + q .col; rows = rows } ≡ stretchOf t p q
+  stretch-none l m rows r u v o =
       let f = ap (λ (x : Line). x .start + p .col) (u .1) in
       let g = ap (λ (x : Line). x .start + q .col) (v .1) in
-      checked-none (stretchRefusal t p q) _ (stretch-order (u .0) (v .0) false o) (λ i. record { refusal = 0; from = f i; to = g i })
+      checked-none (stretchRefusal t p q) _ (stretch-order (u .0) (v .0) false o) (λ i. record { refusal = 0; from = f i; to = g i; rows = r i })
 
   -- a stretch that is not refused
   pub record Stretches : Type 0 where

@@ -16,12 +16,13 @@ pub enum Spot {
     Out,
 }
 
-// What the checks of an edit find out: its refusal, and the offsets at which the stretch starts and
-// ends. They are 0 beside a refusal.
+// What the checks of an edit find out: its refusal, the offsets at which the stretch starts and ends,
+// and how many rows the text has. They are 0 beside a refusal.
 pub struct Checked {
     pub refusal: u32,
     pub from: usize,
     pub to: usize,
+    pub rows: usize,
 }
 
 // How much of its buffers an edit takes for its text and its folds: so many code points, and so
@@ -39,6 +40,7 @@ fn refused(f: u32) -> Checked
         refusal: f,
         from: 0,
         to: 0,
+        rows: 0,
     }
 }
 
@@ -102,6 +104,7 @@ fn stretch(t: &[u32], rows: usize, p: Position, q: Position) -> Checked
         refusal: 0,
         from: l.start + p.col,
         to: m.start + q.col,
+        rows: rows,
     }
 }
 

@@ -40,24 +40,24 @@ pub struct Rows {
 // Code points that are none.
 const NONE: [u32; 1] = [0];
 
-// The check of the table, once the edit itself is not refused: 15 where it has no place for each
+// The check of the table of a text with so many rows, once the edit itself is not refused: 15 where it has no place for each
 // row before the edit and for each after it, 16 where it is not the text's.
 fn check_rows(
     text: &[u32],
     starts: &[u32],
     len: usize,
+    before: usize,
     content: u32,
     p: Position,
     q: Position,
     points: &[u32],
 ) -> Rows
-    requires { ⌜ Stretch (now text) len p q ⌝ }
+    requires { ⌜ Stretch (now text) len p q × (before ≡ rowCount (take len (now text))) ⌝ }
     requires { ⌜ length (now points) ≤ 1048576 ⌝ }
     ensures { λ r. ⌜ RowsChecked (take len (now (text .entry))) (now (starts .entry)) content
         (textAfter (take len (now (text .entry))) p q (now (points .entry))) r ⌝ }
 {
     let t = &text[..len];
-    let before = text::row_count(t);
     let after = before - (q.row - p.row) + text::separators(points);
     let need = text::most(before, after);
     let refusal = row_table::check::table_refusal(t, before, need, starts, content);
@@ -132,7 +132,7 @@ fn edit_rows(
     if at.refusal != 0 {
         return EditedRows::Refused(at.refusal);
     }
-    let rows = check_rows(text, starts, s.len, content, p, q, points);
+    let rows = check_rows(text, starts, s.len, at.rows, content, p, q, points);
     if rows.refusal != 0 {
         return EditedRows::Refused(rows.refusal);
     }

@@ -121,6 +121,7 @@ module _ (buf folds : List ℕ) (s : Sizes) (p q : Position) (c : List ℕ) (k :
         points-brief = g;
         from-is = a;
         to-is = b;
+        rows-is = ap (λ (y : Checked). y .rows) x;
         order = w .order;
         first = w .first;
         second = w .second;

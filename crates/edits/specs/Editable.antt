@@ -23,13 +23,14 @@ use Rattle.edits.specs.Edits.{newText, newFolds, leftOf}
 abbrev pub StandsIn : List ℕ → Position → Type 0
 StandsIn t x = At t (x .row) (x .col) (offsetOf t x)
 
--- nothing refuses the edit, and `at` are the offsets of its stretch; from `first-near` on most follows from what stands before
+-- nothing refuses the edit, and `at` are the offsets of its stretch and the rows of the text; from `first-near` on most follows from what stands before
 pub record Editable (buf folds : List ℕ) (s : Sizes) (at : Checked) (p q : Position) (c : List ℕ) (k : Caret) : Type 0 where
   pub fits : s .len ≤ length buf
   pub brief : s .len ≤ 1048576
   pub points-brief : length c ≤ 1048576
   pub from-is : at .from ≡ offsetOf (take (s .len) buf) p
   pub to-is : at .to ≡ offsetOf (take (s .len) buf) q
+  pub rows-is : at .rows ≡ rowCount (take (s .len) buf)
   pub order : offsetOf (take (s .len) buf) p ≤ offsetOf (take (s .len) buf) q
   pub first : StandsIn (take (s .len) buf) p
   pub second : StandsIn (take (s .len) buf) q

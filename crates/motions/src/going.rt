@@ -11,7 +11,7 @@ use text_moves::Way;
 ghost use mathlib.Core.Path.{_≡_};
 ghost use Rattle.text_moves.specs.Ways.{gone};
 ghost use Rattle.positions.specs.Positions.{Accepted};
-ghost use Rattle.motions.specs.Carets.{here, put, leads};
+ghost use Rattle.motions.specs.Carets.{here, put, leads, entryOf};
 ghost use Rattle.motions.specs.Checks.{Ready};
 ghost use Rattle.motions.specs.Going.{walks, goes, movedBy};
 ghost use Rattle.motions.specs.Going.{landed as Going·landed};
@@ -129,8 +129,7 @@ impl Caret {
         }
     }
 
-    // Any motion. A move takes only the inputs that it needs: a wrong list refuses no `j`. A motion
-    // that is no search has found where it leads to.
+    // Any motion.
     pub fn go(
         self,
         t: &[u32],
@@ -144,11 +143,7 @@ impl Caret {
             m count self ⌝ }
     {
         let e = self.enter(t);
-        let f = checks(e, folds, tabstop, m);
-        if f != 0 {
-            return Sought::Refused(f);
-        }
-        self.walk(t, folds, list, tabstop, e, m, count)
+        go_from(self, t, folds, list, tabstop, e, m, count)
     }
 
     // The caret after any motion: a search that finds nothing leaves it where it was.
@@ -175,4 +170,28 @@ impl Caret {
         let none = &t[..0];
         self.moved_by(t, none, none, 0, Move::By(w), count)
     }
+}
+
+// Any motion of a caret, by what the checks of it and of its text have found out, in whatever way. A
+// move takes only the inputs that it needs: a wrong list refuses no `j`. A motion that is no search has
+// found where it leads to.
+pub fn go_from(
+    k: Caret,
+    t: &[u32],
+    folds: &[u32],
+    list: &[u32],
+    tabstop: u32,
+    e: Entry,
+    m: Move,
+    count: u32,
+) -> Sought
+    requires { ⌜ e ≡ entryOf (now t) k ⌝ }
+    ensures { λ r. ⌜ r ≡ goes (now (t .entry)) (now (folds .entry)) (now (list .entry)) tabstop m
+        count k ⌝ }
+{
+    let f = checks(e, folds, tabstop, m);
+    if f != 0 {
+        return Sought::Refused(f);
+    }
+    k.walk(t, folds, list, tabstop, e, m, count)
 }

@@ -26,6 +26,8 @@ mod viewport_moves;
 mod within;
 mod word_moves;
 
+pub use going::go_from;
+
 // A row, a column in it, which may be the row's character count, the sticky column, and the offset
 // within a segment that the screen moves which remember keep. Every other motion that is not refused
 // leaves no offset, moved or not.

@@ -42,7 +42,7 @@ fn end_of(t: &[u32], starts: &[u32], rows: usize, content: u32, row: usize) -> u
 }
 
 // What `positions::enter` finds out, by the table: nothing of the text is read.
-fn enter_by(t: &[u32], starts: &[u32], rows: usize, content: u32, p: Position) -> Entry
+pub fn enter_by(t: &[u32], starts: &[u32], rows: usize, content: u32, p: Position) -> Entry
     requires { ⌜ Held (now t) (now starts) rows content ⌝ }
     ensures { λ r. ⌜ r ≡ entryOf (now (t .entry)) p ⌝ }
 {

@@ -83,11 +83,12 @@ returns-4 c =
     let next = second .before .before in
     let first = next .before .before in
     let found = first .before .before in
-    let a = found .before .before .args in
+    let start = found .before .before in
+    let a = start .args in
     let t = a.t .now in
     let in-p = in-inside t a.p (first .l .given .0 .0) (sym (found .spot-in .ensures) ∙ first .l .given .1) in
     let in-q = in-inside t a.q (second .m .given .0 .0) (sym (next .spot-in2 .ensures) ∙ second .m .given .1) in
-    stretch-none t a.p a.q (first .l .given .0 .0) (second .m .given .0 .0) in-p in-q (sym (asked .is-before .ensures) ∙ c .before .before .before .before .if1 .left)
+    stretch-none t a.p a.q (first .l .given .0 .0) (second .m .given .0 .0) a.rows (start .pre .0) in-p in-q (sym (asked .is-before .ensures) ∙ c .before .before .before .before .if1 .left)
 
 pub stretch-spec : {M : Type 1} → statement M
 stretch-spec =

@@ -14,35 +14,34 @@ use Rattle.edit_rows.proofs.check_rows.Statement.{statement}
 use Rattle.edit_rows.proofs.check_rows.Tie as tie
 
 slice-t : tie.Need-slice-aggregate-t
-slice-t c = sym (length-take-le _ _ (c .before .before .before .before .pre .0 .fits))
+slice-t c = sym (length-take-le _ _ (c .before .before .before .before .pre .0 .0 .fits))
 
 add-after : tie.Need-add-after
 add-after c =
-    let start = c .before .before .before .before .before .before .before .before in
+    let start = c .before .before .before .before .before .before .before in
     let a = start .args in
     let t = take a.len (a.text .now) in
-    omega (arith, c .before .before .before .row-count .ensures, c .separators .ensures, count-le t, length-take-le a.len (a.text .now) (start .pre .0 .fits), start .pre .0 .brief)
+    omega (arith, start .pre .0 .1, c .separators .ensures, count-le t, length-take-le a.len (a.text .now) (start .pre .0 .0 .fits), start .pre .0 .0 .brief)
 
 returns : tie.Need-returns
 returns c =
     let most = c .before in
     let counted = most .before in
-    let before = counted .before .before .before in
-    let start = before .before .before .before .before .before in
+    let start = counted .before .before .before .before .before .before .before in
     let a = start .args in
     let t = take a.len (a.text .now) in
     let new = textAfter t a.p a.q (a.points .now) in
-    let after-is : before .row-count .result - (a.q .row - a.p .row) + counted .separators .result ≡ rowCount new =
-    omega (arith, before .row-count .ensures, counted .separators .ensures .0, rows-after (start .pre .0) (a.points .now)) in
-    let need : most .most .result ≡ max (rowCount t) (rowCount new) = most .most .ensures ∙ (λ i. max (before .row-count .ensures i) (after-is i)) in
+    let after-is : a.before - (a.q .row - a.p .row) + counted .separators .result ≡ rowCount new =
+    omega (arith, start .pre .0 .1, counted .separators .ensures .0, rows-after (start .pre .0 .0) (a.points .now)) in
+    let need : most .most .result ≡ max (rowCount t) (rowCount new) = most .most .ensures ∙ (λ i. max (start .pre .0 .1 i) (after-is i)) in
     record {
       refusal-is = c .table-refusal .ensures ∙ ap (λ (n : ℕ). tableRefusal n t (a.starts .now) a.content) need;
-      before-is = before .row-count .ensures;
+      before-is = start .pre .0 .1;
       after-is = after-is;
     }
 
 pub check-rows-spec : {M : Type 1} → statement M
 check-rows-spec =
     tie.close
-    (tie.spec slice-t (λ c κs. search needs) (λ c. search needs) (λ c. search needs) (λ c κs. search needs) add-after (λ c κs. search needs)
+    (tie.spec slice-t (λ c. search needs) (λ c. search needs) (λ c κs. search needs) add-after (λ c κs. search needs)
     (λ c κs. search needs) returns)

@@ -23,7 +23,7 @@ check-rows-requires c κs =
     let is = checked .check .ensures in
     let none = sym (number-is (a.text .now) (a.folds .now) a.s a.p a.q (a.points .now) a.k (checked .check .result) is) ∙ tested .if1 .left in
     let e = editable (a.text .now) (a.folds .now) a.s a.p a.q (a.points .now) a.k none (checked .check .result) is in
-    (stretch e, e .points-brief)
+    ((stretch e, e .rows-is), e .points-brief)
 
 returns-2 : tie.Need-returns-2
 returns-2 c =

@@ -1,23 +1,30 @@
-//! The table of row starts, filled and kept, against the naive one of the oracle, which counts anew after each edit.
+//! The table of row starts, filled and kept, against the naive one of the oracle, which counts anew after each edit; and every
+//! motion that takes it against the same motion of the given Rust, and the table against a count anew.
 //! `./compare --row-table --help` says how.
 
-use oracle::edits;
+use compare::{port, port_rows};
+use oracle::case::{CALLS, Call, Case};
 use oracle::generate::{self, Dice};
-use oracle::row_table::{Tabled, counted, fill};
+use oracle::row_table::{Tabled, counted, fill, second};
+use oracle::{Outcome, edits};
 use std::process::ExitCode;
-use tsivareza::{Page, Room, TabledPage, bytes, row_starts};
+use tsivareza::{Page, Room, Rows, TabledPage, bytes, row_starts};
 
 const HELP: &str = "\
 ./compare --row-table [--runs N] [--seed S] [--small MOST]
     every text of up to MOST code points (4) with tables exact, one short and longer; with every stretch,
     inserts of up to 2, and tables and counts that are right, damaged at each place and beside another
     count; N random runs of edits from the seed S (300 from 1) with a count anew after each; damaged texts;
-    the limits";
+    the limits; of each motion with a table every case with a text of up to MOST - 1 code points, 2 at most, and
+    N random ones and its limits, each with the text's table and with damaged ones";
 
 struct Count {
     room: Room,
     fills: u64,
     edits: u64,
+    motions: u64,
+    /// Which of the damaged tables comes next.
+    turn: usize,
     differ: u64,
 }
 
@@ -72,6 +79,32 @@ impl Count {
     }
 }
 
+impl Count {
+    /// A motion with a table, in each form: what it answers without one, then 15 and 16.
+    fn motion(&mut self, case: &Case, first: &Outcome, table: &[u32], content: u32) {
+        self.motions += 1;
+        let answer = port_rows(case, Rows { starts: table, content }, Some(&mut self.room));
+        let wanted = Some(second(first.clone(), &case.text, table, content));
+        self.told(answer == wanted, || format!("{case} with {table:?}, {content}: {answer:?}, and not {wanted:?}"));
+    }
+
+    /// The same with the text's own table, and with as many of the others as are asked for, in turn.
+    fn motions(&mut self, case: &Case, most: usize) {
+        let first = match case.answer() {
+            Outcome::Outside => port(case, None),
+            told => told,
+        };
+        let all = tables(&case.text);
+        let (own, others) = all.split_first().expect("a table");
+        self.motion(case, &first, &own.0, own.1);
+        for i in 0..most.min(others.len()) {
+            let (table, content) = &others[(self.turn + i) % others.len()];
+            self.motion(case, &first, table, *content);
+        }
+        self.turn += most.min(others.len());
+    }
+}
+
 /// The positions of a text, and some that lie outside it.
 fn places(text: &[u32]) -> Vec<(u32, u32)> {
     let rows: Vec<usize> = text.split(|&x| x == 10).map(<[u32]>::len).collect();
@@ -79,7 +112,7 @@ fn places(text: &[u32]) -> Vec<(u32, u32)> {
     in_rows.chain([(rows.len() as u32, 0)]).collect()
 }
 
-/// Tables and counts for a text: its own in tables of several lengths, and damaged ones.
+/// Tables and counts for a text: its own in tables of several lengths, and damaged ones, of a long text at some places.
 fn tables(text: &[u32]) -> Vec<(Vec<u32>, u32)> {
     let (starts, content) = counted(text);
     let mut all = Vec::new();
@@ -90,11 +123,18 @@ fn tables(text: &[u32]) -> Vec<(Vec<u32>, u32)> {
     }
     all.push((starts[..starts.len() - 1].to_vec(), content));
     all.extend([(starts.clone(), content + 1), (starts.clone(), content.wrapping_sub(1))]);
-    for place in 0..starts.len() {
+    let last = starts.len() - 1;
+    let places: Vec<usize> = if last < 50 { (0..=last).collect() } else { vec![0, 1, last / 2, last] };
+    for &place in &places {
         for wrong in [0, 1, starts[place].wrapping_sub(1), starts[place] + 1, text.len() as u32, u32::MAX] {
             let mut table = starts.clone();
             table[place] = wrong;
             table.push(5);
+            all.push((table, content));
+        }
+        if place < last {
+            let mut table = starts.clone();
+            table.swap(place, place + 1);
             all.push((table, content));
         }
     }
@@ -177,6 +217,25 @@ fn limits(count: &mut Count) {
     count.edit(&mut host, Edit::Insert(&vec![0x0A; 999_990], (0, 0)));
 }
 
+/// Every motion that takes a table.
+fn with_a_table() -> impl Iterator<Item = &'static Call> {
+    let rows = Rows { starts: &[0], content: 1 };
+    CALLS.iter().filter(move |&call| port_rows(&Case::new(call), rows, None).is_some())
+}
+
+/// Each of them on small texts, on random ones with all tables, and at the limits.
+fn motions(count: &mut Count, most: usize, runs: u64, seed: u64) {
+    for call in with_a_table() {
+        generate::small(call, most.clamp(1, 3) - 1, |case| count.motions(case, 3));
+        for index in 0..runs {
+            count.motions(&generate::random(call, &mut Dice::new(seed, index)), usize::MAX);
+        }
+        for case in generate::limits(call) {
+            count.motions(&case, 2);
+        }
+    }
+}
+
 fn asked(words: &[String]) -> Result<Count, String> {
     let (mut runs, mut seed, mut most) = (300, 1, 4);
     let mut words = words.iter();
@@ -192,9 +251,10 @@ fn asked(words: &[String]) -> Result<Count, String> {
             word => return Err(format!("`{word}` is not known\n{HELP}")),
         }
     }
-    let mut count = Count { room: Room::new(1_100_000), fills: 0, edits: 0, differ: 0 };
+    let mut count = Count { room: Room::new(1_100_000), fills: 0, edits: 0, motions: 0, turn: 0, differ: 0 };
     small(&mut count, most);
     limits(&mut count);
+    motions(&mut count, most, runs, seed);
     for i in 0..runs {
         run(&mut count, &mut Dice::new(seed, i));
     }
@@ -208,8 +268,8 @@ fn main() -> ExitCode {
         return ExitCode::SUCCESS;
     }
     match asked(&words) {
-        Ok(Count { fills, edits, differ, .. }) => {
-            println!("row table: {fills} fills, {edits} edits, {differ} differ");
+        Ok(Count { fills, edits, motions, differ, .. }) => {
+            println!("row table: {fills} fills, {edits} edits, {motions} motions of {}, {differ} differ", with_a_table().count());
             ExitCode::from(u8::from(differ != 0))
         }
         Err(why) => {

@@ -1,0 +1,2 @@
+-- Laws of the motions by numbers with a table.
+pub mod Tabled

@@ -1,0 +1,2 @@
+-- Laws of the motions with a table.
+pub mod Alike
