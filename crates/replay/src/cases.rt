@@ -41,6 +41,7 @@ fn by_group(
         19 => replay_edits::edit(k, text, folds, list, stored),
         20 => replay_fold_file::fold_file(k, text, folds, list, stored),
         21 => replay_classes::by_class(k, text, folds, list, stored),
+        23 => replay_vim::vim(k, list, stored),
         _ => Verdict::Malformed,
     }
 }

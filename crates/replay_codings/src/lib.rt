@@ -43,7 +43,13 @@ pub fn widen(bytes: &[u8], numbers: &mut [u32])
 }
 
 // Three numbers and what lent places hold, against the stored answer.
-fn compared_three(first: u32, second: u32, third: u32, places: &[u32], stored: &[u32]) -> Verdict
+pub fn compared_three(
+    first: u32,
+    second: u32,
+    third: u32,
+    places: &[u32],
+    stored: &[u32],
+) -> Verdict
     ensures { λ r. ⌜ r ≡ Answers·compared (first ∷ second ∷ third ∷ now (places .entry))
         (now (stored .entry)) ⌝ }
 {

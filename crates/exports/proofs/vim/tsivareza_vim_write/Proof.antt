@@ -1,0 +1,47 @@
+-- `tsivareza_vim_write` meets its contract: the room is filled, and the call on code points answers. Assumes nothing.
+use mathlib.Core.List.{List}
+use Prim.Native.Nat.{ℕ}
+use borrow.Author.Needs.{needs}
+use Rattle.call_signs.specs.Entry.{placedReply}
+use Rattle.call_vim.specs.Vim.{vimWriting, vimLeft}
+use Rattle.call_bytes.proofs.Replies.{answered-unfit, front-count, answered-one, kept-unfit, left-fit}
+use Rattle.exports.proofs.vim.tsivareza_vim_write.Statement.{statement}
+use Rattle.exports.proofs.vim.tsivareza_vim_write.Tie as tie
+
+-- what was lent is unfit
+returns : tie.Need-returns
+returns c =
+    let f = c .before .before .before .fill .ensures in
+    (answered-unfit f (c .if1 .taken), kept-unfit f (c .if1 .taken) _ _)
+
+part : tie.Need-slice-reshare-prefix-vim-write
+part c = c .before .before .before .fill .ensures .fit (c .if1 .left) .within
+
+part-length : tie.Need-slice-aggregate-vim-write
+part-length c = front-count (c .before .before .before .before .fill .ensures) (c .before .if1 .left)
+
+-- the call on code points answers
+returns-2 : tie.Need-returns-2
+returns-2 c =
+    let b = c .before .before .before .before .before .before in
+    let a = b .before .before .before .before .before .before .before .before .args in
+    let f = b .before .before .before .fill .ensures in
+    let s = c .before .before .vim-write .ensures in (
+      answered-one f (λ (t : List ℕ). placedReply (vimWriting t (a .written .now))) (b .if1 .left) (s .0),
+      left-fit f (λ (t : List ℕ). vimLeft t (a .written .now)) (b .if1 .left) _ (s .1),
+    )
+
+pub tsivareza-vim-write-spec : {M : Type 1} → statement M
+tsivareza-vim-write-spec =
+    tie.close
+    (tie.spec
+    (λ c κs. search needs)
+    (λ c. search needs)
+    (λ c. search needs)
+    returns
+    part
+    part-length
+    (λ c κs. search needs)
+    (λ c. search needs)
+    (λ c. search needs)
+    returns-2)

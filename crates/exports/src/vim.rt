@@ -1,0 +1,74 @@
+// Vim's own keyword lists (document 02, #108).
+use call_bytes::fill;
+ghost use mathlib.Core.Path.{_≡_};
+ghost use Rattle.call_points.specs.Points.{points};
+ghost use Rattle.call_bytes.specs.Reply.{Replied, Answered, unfitOne, fitting};
+ghost use Rattle.call_signs.specs.Entry.{placedReply};
+ghost use Rattle.call_vim.specs.Vim.{vimBy, vimWriting, vimLeft};
+
+// A list of code points read, and a character. The answer's low half is a refusal's number, its
+// high half the place that 17 has.
+#[no_mangle]
+pub extern "C" fn tsivareza_vim_list_u32(op: u32, list: &[u32], x: u32, out: &mut [u32; 1]) -> u64
+    ensures { λ r. ⌜ Replied (placedReply (vimBy op x (now (list .entry)))) (now (out .entry)) r
+        (now (out .exit)) ⌝ }
+{
+    call_vim::vim_list(op, list, x, out)
+}
+
+// A list of bytes read, and a character.
+#[no_mangle]
+pub extern "C" fn tsivareza_vim_list(
+    op: u32,
+    list: &[u8],
+    room: &mut [u32],
+    x: u32,
+    out: &mut [u32; 1],
+) -> u64
+    ensures { λ r. ⌜ Answered (now (list .entry)) (now (room .entry)) (now (out .entry)) (placedReply
+        (vimBy op x (points (now (list .entry))))) r (now (room .exit)) (now (out .exit)) ⌝ }
+{
+    let f = fill(list, room);
+    if f != 0 {
+        return f as u64;
+    }
+    let n = list.len() / 4;
+    call_vim::vim_list(op, &room[..n], x, out)
+}
+
+// A list of code points read and written again.
+#[no_mangle]
+pub extern "C" fn tsivareza_vim_write_u32(
+    list: &[u32],
+    written: &mut [u32],
+    out: &mut [u32; 1],
+) -> u64
+    ensures { λ r. ⌜ Replied (placedReply (vimWriting (now (list .entry)) (now (written .entry))))
+        (now (out .entry)) r (now (out .exit)) ⌝ }
+    ensures { λ _. ⌜ now (written .exit) ≡ vimLeft (now (list .entry)) (now (written .entry)) ⌝ }
+{
+    call_vim::vim_write(list, written, out)
+}
+
+// A list of bytes read and written again.
+#[no_mangle]
+pub extern "C" fn tsivareza_vim_write(
+    list: &[u8],
+    room: &mut [u32],
+    written: &mut [u32],
+    out: &mut [u32; 1],
+) -> u64
+    ensures { λ r. ⌜ Answered (now (list .entry)) (now (room .entry)) (now (out .entry)) (placedReply
+        (vimWriting (points (now (list .entry))) (now (written .entry)))) r (now (room .exit))
+        (now (out .exit)) ⌝ }
+    ensures { λ _. ⌜ now (written .exit) ≡ fitting (unfitOne (now (list .entry))
+        (now (room .entry))) (vimLeft (points (now (list .entry))) (now (written .entry)))
+        (now (written .entry)) ⌝ }
+{
+    let f = fill(list, room);
+    if f != 0 {
+        return f as u64;
+    }
+    let n = list.len() / 4;
+    call_vim::vim_write(&room[..n], written, out)
+}

@@ -1,0 +1,36 @@
+-- Laws of what a call on a Vim list replies: it fills its one place, and is compared by its number, its place and that. Assumes nothing.
+use mathlib.Core.Path.{_≡_, refl, sym, _∙_}
+use mathlib.Core.List.{List, [], _∷_}
+use Prim.Native.Nat.{ℕ, _/_, _%_}
+use lib.ListN.{length, getD, replicate}
+use Rattle.call_bytes.specs.Reply.{Replied, left}
+use Rattle.call_signs.specs.declared.Placed.{Placed}
+use Rattle.call_signs.specs.declared.Placed.the-variants.{Value, Refused}
+use Rattle.call_signs.specs.Entry.{placedReply}
+use Rattle.call_vim.specs.Vim.{vimBy, vimWriting, vimLeft}
+use Rattle.replay_rows.specs.declared.Head.{Head}
+use Rattle.replay_verdicts.specs.declared.Verdict.{Verdict}
+use Rattle.replay_verdicts.specs.Answers.{compared, filler}
+use Rattle.replay_vim.specs.Vim.{vimListOf, vimInto}
+
+pub placed-sized : (m : Placed) → length (left (placedReply m) (replicate 1 filler)) ≡ 1
+placed-sized (Value n) = refl
+placed-sized (Refused f) = refl
+
+placed-single : (m : Placed) → left (placedReply m) (filler ∷ []) ≡ getD (left (placedReply m) (filler ∷ [])) 0 0 ∷ []
+placed-single (Value n) = refl
+placed-single (Refused f) = refl
+
+pub list-compared :
+    (k : Head) (list stored : List ℕ) {r : ℕ} {out : List ℕ} {v : Verdict} →
+    Replied (placedReply (vimBy (k .op) (k .a) list)) (replicate 1 filler) r out →
+    v ≡ compared (r % 4294967296 ∷ r / 4294967296 ∷ out) stored → v ≡ compared (vimListOf k list) stored
+unfolding vimListOf
+list-compared k list stored p e = e ∙ rw (p .numbered, p .out-left) refl
+
+pub written-compared :
+    (list written stored : List ℕ) {r : ℕ} {out : List ℕ} {v : Verdict} →
+    Replied (placedReply (vimWriting list written)) (replicate 1 filler) r out →
+    v ≡ compared (r % 4294967296 ∷ r / 4294967296 ∷ getD out 0 0 ∷ vimLeft list written) stored → v ≡ compared (vimInto list written) stored
+unfolding vimInto
+written-compared list written stored p e = e ∙ rw (p .numbered, p .out-left) (sym (rw (placed-single (vimWriting list written)) refl))

@@ -1,0 +1,36 @@
+-- `vim_write` meets its contract: the test of the definition, and the places that are lent. Assumes nothing.
+use mathlib.Core.Path.{sym}
+use borrow.Author.Needs.{needs}
+use borrow.Author.Tests.{le-leb, lt-leb}
+use lib.ListN.{replicate}
+use lib.Seq.{length-take-le}
+use Rattle.replay_verdicts.specs.Answers.{filler}
+use Rattle.replay_verdicts.proofs.Comparing.{take-replicate}
+use Rattle.replay_vim.specs.Vim.{vimWriteVerdict}
+use Rattle.replay_vim.proofs.vim_write.Statement.{statement}
+use Rattle.replay_vim.proofs.vim_write.Tie as tie
+
+returns : tie.Need-returns
+unfolding vimWriteVerdict
+returns c = rw (lt-leb _ 64 (c .if1 .taken))
+
+lent : tie.Need-slice-aggregate-write-into
+lent c = sym (length-take-le _ (replicate 64 filler) (c .before .if1 .left))
+
+returns-2 : tie.Need-returns-2
+unfolding vimWriteVerdict
+returns-2 c =
+    let b = c .before .before .before in
+    let k = b .before .before .before .before .args .k in
+    rw (le-leb _ 64 (b .if1 .left), ← take-replicate (k .a) 64 filler (b .if1 .left)) (c .before .write-into .ensures)
+
+pub vim-write-spec : {M : Type 1} → statement M
+vim-write-spec =
+    tie.close
+    (tie.spec
+    (λ c. search needs)
+    returns
+    (λ c. search needs)
+    lent
+    (λ c κs. search needs)
+    returns-2)
