@@ -1,3 +1,4 @@
 pub mod Bare
 pub mod Classes
 pub mod Made
+pub mod Letters

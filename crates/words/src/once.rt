@@ -6,7 +6,10 @@ ghost use mathlib.Core.Path.{_≡_};
 ghost use Prim.Native.Nat.{_≤_};
 ghost use Rattle.lists.specs.Lists.{any};
 ghost use Rattle.word_kinds.specs.Lent.{isHigh};
-ghost use Rattle.words.specs.Prepared.{Prepares};
+ghost use Rattle.words.specs.Prepared.{Prepares, needsLetters};
+
+// From how many code points on a text is not looked through.
+const LONG: usize = 8192;
 
 // Whether the text has a code point for which the ranges of the letters are read.
 fn has_high(t: &[u32]) -> bool
@@ -21,7 +24,18 @@ fn has_high(t: &[u32]) -> bool
     high
 }
 
-// The bounds of the list's table, the setting, and whether the text needs the ranges of the letters.
+// Whether the ranges of the letters are to be lent: where the text has a code point for which they
+// are read, or is so long that to look for one takes longer than to make them.
+fn needs_letters(t: &[u32]) -> bool
+    ensures { λ r. ⌜ r ≡ needsLetters (now (t .entry)) ⌝ }
+{
+    if t.len() > LONG {
+        return true;
+    }
+    has_high(t)
+}
+
+// The bounds of the list's table, the setting, and whether the ranges of the letters are to be lent.
 // The rows of the text, and those with content, are handed in.
 pub fn prepare(t: &[u32], spec: KeywordSpec, big: bool, rows: usize, content: usize) -> Prepared
     requires { ⌜ spec .len ≤ 128 ⌝ }
@@ -35,7 +49,7 @@ pub fn prepare(t: &[u32], spec: KeywordSpec, big: bool, rows: usize, content: us
         letters: keywords::letters_of(spec),
         big: big,
     };
-    let high = has_high(t);
+    let high = needs_letters(t);
     Prepared {
         bounds: bounds,
         setting: s,

@@ -1,5 +1,6 @@
 // The rounds of a count: the loops of `move_word_fwd`, `move_word_back`, `move_word_end` and
 // `move_word_end_back` of motions.rs.
+use crate::Walked;
 use fold_stretches::Stretch;
 use word_kinds::Setting;
 use word_kinds::Spot;
@@ -12,6 +13,7 @@ ghost use Rattle.word_kinds.specs.Lent.{kindBy};
 ghost use Rattle.fold_stretches.specs.Stretches.{NoFold};
 ghost use Rattle.word_rounds.specs.Rounds.{roundOf, counted};
 ghost use Rattle.word_rounds.specs.Turns.{turnOf, RoundIn, Set};
+ghost use Rattle.words.specs.Walked.{Rounded};
 
 // A round after the first, where a stretch of rows without closed folds is known: outside it the
 // folds are lent, and in it none.
@@ -40,12 +42,59 @@ fn round_near(
     word_rounds::rounds::round(t, folds, bounds, starts, lengths, s, m, false, p)
 }
 
-// Rounds up to a count. One that changes nothing ends them: where a closed fold covers the end of
-// the text, each round comes to the same place. Any other passes places that no later round passes
-// again; a jump passes the rows of a fold, and the next round starts outside it. The folds are
-// asked where a round leaves a stretch of rows without closed folds: some twice for each fold, a
-// pass over them each time. So the cost is linear in the text, and some passes over the folds for
-// each fold, whatever the count.
+// Rounds up to a count, from a stretch of rows without closed folds that is known; with the place
+// comes the stretch that is known then, so that a walk that follows need not ask all folds. One that
+// changes nothing ends them: where a closed fold covers the end of the text, each round comes to the
+// same place. Any other passes places that no later round passes again; a jump passes the rows of a
+// fold, and the next round starts outside it. The folds are asked where a round leaves a stretch of
+// rows without closed folds: some twice for each fold, a pass over them each time. So the cost is
+// linear in the text, and some passes over the folds for each fold, whatever the count.
+pub fn rounds_from(
+    t: &[u32],
+    folds: &[u32],
+    bounds: &[u32; 256],
+    starts: &[u32],
+    lengths: &[u16],
+    s: Setting,
+    m: Motion,
+    known: Stretch,
+    count: u32,
+    p: Spot,
+) -> Walked
+    requires { ⌜ Set (now t) (now folds) (now bounds) (now starts) (now lengths) s p × NoFold (now folds) known ⌝ }
+    ensures { λ r. ⌜ Rounded (now (t .entry)) (now (folds .entry)) (kindBy (now (bounds .entry)) s) (s .big) m count (placeOf (now (t .entry)) p) r ⌝ }
+{
+    let mut cur = p;
+    let mut left = count;
+    let mut w = known;
+    while left > 0 {
+        w = fold_stretches::near(folds, s.rows, w, cur.row);
+        match round_near(t, folds, bounds, starts, lengths, s, m, w, cur) {
+            Round::Next(q) => {
+                if q.at == cur.at {
+                    return Walked {
+                        spot: cur,
+                        stretch: w,
+                    };
+                }
+                cur = q;
+                left -= 1;
+            }
+            Round::Last(q) => {
+                return Walked {
+                    spot: q,
+                    stretch: w,
+                };
+            }
+        }
+    }
+    Walked {
+        spot: cur,
+        stretch: w,
+    }
+}
+
+// The same where no stretch is known.
 pub fn rounds(
     t: &[u32],
     folds: &[u32],
@@ -66,23 +115,7 @@ pub fn rounds(
         count (placeOf (now (t .entry)) p)) ×
         IsSpot (now (t .entry)) r ⌝ }
 {
-    let mut cur = p;
-    let mut left = count;
-    let mut w = fold_stretches::around(folds, s.rows, p.row);
-    while left > 0 {
-        w = fold_stretches::near(folds, s.rows, w, cur.row);
-        match round_near(t, folds, bounds, starts, lengths, s, m, w, cur) {
-            Round::Next(q) => {
-                if q.at == cur.at {
-                    return cur;
-                }
-                cur = q;
-                left -= 1;
-            }
-            Round::Last(q) => {
-                return q;
-            }
-        }
-    }
-    cur
+    let w = fold_stretches::around(folds, s.rows, p.row);
+    let r = rounds_from(t, folds, bounds, starts, lengths, s, m, w, count, p);
+    r.spot
 }

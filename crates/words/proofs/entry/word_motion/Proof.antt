@@ -26,7 +26,7 @@ walk-requires : tie.Need-walk-requires
 walk-requires c κs =
     let r = c .before .before .before .before .before .before in
     let made = r .prepare .ensures in
-    let low = sym (made .is-high) ∙ c .before .before .before .if1 .left in
+    let low = made .none-high (c .before .before .before .if1 .left) in
     record {
       lent = record { room = made .room; lent = λ h. let z : _≡_ {A = ℕ} 0 1 = cc (sym h ∙ low) in absurd (omega arith) };
       folded = made-folded made (r .before .before .before .pre .0);

@@ -1,9 +1,10 @@
 -- `words::once::prepare` meets its contract: the bounds of the table hold what its tokens hold. Assumes nothing.
-use mathlib.Core.Path.{_≡_, refl}
+use mathlib.Core.Path.{_≡_, refl, sym, _∙_}
 use native.Mathlib.Omega.{arith}
 use lib.ListN.{length}
 use Rattle.list_tokens.proofs.Lists.{places}
 use Rattle.words.proofs.Classes.{kinds-by}
+use Rattle.words.proofs.Letters.{no-letters}
 use borrow.Author.Needs.{needs}
 use Rattle.words.proofs.once.prepare.Statement.{statement}
 use Rattle.words.proofs.once.prepare.Tie as tie
@@ -21,7 +22,7 @@ returns c =
       is-big = refl;
       all-rows = refl;
       content-rows = refl;
-      is-high = c .has-high .ensures;
+      none-high = λ z. no-letters (a .t .now) (sym (c .needs-letters .ensures) ∙ z);
     }
 
 pub prepare-spec : {M : Type 1} → statement M

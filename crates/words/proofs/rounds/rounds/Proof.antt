@@ -1,96 +1,13 @@
--- `words::rounds::rounds` meets its contract. The invariant of its loop: the rounds left from `cur` on come to where all of them come, and
--- there is no closed fold at the rows of the stretch. The measure is how many are left. Assumes nothing.
-use mathlib.Core.Path.{_≡_, refl, ap, sym, _∙_}
-use mathlib.Core.Bool.{false}
-use native.Mathlib.Omega.{arith}
-use Rattle.word_rounds.specs.Rounds.{On, roundOf, counted}
-use Rattle.word_kinds.specs.Spots.{placeOf, IsSpot}
-use Rattle.word_kinds.specs.Lent.{kindBy}
-use Rattle.fold_stretches.specs.Stretches.{NoFold}
-use Rattle.word_rounds.proofs.Counts.{counted-none, counted-on, counted-off, counted-still}
-use Rattle.word_rounds.proofs.Turning.{turn-next, turn-last, next-in, last-in, same-place, set-at}
+-- `words::rounds::rounds` meets its contract: the stretch around the row is one without closed folds. Assumes nothing.
 use borrow.Author.Needs.{needs}
 use Rattle.words.proofs.rounds.rounds.Statement.{statement}
 use Rattle.words.proofs.rounds.rounds.Tie as tie
 
-abbrev Inv-loop : tie.InvT-loop
-Inv-loop t folds bounds starts lengths s m count cur₀ left₀ w₀ cur left w =
-    IsSpot t cur ×
-    (counted (roundOf t folds (kindBy bounds s) (s .big) m false) count (placeOf t cur₀) ≡
-    counted (roundOf t folds (kindBy bounds s) (s .big) m false) left (placeOf t cur)) ×
-    NoFold folds w
+rounds-from-requires : tie.Need-rounds-from-requires
+rounds-from-requires c κs = (c .before .before .before .before .before .pre, c .around .ensures)
 
-abbrev μ-loop : tie.MeasureT-loop
-μ-loop t folds bounds starts lengths s m count cur₀ left₀ w₀ cur left w = left
-
-loop-holds : tie.Need-loop-holds Inv-loop μ-loop
-loop-holds c =
-    let s = c .before .before .before .before .before in
-    (s .pre .folded .spot, refl, c .around .ensures)
-
-round-near-requires : tie.Need-round-near-requires Inv-loop μ-loop
-round-near-requires c κs =
-    let s = c .before .before .before .before .before .before .before .before in
-    (set-at s.pre _ (c .before .before .loop .inv .0), c .near .ensures)
-
--- the round came to where it began
-returns : tie.Need-returns Inv-loop μ-loop
-returns c =
-    let b4 = c .before .before .before .before in
-    let b6 = b4 .before .before in
-    let b9 = b6 .before .before .before in
-    let s = b9 .before .before .before .before .before .before in
-    let q = b4 .q .given in
-    let l = b9 .loop in
-    let e = turn-next s.args.t.now (q .0 .0) (q .1) (b6 .round-near .ensures .0) in
-    let i = next-in s.args.t.now (q .0 .0) (q .1) (b6 .round-near .ensures .1) in
-    let k = same-place s.args.t.now (l .cur) (q .0 .0) (l .inv .0) i (c .if1 .taken) in (
-      sym (l .inv .1 ∙ counted-still (roundOf s.args.t.now s.args.folds.now (kindBy s.args.bounds.now s.args.s) s.args.s.big s.args.m false) (l .left)
-          _ (e ∙ ap On k)),
-      l .inv .0,
-    )
-
-loop-again : tie.Need-loop-again Inv-loop μ-loop
-loop-again c =
-    let b4 = c .before .before .before .before in
-    let b6 = b4 .before .before in
-    let b8 = b6 .before .before in
-    let b9 = b8 .before in
-    let s = b9 .before .before .before .before .before .before in
-    let q = b4 .q .given in
-    let l = b9 .loop in
-    let e = turn-next s.args.t.now (q .0 .0) (q .1) (b6 .round-near .ensures .0) in (
-      next-in s.args.t.now (q .0 .0) (q .1) (b6 .round-near .ensures .1),
-      l .inv .1 ∙ counted-on (roundOf s.args.t.now s.args.folds.now (kindBy s.args.bounds.now s.args.s) s.args.s.big s.args.m false) (l .left) _ _
-          (omega (arith, b8 .loop-test .taken)) e,
-      b6 .before .near .ensures,
-    )
-
-returns-2 : tie.Need-returns-2 Inv-loop μ-loop
-returns-2 c =
-    let b3 = c .before .before .before in
-    let b5 = b3 .before .before in
-    let b6 = b5 .before in
-    let s = b6 .before .before .before .before .before .before in
-    let q2 = c .before .q2 .given in
-    let l = b6 .loop in
-    let e = turn-last s.args.t.now (q2 .0 .0) (q2 .1) (b3 .round-near .ensures .0) in (
-      sym (l .inv .1 ∙ counted-off (roundOf s.args.t.now s.args.folds.now (kindBy s.args.bounds.now s.args.s) s.args.s.big s.args.m false) (l .left) _
-          _ (omega (arith, b5 .loop-test .taken)) e),
-      last-in s.args.t.now (q2 .0 .0) (q2 .1) (b3 .round-near .ensures .1),
-    )
-
-returns-3 : tie.Need-returns-3 Inv-loop μ-loop
-returns-3 c =
-    let s = c .before .before .before .before .before .before .before in
-    let l = c .before .loop in (
-      sym (l .inv .1 ∙ counted-none (roundOf s.args.t.now s.args.folds.now (kindBy s.args.bounds.now s.args.s) s.args.s.big s.args.m false) (l .left)
-          _ (omega (arith, c .loop-test .left))),
-      l .inv .0,
-    )
+returns : tie.Need-returns
+returns c = let r = c .before .rounds-from .ensures in (r .place, r .spot)
 
 pub rounds-spec : {M : Type 1} → statement M
-rounds-spec =
-    tie.close
-    (tie.spec Inv-loop μ-loop (λ c κs. search needs) loop-holds (λ c κs. search needs) round-near-requires (λ c. search needs) returns
-    (λ c. search needs) (λ c. search needs) loop-again (λ c. search needs) returns-2 returns-3)
+rounds-spec = tie.close (tie.spec (λ c κs. search needs) rounds-from-requires returns)

@@ -1,0 +1,130 @@
+-- `call::jumps` meets its contract: what is refused, in its order; no jump; or the run, which is the single calls in turn. Assumes nothing.
+use mathlib.Core.Path.{_≡_, ap, sym, _∙_}
+use mathlib.Core.List.{List}
+use mathlib.Core.Bool.{false}
+use borrow.Author.Needs.{needs}
+use Rattle.list_tokens.specs.declared.Token.{Token}
+use Rattle.list_tokens.specs.Tokens.{anyToken}
+use Rattle.keywords.specs.declared.Parsed.{Parsed}
+use Rattle.keywords.proofs.Agree.{parse-kept, parse-length}
+use Rattle.word_kinds.specs.Places.{kindOf}
+use Rattle.positions.proofs.Checks.{inside, entry-number, entry-clear, entered}
+use Rattle.positions.proofs.Entered.{folds-none, folds-number}
+use Rattle.motions.specs.Carets.{here}
+use Rattle.jumps.proofs.Calling.{refused-early, refused-list, refused-late, run-through, none-caret, none-places, late-accepted, through-caret, through-places}
+use Rattle.jumps.proofs.call.jumps.Statement.{statement}
+use Rattle.jumps.proofs.call.jumps.Tie as tie
+
+returns : tie.Need-returns
+returns c =
+    let folded = c .before in
+    let met = folded .before in
+    let a = met .before .before .before .before .before .before .before .args in
+    let number = folded .or-folds .ensures ∙ folds-number (a .t .now) (here (a .k)) (met .enter .result) (met .enter .ensures) (a .folds .now) in
+    refused-early (a .t .now) (a .starts .now) (a .content) (a .folds .now) (a .list .now) (a .k) (a .jumps .now) (a .answers .now) (c .if1 .taken) number
+
+returns-2 : tie.Need-returns-2
+returns-2 c =
+    let parsed = c .before .before in
+    let folded = parsed .before .before in
+    let met = folded .before in
+    let a = met .before .before .before .before .before .before .before .args in
+    let number = folded .or-folds .ensures ∙ folds-number (a .t .now) (here (a .k)) (met .enter .result) (met .enter .ensures) (a .folds .now) in
+    refused-list (a .t .now) (a .starts .now) (a .content) (a .folds .now) (a .list .now) (a .k) (a .jumps .now) (a .answers .now) (c .if2 .taken)
+    (sym number ∙ parsed .before .if1 .left) (ap (λ (x : Parsed). x .refusal) (parsed .parse .ensures))
+
+late-refusal-requires : tie.Need-late-refusal-requires
+late-refusal-requires c κs =
+    let parsed = c .before .before in
+    let folded = parsed .before .before in
+    let met = folded .before in
+    let a = met .before .before .before .before .before .before .before .args in
+    let none = folds-none (met .enter .result) (a .folds .now) (sym (folded .or-folds .ensures) ∙ parsed .before .if1 .left) in
+    entered (a .t .now) (here (a .k)) (met .enter .result) (met .enter .ensures) (none .0) .all-rows
+
+returns-3 : tie.Need-returns-3
+returns-3 c =
+    let late = c .before in
+    let tested = late .before in
+    let parsed = tested .before .before in
+    let folded = parsed .before .before in
+    let met = folded .before in
+    let a = met .before .before .before .before .before .before .before .args in
+    let number = folded .or-folds .ensures ∙ folds-number (a .t .now) (here (a .k)) (met .enter .result) (met .enter .ensures) (a .folds .now) in
+    refused-late (a .t .now) (a .starts .now) (a .content) (a .folds .now) (a .list .now) (a .k) (a .jumps .now) (a .answers .now)
+    (sym number ∙ parsed .before .if1 .left) (sym (ap (λ (x : Parsed). x .refusal) (parsed .parse .ensures)) ∙ tested .if2 .left) (c .if3 .taken)
+    (late .late-refusal .ensures)
+
+-- no jump
+returns-4 : tie.Need-returns-4
+returns-4 c =
+    let late = c .before .before in
+    let tested = late .before in
+    let parsed = tested .before .before in
+    let folded = parsed .before .before in
+    let met = folded .before in
+    let a = met .before .before .before .before .before .before .before .args in
+    let number = folded .or-folds .ensures ∙ folds-number (a .t .now) (here (a .k)) (met .enter .result) (met .enter .ensures) (a .folds .now) in
+    run-through (a .t .now) (a .starts .now) (a .content) (a .folds .now) (a .list .now) (a .k) (a .jumps .now) (a .answers .now)
+    (sym number ∙ parsed .before .if1 .left) (sym (ap (λ (x : Parsed). x .refusal) (parsed .parse .ensures)) ∙ tested .if2 .left)
+    (sym (late .late-refusal .ensures) ∙ c .before .if3 .left)
+    (none-caret (a .t .now) (a .folds .now) (a .list .now) (a .jumps .now) (a .k) (c .if4 .taken))
+    (none-places (a .t .now) (a .folds .now) (a .list .now) (a .jumps .now) (a .answers .now) (a .k) (c .if4 .taken))
+
+to-end-requires : tie.Need-to-end-requires
+to-end-requires c κs =
+    let late = c .before .before .before in
+    let tested = late .before in
+    let parsed = tested .before .before in
+    let folded = parsed .before .before in
+    let met = folded .before in
+    let a = met .before .before .before .before .before .before .before .args in
+    let e = met .enter .result in
+    let is = met .enter .ensures in
+    let none = folds-none e (a .folds .now) (sym (folded .or-folds .ensures) ∙ parsed .before .if1 .left) in
+    let clear = entry-clear (a .t .now) (here (a .k)) e is (none .0) in
+    let accepted = entered (a .t .now) (here (a .k)) e is (none .0) in
+    let last = late-accepted (a .t .now) (a .starts .now) (a .content) (a .jumps .now) (a .answers .now) clear (sym (late .late-refusal .ensures) ∙ c .before .before .if3 .left) in (
+      clear,
+      accepted,
+      rw (sym (accepted .all-rows)) (none .1),
+      parse-length (a .list .now) (parsed .parse .result) (parsed .parse .ensures) (tested .if2 .left),
+      last .0,
+      last .1,
+    )
+
+same-length : tie.Need-same-length
+same-length c = c .before .before .to-end .ensures .1 .size
+
+returns-5 : tie.Need-returns-5
+returns-5 c =
+    let ran = c .before .before in
+    let some = ran .before .before in
+    let late = some .before .before in
+    let tested = late .before in
+    let parsed = tested .before .before in
+    let folded = parsed .before .before in
+    let met = folded .before in
+    let a = met .before .before .before .before .before .before .before .args in
+    let t = a .t .now in
+    let e = met .enter .result in
+    let is = met .enter .ensures in
+    let number = folded .or-folds .ensures ∙ folds-number t (here (a .k)) e is (a .folds .now) in
+    let none = folds-none e (a .folds .now) (sym (folded .or-folds .ensures) ∙ parsed .before .if1 .left) in
+    let clear = entry-clear t (here (a .k)) e is (none .0) in
+    let good = rw (entered t (here (a .k)) e is (none .0) .all-rows) at (none .1) in
+    let listed = sym (ap (λ (x : Parsed). x .refusal) (parsed .parse .ensures)) ∙ tested .if2 .left in
+    let placed = inside t (here (a .k)) (sym (entry-number t (here (a .k)) e is) ∙ none .0) in
+    let nothing = sym (late .late-refusal .ensures) ∙ some .before .if3 .left in
+    let course = late-accepted t (a .starts .now) (a .content) (a .jumps .now) (a .answers .now) clear nothing .1 in
+    let same = ap (λ (ts : List Token). kindOf (anyToken ts) false) (parse-kept (a .list .now) (parsed .parse .result) (parsed .parse .ensures) (tested .if2 .left)) in
+    run-through t (a .starts .now) (a .content) (a .folds .now) (a .list .now) (a .k) (a .jumps .now) (a .answers .now)
+    (sym number ∙ parsed .before .if1 .left) listed nothing
+    (through-caret t (a .folds .now) (a .list .now) (a .k) (a .jumps .now) (a .answers .now) clear good listed placed course same (some .if4 .left) (ran .to-end .ensures .0))
+    (through-places t (a .folds .now) (a .list .now) (a .k) (a .jumps .now) (a .answers .now) clear good listed placed course same (ran .to-end .ensures .1))
+
+pub jumps-spec : {M : Type 1} → statement M
+jumps-spec =
+    tie.close
+    (tie.spec (λ c κs. search needs) (λ c κs. search needs) returns (λ c κs. search needs) returns-2 late-refusal-requires returns-3 returns-4
+    to-end-requires same-length returns-5)

@@ -1,0 +1,40 @@
+-- `call::late_refusal` meets its contract: the table, the kinds, the places. Assumes nothing.
+use mathlib.Core.Path.{ap, _∙_}
+use Prim.Native.Nat.{ℕ}
+use borrow.Author.Needs.{needs}
+use Rattle.row_table.specs.Table.{tableRefusal}
+use Rattle.jumps.proofs.Calling.{late-table, late-kind, late-answer}
+use Rattle.jumps.proofs.call.late_refusal.Statement.{statement}
+use Rattle.jumps.proofs.call.late_refusal.Tie as tie
+
+returns : tie.Need-returns
+returns c =
+    let told = c .before in
+    let s = told .before .before .before .before in
+    let a = s .args in
+    let table = told .table-refusal .ensures ∙ ap (λ (n : ℕ). tableRefusal n (a .t .now) (a .starts .now) (a .content)) (s .pre) in
+    late-table (a .t .now) (a .starts .now) (a .content) (a .jumps .now) (a .places) table (c .if1 .taken)
+
+returns-2 : tie.Need-returns-2
+returns-2 c =
+    let kinds = c .before in
+    let told = kinds .before .before in
+    let s = told .before .before .before .before in
+    let a = s .args in
+    let table = told .table-refusal .ensures ∙ ap (λ (n : ℕ). tableRefusal n (a .t .now) (a .starts .now) (a .content)) (s .pre) in
+    late-kind (a .t .now) (a .starts .now) (a .content) (a .jumps .now) (a .places) table (kinds .before .if1 .left) (kinds .kind-refusal .ensures)
+    (c .if2 .taken)
+
+returns-3 : tie.Need-returns-3
+returns-3 c =
+    let kinds = c .before .before in
+    let told = kinds .before .before in
+    let s = told .before .before .before .before in
+    let a = s .args in
+    let table = told .table-refusal .ensures ∙ ap (λ (n : ℕ). tableRefusal n (a .t .now) (a .starts .now) (a .content)) (s .pre) in
+    late-answer (a .t .now) (a .starts .now) (a .content) (a .jumps .now) (a .places) table (kinds .before .if1 .left) (kinds .kind-refusal .ensures)
+    (c .before .if2 .left) (c .answer-refusal .ensures)
+
+pub late-refusal-spec : {M : Type 1} → statement M
+late-refusal-spec =
+    tie.close (tie.spec (λ c κs. search needs) returns (λ c κs. search needs) returns-2 (λ c κs. search needs) returns-3)

@@ -1,0 +1,51 @@
+-- `leaps::leap` meets its contract: `%`, or the rounds of a word motion. Assumes nothing.
+use mathlib.Core.Path.{sym, _∙_}
+use borrow.Author.Needs.{needs}
+use Rattle.word_kinds.specs.Spots.{placeOf}
+use Rattle.word_kinds.specs.Lent.{kindBy}
+use Rattle.jumps.proofs.Spots.{leapt-key, rounds-leapt}
+use Rattle.jumps.proofs.leaps.leap.Statement.{statement}
+use Rattle.jumps.proofs.leaps.leap.Tie as tie
+
+to-partner-requires : tie.Need-to-partner-requires
+to-partner-requires c κs =
+    let s = c .before .before .before .before .before .before in
+    let f = s .pre .0 in
+    (f .clear, f .tabled, f .round .folded .spot)
+
+returns : tie.Need-returns
+returns c =
+    let s = c .before .before .before .before .before .before .before in
+    let a = s .args in
+    record {
+      place =
+          c .to-partner .ensures .0
+          ∙ sym (leapt-key (a .t .now) (a .folds .now) (kindBy (a .bounds .now) (a .s)) (a .kind) (a .count) (placeOf (a .t .now) (a .p)) (c .before .if1 .taken));
+      spot = c .to-partner .ensures .1;
+      bare = s .pre .1;
+    }
+
+rounds-from-requires : tie.Need-rounds-from-requires
+rounds-from-requires c κs =
+    let s = c .before .before .before .before .before .before .before .before in
+    (s .pre .0 .round, s .pre .1)
+
+returns-2 : tie.Need-returns-2
+returns-2 c =
+    let counted = c .before in
+    let told = counted .before in
+    let s = told .before .before .before .before .before .before .before in
+    let a = s .args in
+    let walked = c .rounds-from .ensures in
+    record {
+      place =
+          walked .place
+          ∙ rounds-leapt (a .t .now) (a .folds .now) (kindBy (a .bounds .now) (a .s)) (a .kind) (a .count) (placeOf (a .t .now) (a .p)) (s .pre .0 .small)
+          (told .motion-of .ensures) (counted .rounds-of .ensures) (told .before .if1 .left);
+      spot = walked .spot;
+      bare = walked .bare;
+    }
+
+pub leap-spec : {M : Type 1} → statement M
+leap-spec =
+    tie.close (tie.spec to-partner-requires returns (λ c κs. search needs) (λ c κs. search needs) rounds-from-requires returns-2)

@@ -1,0 +1,25 @@
+-- `leaps::start_of` meets its contract: the table is the text's. Assumes nothing.
+use native.Mathlib.Omega.{arith}
+use borrow.Author.Needs.{needs}
+use Rattle.jumps.proofs.Spots.{table-room, table-start}
+use Rattle.jumps.proofs.leaps.start_of.Statement.{statement}
+use Rattle.jumps.proofs.leaps.start_of.Tie as tie
+
+mul-result : tie.Need-mul-result
+mul-result c = omega (arith, table-room (c .args .t .now) (c .args .table .now) (c .pre .0), c .pre .1)
+
+shared-slice-read-result : tie.Need-shared-slice-read-result
+shared-slice-read-result c =
+    let s = c .before in
+    omega (arith, table-room (s .args .t .now) (s .args .table .now) (s .pre .0), s .pre .1)
+
+cast-result : tie.Need-cast-result
+cast-result c = omega (arith, c .shared-slice-known .given (c .before .args .row))
+
+returns : tie.Need-returns
+returns c =
+    let s = c .before in
+    table-start (s .args .t .now) (s .args .table .now) (s .pre .0) (s .args .row) (s .pre .1)
+
+pub start-of-spec : {M : Type 1} → statement M
+start-of-spec = tie.close (tie.spec mul-result shared-slice-read-result cast-result returns)

@@ -1,0 +1,69 @@
+-- `leaps::to_partner` meets its contract: the partner that the key goes to from the spot's row and column, by its cases. Assumes nothing.
+use mathlib.Core.Path.{sym, _∙_}
+use Prim.Native.Nat.{_-_}
+use native.Mathlib.Omega.{arith}
+use borrow.Author.Needs.{needs}
+use Rattle.jumps.proofs.Spots.{line-here, partner-is, key-inside}
+use Rattle.jumps.proofs.leaps.to_partner.Statement.{statement}
+use Rattle.jumps.proofs.leaps.to_partner.Tie as tie
+
+start-of-requires : tie.Need-start-of-requires
+start-of-requires c κs =
+    let s = c .before .before in
+    (s .pre .1, s .pre .2 .in-row)
+
+-- the row starts at or before the spot
+sub-match-bracket-from : tie.Need-sub-match-bracket-from
+sub-match-bracket-from c =
+    let s = c .before .before .before .before in
+    omega (arith, c .before .start-of .ensures, s .pre .2 .from)
+
+match-bracket-from-requires : tie.Need-match-bracket-from-requires
+match-bracket-from-requires c κs =
+    let s = c .before .before .before .before in
+    (s .pre .0, line-here (s .args .t .now) (s .args .p) (c .before .start-of .ensures) (s .pre .2 .in-row))
+
+-- the partner is in the text
+spot-of-requires : tie.Need-spot-of-requires
+spot-of-requires c κs =
+    let found = c .before in
+    let walked = found .before .before in
+    let started = walked .before .before in
+    let s = started .before .before .before in
+    let p = s .args .p in (
+      s .pre .0,
+      s .pre .1,
+      key-inside (s .args .t .now) (p .row) (p .at - started .start-of .result) _ (s .pre .0)
+          (sym (walked .match-bracket-from .ensures) ∙ found .q .given .1),
+    )
+
+returns : tie.Need-returns
+returns c =
+    let found = c .before .before in
+    let walked = found .before .before in
+    let started = walked .before .before in
+    let s = started .before .before .before in (
+      c .spot-of .ensures .0
+          ∙ partner-is (s .args .t .now) (s .args .p) (started .start-of .ensures) (walked .match-bracket-from .ensures) (found .q .given .1),
+      c .spot-of .ensures .1,
+    )
+
+returns-2 : tie.Need-returns-2
+returns-2 c =
+    let walked = c .before .before in
+    let started = walked .before .before in
+    let s = started .before .before .before in
+    (partner-is (s .args .t .now) (s .args .p) (started .start-of .ensures) (walked .match-bracket-from .ensures) (c .enum-told .given .1), s .pre .2)
+
+returns-3 : tie.Need-returns-3
+returns-3 c =
+    let walked = c .before .before in
+    let started = walked .before .before in
+    let s = started .before .before .before in
+    (partner-is (s .args .t .now) (s .args .p) (started .start-of .ensures) (walked .match-bracket-from .ensures) (c .enum-told2 .given .1), s .pre .2)
+
+pub to-partner-spec : {M : Type 1} → statement M
+to-partner-spec =
+    tie.close
+    (tie.spec start-of-requires sub-match-bracket-from match-bracket-from-requires (λ c. search needs) spot-of-requires (λ c. search needs)
+    (λ c. search needs) returns returns-2 returns-3)

@@ -1,0 +1,98 @@
+-- `run::jump` meets its contract: one jump, and its row and column by the table. Assumes nothing.
+use mathlib.Core.Path.{ap, _∙_}
+use mathlib.Core.List.{List}
+use Prim.Native.Nat.{ℕ, _+_, _-_}
+use native.Mathlib.Omega.{arith}
+use lib.ListN.{length, set, length-set}
+use borrow.Author.Needs.{needs}
+use Rattle.jumps.proofs.Spots.{spot-short}
+use Rattle.jumps.proofs.run.jump.Statement.{statement}
+use Rattle.jumps.proofs.run.jump.Tie as tie
+
+leap-requires : tie.Need-leap-requires
+leap-requires c κs =
+    let s = c .before .before .before .before .before .before .before .before .before in
+    (s .pre .0, s .pre .1)
+
+start-of-requires : tie.Need-start-of-requires
+start-of-requires c κs =
+    let leapt = c .before in
+    let s = leapt .before .before .before .before .before .before .before .before .before .before in
+    (s .pre .0 .tabled, leapt .leap .ensures .spot .in-row)
+
+cast-answers : tie.Need-cast-answers
+cast-answers c =
+    let leapt = c .before .before .before in
+    let s = leapt .before .before .before .before .before .before .before .before .before .before in
+    omega (arith, spot-short (s .pre .0 .clear) (leapt .leap .ensures .spot) .0)
+
+mul-answers : tie.Need-mul-answers
+mul-answers c =
+    let s = c .before .before .before .before .before .before .before .before .before .before .before .before .before in
+    omega (arith, s .pre .3)
+
+slice-write-answers : tie.Need-slice-write-answers
+slice-write-answers c =
+    let s = c .before .before .before .before .before .before .before .before .before .before .before .before .before in
+    omega (arith, s .pre .3)
+
+sub-answers : tie.Need-sub-answers
+sub-answers c =
+    let started = c .before .before in
+    omega (arith, started .start-of .ensures, started .before .before .leap .ensures .spot .from)
+
+cast-answers-2 : tie.Need-cast-answers-2
+cast-answers-2 c =
+    let leapt = c .before .before .before .before in
+    let s = leapt .before .before .before .before .before .before .before .before .before .before in
+    omega (arith, spot-short (s .pre .0 .clear) (leapt .leap .ensures .spot) .1)
+
+add-answers : tie.Need-add-answers
+add-answers c =
+    let s = c .before .before .before .before .before .before .before .before .before .before .before .before .before .before in
+    omega (arith, s .pre .2)
+
+mul-answers-2 : tie.Need-mul-answers-2
+mul-answers-2 c =
+    let s = c .before .before .before .before .before .before .before .before .before .before .before .before .before .before in
+    omega (arith, s .pre .3)
+
+slice-write-answers-2 : tie.Need-slice-write-answers-2
+slice-write-answers-2 c =
+    let leapt = c .before .before .before .before in
+    let s = leapt .before .before .before .before .before .before .before .before .before .before in
+    omega (arith, s .pre .3, length-set (s .args .answers .now) (s .args .i) (leapt .leap .result .spot .row))
+
+returns : tie.Need-returns
+returns c =
+    let started = c .before .before in
+    let leapt = started .before .before in
+    let s = leapt .before .before .before .before .before .before .before .before .before .before in
+    let a = s .args in
+    let to = leapt .leap .result .spot in
+    record {
+      leaps = leapt .leap .ensures;
+      left = ap (λ (x : ℕ). set (set (a .answers .now) (a .i) (to .row)) (a .i + 1) (to .at - x)) (started .start-of .ensures);
+    }
+
+pub jump-spec : {M : Type 1} → statement M
+jump-spec =
+    tie.close
+    (tie.spec
+    (λ c. search needs)
+    (λ c. search needs)
+    (λ c. search needs)
+    (λ c. search needs)
+    (λ c. search needs)
+    leap-requires
+    start-of-requires
+    cast-answers
+    mul-answers
+    slice-write-answers
+    sub-answers
+    cast-answers-2
+    add-answers
+    mul-answers-2
+    slice-write-answers-2
+    (λ c. search needs)
+    returns)

@@ -1,0 +1,28 @@
+-- `run::run_with_letters` meets its contract: the consts are the starts and the lengths of the letters' ranges. Assumes nothing.
+use mathlib.Core.Path.{refl}
+use borrow.Author.Needs.{needs}
+use Rattle.letters.specs.Letters.{letters}
+use Rattle.jumps.proofs.run.run_with_letters.Statement.{statement}
+use Rattle.jumps.proofs.run.run_with_letters.Tie as tie
+
+run-requires : tie.Need-run-requires
+unfolding letters
+run-requires c κs =
+    let s = c .before .before .before .before .before .before .before .before in (
+      record {
+        clear = s .pre .0;
+        tabled = s .pre .1;
+        small = s .pre .2;
+        round = record { lent = record { room = s .pre .3; lent = λ h. record { starts-are = refl; lengths-are = refl } }; folded = s .pre .4 };
+      },
+      s .pre .5,
+    )
+
+same-length : tie.Need-same-length
+same-length c = c .before .before .run .ensures .left .size
+
+returns : tie.Need-returns
+returns c = c .before .before .run .ensures
+
+pub run-with-letters-spec : {M : Type 1} → statement M
+run-with-letters-spec = tie.close (tie.spec (λ c. search needs) (λ c. search needs) run-requires same-length returns)

@@ -1,0 +1,2 @@
+pub mod Jumps
+pub mod Leaps
