@@ -32,7 +32,111 @@ static void expect(const char *what, uint32_t number, uint32_t wanted, const uin
         expect(what, number, wanted, out, before, 9);                                               \
     } while (0)
 
+/* Nothing, as C hosts pass it: a null pointer with the length 0, for every slice of every call. */
+static void nothing_is_null(void) {
+    uint32_t out[9] = {7, 7, 7, 7, 7, 7, 7, 7, 7}, caret[6] = {0}, sizes[3] = {0, 0, 0}, one[1] = {9};
+    static uint8_t printed[TSIVAREZA_SESSION_ROOM];
+    const uint32_t *none = NULL;
+    const uint8_t *bytes = NULL;
+    uint32_t *places = NULL;
+    uint8_t *written = NULL;
+
+    SAYS("null rows", tsivareza_content_row_count_u32(none, 0, out), 1);
+    SAYS("null rows on bytes", tsivareza_content_row_count(bytes, 0, places, 0, out), 1);
+    SAYS("a null list", tsivareza_keywords_u32(TSIVAREZA_PARSE, none, 0, 0, out), 0);
+    SAYS("a null list on bytes", tsivareza_keywords(TSIVAREZA_PARSE, bytes, 0, places, 0, 0, out), 0);
+    SAYS("a null list entered", (uint32_t)tsivareza_enter_u32(TSIVAREZA_ENTER, none, 0, 0, out), 0);
+    SAYS("a null list entered on bytes", (uint32_t)tsivareza_enter(TSIVAREZA_ENTER, bytes, 0, places, 0, 0, out), 0);
+    SAYS("a null list written", tsivareza_without_plus_u32(none, 0, places, 0, out), 0);
+    SAYS("a null list written on bytes", tsivareza_without_plus(bytes, 0, places, 0, places, 0, out), 0);
+    SAYS("columns of a null row", tsivareza_columns_u32(TSIVAREZA_CURSOR_VISUAL_COL, none, 0, 0, 8, out), 0);
+    SAYS("columns of a null row on bytes", tsivareza_columns(TSIVAREZA_CURSOR_VISUAL_COL, bytes, 0, places, 0, 0, 8, out), 0);
+    SAYS("offsets of a null row", tsivareza_offsets_u32(TSIVAREZA_VISUAL_OFFSET_FOR_CHAR_COL, none, 0, 0, 0, 0, out), 0);
+    SAYS("offsets of a null row on bytes", tsivareza_offsets(TSIVAREZA_VISUAL_OFFSET_FOR_CHAR_COL, bytes, 0, places, 0, 0, 0, 0, out), 0);
+    SAYS("null segments", tsivareza_segment_for_col_u32(none, 0, 3, out), 0);
+    SAYS("null segments on bytes", tsivareza_segment_for_col(bytes, 0, places, 0, 3, out), 0);
+    REFUSES("a null row wrapped", tsivareza_wrap_segments_u32(TSIVAREZA_WRAP_CHAR, none, 0, 4, places, 0, out), 9);
+    REFUSES("a null row wrapped on bytes", tsivareza_wrap_segments(TSIVAREZA_WRAP_CHAR, bytes, 0, places, 0, 4, places, 0, out), 9);
+    SAYS("a motion of a null text", tsivareza_motion_u32(TSIVAREZA_MOVE_BOTTOM, none, 0, 0, 0, 0, 0, 0, out), 0, 0, 0, 0);
+    SAYS("a motion of a null text on bytes", tsivareza_motion(TSIVAREZA_MOVE_BOTTOM, bytes, 0, places, 0, 0, 0, 0, 0, 0, out), 0, 0, 0, 0);
+    SAYS("match_bracket of a null text", tsivareza_seek_u32(TSIVAREZA_MATCH_BRACKET, none, 0, 0, 0, 0, 0, 0, out), 0, 0, 0, 0, 0);
+    SAYS("match_bracket of a null text on bytes", tsivareza_seek(TSIVAREZA_MATCH_BRACKET, bytes, 0, places, 0, 0, 0, 0, 0, 0, out), 0, 0, 0, 0, 0);
+    SAYS("a partner in a null text", tsivareza_matching_bracket_pos_u32(none, 0, 0, 0, out), 0, 0, 0);
+    SAYS("a partner in a null text on bytes", tsivareza_matching_bracket_pos(bytes, 0, places, 0, 0, 0, out), 0, 0, 0);
+    SAYS("a pair in a null text", tsivareza_inner_pair_u32(TSIVAREZA_CURLY, none, 0, 0, 0, out), 0);
+    SAYS("a pair in a null text on bytes", tsivareza_inner_pair(TSIVAREZA_CURLY, bytes, 0, places, 0, 0, 0, out), 0);
+    SAYS("words, all null", tsivareza_word_u32(TSIVAREZA_MOVE_WORD_FWD, none, 0, none, 0, none, 0, 0, 0, 0, 0, 0, 1, out), 0, 0, 0, 0);
+    SAYS("words, all null, on bytes",
+         tsivareza_word(TSIVAREZA_MOVE_WORD_BACK, bytes, 0, bytes, 0, bytes, 0, places, 0, 0, 0, 0, 0, 0, 1, out), 0, 0, 0, 0);
+    REFUSES("null classes", tsivareza_word_classes_u32(none, 0, none, 0, written, 0, out), 14);
+    REFUSES("null classes on bytes", tsivareza_word_classes(bytes, 0, bytes, 0, places, 0, written, 0, out), 14);
+    REFUSES("words by null classes",
+            tsivareza_word_by_class_u32(TSIVAREZA_MOVE_WORD_FWD, none, 0, none, 0, none, 0, 0, 0, 0, 0, 0, 1, written, 0, out), 14);
+    REFUSES("words by null classes on bytes",
+            tsivareza_word_by_class(TSIVAREZA_MOVE_WORD_FWD, bytes, 0, bytes, 0, bytes, 0, places, 0, 0, 0, 0, 0, 0, 1, written, 0, out), 14);
+    SAYS("down in a null text", tsivareza_vertical_u32(TSIVAREZA_MOVE_DOWN, none, 0, none, 0, 0, 0, 0, 0, 0, 0, 1, 8, out), 0, 0, 1, 0);
+    SAYS("down in a null text on bytes",
+         tsivareza_vertical(TSIVAREZA_MOVE_DOWN, bytes, 0, bytes, 0, places, 0, 0, 0, 0, 0, 0, 0, 1, 8, out), 0, 0, 1, 0);
+    SAYS("the screen of a null text",
+         tsivareza_screen_kept_u32(0, none, 0, none, 0, 0, 0, 0, 0, 0, 0, TSIVAREZA_WRAP_NONE, 4, 1, 8, out), 0, 0, 1, 0, 0, 0);
+    SAYS("the screen of a null text on bytes",
+         tsivareza_screen_kept(0, bytes, 0, bytes, 0, places, 0, 0, 0, 0, 0, 0, 0, TSIVAREZA_WRAP_NONE, 4, 1, 8, out), 0, 0, 1, 0, 0, 0);
+    SAYS("the viewport of a null text", tsivareza_viewport_u32(0, none, 0, 0, 0, 0, 0, 0, 1, 0, out), 0, 0, 0, 0);
+    SAYS("the viewport of a null text on bytes", tsivareza_viewport(0, bytes, 0, places, 0, 0, 0, 0, 0, 0, 1, 0, out), 0, 0, 0, 0);
+    SAYS("nothing decoded", (uint32_t)tsivareza_utf8_decode(bytes, 0, places, 0, out), 0);
+    SAYS("nothing encoded", tsivareza_utf8_encode_u32(none, 0, written, 0, out), 0);
+    SAYS("nothing encoded on bytes", tsivareza_utf8_encode(bytes, 0, places, 0, written, 0, out), 0);
+    REFUSES("folds into a null file", tsivareza_folds_write_u32(none, 0, none, 0, written, 0, out), 14);
+    REFUSES("folds into a null file on bytes", tsivareza_folds_write(bytes, 0, bytes, 0, places, 0, written, 0, out), 14);
+    REFUSES("a null fold file", tsivareza_folds_read_u32(none, 0, bytes, 0, places, 0, out), 18);
+    REFUSES("a null fold file on bytes", tsivareza_folds_read(bytes, 0, bytes, 0, places, 0, places, 0, out), 18);
+    SAYS("an insert of nothing", tsivareza_insert_u32(places, 0, places, 0, none, 0, 0, 0, caret, sizes), out[0]);
+    SAYS("an insert of nothing on bytes", tsivareza_insert(places, 0, places, 0, bytes, 0, places, 0, 0, 0, caret, sizes), out[0]);
+    SAYS("a delete of nothing", tsivareza_delete(places, 0, places, 0, 0, 0, 0, 0, caret, sizes), out[0]);
+    REFUSES("null row starts", tsivareza_row_starts_u32(none, 0, places, 0, out), 15);
+    REFUSES("null row starts on bytes", tsivareza_row_starts(bytes, 0, places, 0, places, 0, out), 15);
+    SAYS("row starts of a null text", tsivareza_row_starts_u32(none, 0, one, 1, sizes + 2), out[0]);
+    SAYS("an insert of nothing that keeps them",
+         tsivareza_insert_rows_u32(places, 0, places, 0, one, 1, none, 0, 0, 0, caret, sizes), out[0]);
+    SAYS("an insert of nothing that keeps them on bytes",
+         tsivareza_insert_rows(places, 0, places, 0, one, 1, bytes, 0, places, 0, 0, 0, caret, sizes), out[0]);
+    SAYS("a delete of nothing that keeps them",
+         tsivareza_delete_rows(places, 0, places, 0, one, 1, 0, 0, 0, 0, caret, sizes), out[0]);
+    REFUSES("a motion with a null table", tsivareza_motion_rows_u32(TSIVAREZA_MOVE_BOTTOM, none, 0, none, 0, 1, 0, 0, 0, 0, 0, out), 15);
+    REFUSES("a motion with a null table on bytes",
+            tsivareza_motion_rows(TSIVAREZA_MOVE_BOTTOM, bytes, 0, none, 0, 1, places, 0, 0, 0, 0, 0, 0, out), 15);
+    REFUSES("match_bracket with a null table", tsivareza_seek_rows_u32(TSIVAREZA_MATCH_BRACKET, none, 0, none, 0, 1, 0, 0, 0, 0, 0, out), 15);
+    REFUSES("match_bracket with a null table on bytes",
+            tsivareza_seek_rows(TSIVAREZA_MATCH_BRACKET, bytes, 0, none, 0, 1, places, 0, 0, 0, 0, 0, 0, out), 15);
+    REFUSES("words with a null table",
+            tsivareza_word_rows_u32(TSIVAREZA_MOVE_WORD_FWD, none, 0, none, 0, 1, none, 0, none, 0, 0, 0, 0, 0, 0, 1, out), 15);
+    REFUSES("words with a null table on bytes",
+            tsivareza_word_rows(TSIVAREZA_MOVE_WORD_FWD, bytes, 0, none, 0, 1, bytes, 0, bytes, 0, places, 0, 0, 0, 0, 0, 0, 1, out), 15);
+    REFUSES("down with a null table",
+            tsivareza_vertical_rows_u32(TSIVAREZA_MOVE_DOWN, none, 0, none, 0, 1, none, 0, 0, 0, 0, 0, 0, 0, 1, 8, out), 15);
+    REFUSES("down with a null table on bytes",
+            tsivareza_vertical_rows(TSIVAREZA_MOVE_DOWN, bytes, 0, none, 0, 1, bytes, 0, places, 0, 0, 0, 0, 0, 0, 0, 1, 8, out), 15);
+    REFUSES("the screen with a null table",
+            tsivareza_screen_kept_rows_u32(0, none, 0, none, 0, 1, none, 0, 0, 0, 0, 0, 0, 0, TSIVAREZA_WRAP_NONE, 4, 1, 8, out), 15);
+    REFUSES("the screen with a null table on bytes",
+            tsivareza_screen_kept_rows(0, bytes, 0, none, 0, 1, bytes, 0, places, 0, 0, 0, 0, 0, 0, 0, TSIVAREZA_WRAP_NONE, 4, 1, 8, out), 15);
+    REFUSES("the viewport with a null table", tsivareza_viewport_rows_u32(0, none, 0, none, 0, 1, 0, 0, 0, 0, 0, 1, 0, out), 15);
+    REFUSES("the viewport with a null table on bytes",
+            tsivareza_viewport_rows(0, bytes, 0, none, 0, 1, places, 0, 0, 0, 0, 0, 0, 1, 0, out), 15);
+    SAYS("no jumps", tsivareza_jumps_u32(none, 0, one, 1, 1, none, 0, none, 0, 0, 0, 0, 0, 0, 0, none, 0, places, 0, out), 0, 0, 0, 0, 0, 0);
+    SAYS("no jumps on bytes",
+         tsivareza_jumps(bytes, 0, bytes, 0, bytes, 0, places, 0, one, 1, 1, 0, 0, 0, 0, 0, 0, none, 0, places, 0, out), 0, 0, 0, 0, 0, 0);
+    static const uint32_t kept[] = {0, 0, 1, 0};
+    const uint32_t left[] = {sizes[0], sizes[1], sizes[2], one[0]};
+    expect("the sizes and the table of nothing", 0, 0, left, kept, 4);
+    static const char refused[] = "refused\n";
+    int good = tsivareza_session(bytes, 0, printed) == sizeof refused - 1;
+    for (size_t i = 0; i < sizeof refused - 1; i++) good = good && printed[i] == (uint8_t)refused[i];
+    expect("the session of nothing", !good, 0, out, out, 0);
+}
+
 int main(void) {
+    nothing_is_null();
     uint32_t out[9] = {7, 7, 7, 7, 7, 7, 7, 7, 7}, room[16], segments[4];
     static const uint32_t branch[] = {'i', 'f', ' ', '(', 'n', ')', ' ', '{', 10, '}'};
     static const uint32_t none[] = {0}, list[] = {'@', ',', '_'}, tab[] = {9, 'x'}, words[] = {'a', 'b', ' ', 'c', 'd'};
@@ -47,6 +151,10 @@ int main(void) {
     SAYS("visual_offset_for_char_col", tsivareza_offsets_u32(TSIVAREZA_VISUAL_OFFSET_FOR_CHAR_COL, words, 5, 3, 0, 4, out), 1);
     SAYS("content_row_count", tsivareza_content_row_count_u32(branch, 10, out), 2);
     SAYS("matching_bracket_pos", tsivareza_matching_bracket_pos_u32(branch, 10, 0, 7, out), 1, 1, 0);
+    static const uint32_t branch_starts[] = {0, 9}, jump_pairs[] = {TSIVAREZA_JUMP_WORD_FWD, 1, TSIVAREZA_JUMP_MATCH_BRACKET, 0};
+    uint32_t jump_places[4];
+    SAYS("jumps", tsivareza_jumps_u32(branch, 10, branch_starts, 2, 2, none, 0, list, 3, 0, 0, 0, 0, 0, 0, jump_pairs, 4, jump_places, 4, out), 0, 5, 0, 0, 0, 0);
+    REFUSES("too few places for jumps", tsivareza_jumps_u32(branch, 10, branch_starts, 2, 2, none, 0, list, 3, 0, 0, 0, 0, 0, 0, jump_pairs, 4, jump_places, 3, out), 14);
     SAYS("matching_bracket_pos on bytes", tsivareza_matching_bracket_pos(bytes, 16, room, 4, 0, 0, out), 1, 0, 2);
     SAYS("inner_pair", tsivareza_inner_pair_u32(TSIVAREZA_CURLY, branch, 10, 0, 8, out), 1, 0, 8, 1, 0, 0, 7, 1, 1);
     SAYS("inner_pair on bytes", tsivareza_inner_pair(TSIVAREZA_SQUARE, bytes, 16, room, 4, 0, 2, out), 1, 0, 2, 0, 3, 0, 1, 0, 4);
@@ -123,6 +231,20 @@ int main(void) {
     SAYS("without_plus on bytes", tsivareza_without_plus(signed_bytes, 8, room, 2, written, 1, out), 1);
     REFUSES("too little room for a list", tsivareza_without_plus_u32(signed_list, 4, written, 2, out), 14);
 
+    /* A list of Vim's: a to c but b; written without its zeros; and 17 with its place. */
+    static const uint32_t vim_list[] = {'a', '-', '0', '9', '9', ',', '^', 'b'}, vim_plain[] = {'a', '-', '9', '9', ',', '^', 'b', 7};
+    static const uint8_t vim_bytes[] = {'^', 0, 0, 0, '-', 0, 0, 0, '~', 0, 0, 0};
+    uint32_t vim_written[8] = {7, 7, 7, 7, 7, 7, 7, 7};
+    SAYS("a Vim list", (uint32_t)tsivareza_vim_list_u32(TSIVAREZA_VIM_PARSE, vim_list, 8, 0, out), 2);
+    SAYS("c by it", (uint32_t)tsivareza_vim_list_u32(TSIVAREZA_VIM_MATCHES, vim_list, 8, 'c', out), 1);
+    SAYS("b by it", (uint32_t)tsivareza_vim_list_u32(TSIVAREZA_VIM_MATCHES, vim_list, 8, 'b', out), 0);
+    REFUSES("a Vim list that goes wrong", (uint32_t)(told = tsivareza_vim_list(TSIVAREZA_VIM_PARSE, vim_bytes, 12, room, 3, 0, out)), 17);
+    expect("the place where it does", (uint32_t)(told >> 32), 2, out, out, 0);
+    REFUSES("too little room for a Vim list", (uint32_t)tsivareza_vim_write_u32(vim_list, 8, vim_written, 6, out), 14);
+    SAYS("a Vim list written", (uint32_t)tsivareza_vim_write_u32(vim_list, 8, vim_written, 8, out), 7);
+    expect("without its zeros", 0, 0, vim_written, vim_plain, 8);
+    SAYS("and from bytes", (uint32_t)tsivareza_vim_write(vim_bytes, 8, room, 2, vim_written, 2, out), 2);
+
     /* The second engine: the classes of the places, and the motions by them. */
     static const uint8_t branch_classes[] = {0, 0, 2, 1, 0, 1, 2, 1, 4, 1, 4, 7};
     uint8_t classes[12] = {7, 7, 7, 7, 7, 7, 7, 7, 7, 7, 7, 7};
@@ -157,6 +279,28 @@ int main(void) {
     expect("an insert that keeps them", tsivareza_insert_rows_u32(lines, 4, fold, 0, starts, 4, put + 1, 1, 1, 1, home, held), 0, starts, later_places, 4);
     expect("the sizes then", 0, 0, held, later_sizes, 3);
     expect("too few places", tsivareza_row_starts_u32(lines, 4, starts, 2, held + 2), 15, starts, later_places, 4);
+    /* The motions with them: `a`, `b` and an empty row. */
+    SAYS("move_bottom with row starts", tsivareza_motion_rows_u32(TSIVAREZA_MOVE_BOTTOM, lines, 4, starts, 4, 2, 0, 0, 1, 5, 0, out), 1, 0, 1, 5);
+    SAYS("move_word_fwd with row starts",
+         tsivareza_word_rows_u32(TSIVAREZA_MOVE_WORD_FWD, lines, 4, starts, 4, 2, none, 0, list, 3, 0, 0, 0, 0, 0, 1, out), 1, 0, 0, 0);
+    SAYS("move_down with row starts",
+         tsivareza_vertical_rows_u32(TSIVAREZA_MOVE_DOWN, lines, 4, starts, 4, 2, none, 0, 0, 0, 0, 0, 0, 0, 2, 8, out), 2, 0, 1, 0);
+    SAYS("move_screen_down_kept with row starts",
+         tsivareza_screen_kept_rows_u32(TSIVAREZA_MOVE_SCREEN_DOWN_KEPT, lines, 4, starts, 4, 2, none, 0, 0, 0, 1, 0, 1, 3, TSIVAREZA_WRAP_CHAR, 2, 1, 8, out),
+         1, 0, 1, 0, 1, 3);
+    SAYS("move_viewport_bottom with row starts",
+         tsivareza_viewport_rows_u32(TSIVAREZA_MOVE_VIEWPORT_BOTTOM, lines, 4, starts, 4, 2, 0, 0, 0, 0, 0, 9, 0, out), 1, 0, 0, 0);
+    SAYS("find with row starts",
+         tsivareza_seek_rows_u32(TSIVAREZA_FIND + TSIVAREZA_FIND_FORWARD, lines, 4, starts, 4, 2, 1, 0, 0, 0, 'a', out), 0, 1, 0, 0, 0);
+    SAYS("match_bracket on bytes with row starts", tsivareza_seek_rows(TSIVAREZA_MATCH_BRACKET, bytes, 16, starts, 1, 1, room, 4, 0, 0, 0, 0, 0, out),
+         1, 0, 2, 0, 0);
+    SAYS("move_word_end on bytes with row starts",
+         tsivareza_word_rows(TSIVAREZA_MOVE_WORD_END, bytes, 16, starts, 1, 1, nothing, 0, nothing, 0, room, 4, 0, 0, 0, 0, 1, 1, out), 0, 3, 0, 0);
+    REFUSES("a motion with too few places", tsivareza_motion_rows_u32(TSIVAREZA_MOVE_TOP, lines, 4, starts, 2, 2, 0, 0, 0, 0, 0, out), 15);
+    REFUSES("a motion with another count", tsivareza_motion_rows_u32(TSIVAREZA_MOVE_TOP, lines, 4, starts, 4, 3, 0, 0, 0, 0, 0, out), 16);
+    REFUSES("4 before 15", tsivareza_motion_rows_u32(TSIVAREZA_MOVE_TOP, lines, 4, starts, 0, 2, 3, 0, 0, 0, 0, out), 4);
+    REFUSES("100 before 4", tsivareza_motion_rows_u32(21, lines, 4, starts, 0, 2, 3, 0, 0, 0, 0, out), 100);
+
     starts[1] = 1;
     expect("another table", tsivareza_delete_rows(lines, 4, fold, 0, starts, 4, 0, 0, 0, 1, home, held), 16, held, later_sizes, 3);
 

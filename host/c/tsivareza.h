@@ -31,8 +31,9 @@
  * cells. These are WIDTH, tab columns, wrap_segments, cells within a segment, up, down and the screen;
  * elsewhere the flag is 100, as any other number that stands for nothing.
  *
- * Pointers are not null, also where a length is 0, and nothing that is written to overlaps anything
- * else that is lent. */
+ * Where a length is 0 the pointer may be null: it is not read. Other pointers are not null, those to
+ * `out`, a caret and the sizes included, and nothing that is written to overlaps anything else that is
+ * lent. */
 #ifndef TSIVAREZA_H
 #define TSIVAREZA_H
 
@@ -76,6 +77,23 @@ uint32_t tsivareza_without_plus_u32(const uint32_t *list, size_t list_len, uint3
                                     size_t written_len, uint32_t out[1]);
 uint32_t tsivareza_without_plus(const uint8_t *list, size_t list_len, uint32_t *room, size_t room_len,
                                 uint32_t *written, size_t written_len, uint32_t out[1]);
+
+/* Vim's own keyword lists. out[0]: how many tokens the list has; whether it holds x, 1 or 0. The answer's
+ * low half is a refusal's number: 7, 17, 8; its high half the place that 17 has, the length of the longest
+ * beginning that some list of the grammar has. A character that is no scalar value is 2, before these. */
+enum { TSIVAREZA_VIM_PARSE, TSIVAREZA_VIM_MATCHES };
+
+uint64_t tsivareza_vim_list_u32(uint32_t op, const uint32_t *list, size_t list_len, uint32_t x,
+                                uint32_t out[1]);
+uint64_t tsivareza_vim_list(uint32_t op, const uint8_t *list, size_t list_len, uint32_t *room,
+                            size_t room_len, uint32_t x, uint32_t out[1]);
+
+/* A Vim list read (7, 17, 8) and written to the front of `written`, each end as it was spelt; out[0] counts
+ * its code points. Refuses 14 where `written` is too short. */
+uint64_t tsivareza_vim_write_u32(const uint32_t *list, size_t list_len, uint32_t *written,
+                                 size_t written_len, uint32_t out[1]);
+uint64_t tsivareza_vim_write(const uint8_t *list, size_t list_len, uint32_t *room, size_t room_len,
+                             uint32_t *written, size_t written_len, uint32_t out[1]);
 
 /* Tab columns of a row. */
 enum {
@@ -316,6 +334,92 @@ uint32_t tsivareza_seek_u32(uint32_t op, const uint32_t *text, size_t text_len, 
 uint32_t tsivareza_seek(uint32_t op, const uint8_t *text, size_t text_len, uint32_t *room,
                         size_t room_len, uint32_t row, uint32_t col, uint32_t held, uint32_t sticky,
                         uint32_t x, uint32_t out[5]);
+
+/* motion, word, vertical, screen_kept, viewport and seek with row starts: each takes `starts`, `starts_len`
+ * and `content` after the text, as tsivareza_row_starts and the edits leave them (its out[0], their
+ * sizes[2]), and else what the call without them takes, and answers as that does. Where that gives no
+ * refusal, it is 15 for fewer places than the text has rows, and 16 where `starts` or `content` is not the
+ * text's. Places behind the rows are not looked at. `starts` is uint32_t in either form. */
+uint32_t tsivareza_motion_rows_u32(uint32_t op, const uint32_t *text, size_t text_len,
+                                   const uint32_t *starts, size_t starts_len, uint32_t content,
+                                   uint32_t row, uint32_t col, uint32_t held, uint32_t sticky,
+                                   uint32_t count, uint32_t out[4]);
+uint32_t tsivareza_motion_rows(uint32_t op, const uint8_t *text, size_t text_len, const uint32_t *starts,
+                               size_t starts_len, uint32_t content, uint32_t *room, size_t room_len,
+                               uint32_t row, uint32_t col, uint32_t held, uint32_t sticky, uint32_t count,
+                               uint32_t out[4]);
+uint32_t tsivareza_word_rows_u32(uint32_t op, const uint32_t *text, size_t text_len, const uint32_t *starts,
+                                 size_t starts_len, uint32_t content, const uint32_t *folds,
+                                 size_t folds_len, const uint32_t *list, size_t list_len, uint32_t row,
+                                 uint32_t col, uint32_t held, uint32_t sticky, uint32_t big, uint32_t count,
+                                 uint32_t out[4]);
+uint32_t tsivareza_word_rows(uint32_t op, const uint8_t *text, size_t text_len, const uint32_t *starts,
+                             size_t starts_len, uint32_t content, const uint8_t *folds, size_t folds_len,
+                             const uint8_t *list, size_t list_len, uint32_t *room, size_t room_len,
+                             uint32_t row, uint32_t col, uint32_t held, uint32_t sticky, uint32_t big,
+                             uint32_t count, uint32_t out[4]);
+uint32_t tsivareza_vertical_rows_u32(uint32_t op, const uint32_t *text, size_t text_len,
+                                     const uint32_t *starts, size_t starts_len, uint32_t content,
+                                     const uint32_t *folds, size_t folds_len, uint32_t row, uint32_t col,
+                                     uint32_t held, uint32_t sticky, uint32_t mode, uint16_t width,
+                                     uint32_t count, uint32_t tabstop, uint32_t out[4]);
+uint32_t tsivareza_vertical_rows(uint32_t op, const uint8_t *text, size_t text_len, const uint32_t *starts,
+                                 size_t starts_len, uint32_t content, const uint8_t *folds,
+                                 size_t folds_len, uint32_t *room, size_t room_len, uint32_t row,
+                                 uint32_t col, uint32_t held, uint32_t sticky, uint32_t mode,
+                                 uint16_t width, uint32_t count, uint32_t tabstop, uint32_t out[4]);
+uint32_t tsivareza_screen_kept_rows_u32(uint32_t op, const uint32_t *text, size_t text_len,
+                                        const uint32_t *starts, size_t starts_len, uint32_t content,
+                                        const uint32_t *folds, size_t folds_len, uint32_t row, uint32_t col,
+                                        uint32_t held, uint32_t sticky, uint32_t kept, uint32_t offset,
+                                        uint32_t mode, uint16_t width, uint32_t count, uint32_t tabstop,
+                                        uint32_t out[6]);
+uint32_t tsivareza_screen_kept_rows(uint32_t op, const uint8_t *text, size_t text_len,
+                                    const uint32_t *starts, size_t starts_len, uint32_t content,
+                                    const uint8_t *folds, size_t folds_len, uint32_t *room, size_t room_len,
+                                    uint32_t row, uint32_t col, uint32_t held, uint32_t sticky,
+                                    uint32_t kept, uint32_t offset, uint32_t mode, uint16_t width,
+                                    uint32_t count, uint32_t tabstop, uint32_t out[6]);
+uint32_t tsivareza_viewport_rows_u32(uint32_t op, const uint32_t *text, size_t text_len,
+                                     const uint32_t *starts, size_t starts_len, uint32_t content,
+                                     uint32_t row, uint32_t col, uint32_t held, uint32_t sticky,
+                                     uint32_t top, uint16_t height, uint32_t offset, uint32_t out[4]);
+uint32_t tsivareza_viewport_rows(uint32_t op, const uint8_t *text, size_t text_len, const uint32_t *starts,
+                                 size_t starts_len, uint32_t content, uint32_t *room, size_t room_len,
+                                 uint32_t row, uint32_t col, uint32_t held, uint32_t sticky, uint32_t top,
+                                 uint16_t height, uint32_t offset, uint32_t out[4]);
+uint32_t tsivareza_seek_rows_u32(uint32_t op, const uint32_t *text, size_t text_len, const uint32_t *starts,
+                                 size_t starts_len, uint32_t content, uint32_t row, uint32_t col,
+                                 uint32_t held, uint32_t sticky, uint32_t x, uint32_t out[5]);
+uint32_t tsivareza_seek_rows(uint32_t op, const uint8_t *text, size_t text_len, const uint32_t *starts,
+                             size_t starts_len, uint32_t content, uint32_t *room, size_t room_len,
+                             uint32_t row, uint32_t col, uint32_t held, uint32_t sticky, uint32_t x,
+                             uint32_t out[5]);
+
+/* Jumps over one text, which is checked once, each from where the one before ended. `pairs` holds a kind
+ * and a count for each (MATCH_BRACKET's count is not used), `answers` takes a row and a column for each,
+ * and out is the caret at the end, in six numbers as of the screen moves that remember. `starts` and
+ * `content` are what tsivareza_row_starts made. Then 15, 16, 22 (a kind above 3, or an odd pairs_len) and
+ * 14 (answers_len below pairs_len); a refusal writes no answer. A bracket that has no partner stays. */
+enum {
+    TSIVAREZA_JUMP_WORD_FWD,
+    TSIVAREZA_JUMP_WORD_BACK,
+    TSIVAREZA_JUMP_WORD_END,
+    TSIVAREZA_JUMP_MATCH_BRACKET
+};
+
+uint32_t tsivareza_jumps_u32(const uint32_t *text, size_t text_len, const uint32_t *starts,
+                             size_t starts_len, uint32_t content, const uint32_t *folds,
+                             size_t folds_len, const uint32_t *list, size_t list_len, uint32_t row,
+                             uint32_t col, uint32_t held, uint32_t sticky, uint32_t kept,
+                             uint32_t offset, const uint32_t *pairs, size_t pairs_len,
+                             uint32_t *answers, size_t answers_len, uint32_t out[6]);
+uint32_t tsivareza_jumps(const uint8_t *text, size_t text_len, const uint8_t *folds, size_t folds_len,
+                         const uint8_t *list, size_t list_len, uint32_t *room, size_t room_len,
+                         const uint32_t *starts, size_t starts_len, uint32_t content, uint32_t row,
+                         uint32_t col, uint32_t held, uint32_t sticky, uint32_t kept, uint32_t offset,
+                         const uint32_t *pairs, size_t pairs_len, uint32_t *answers,
+                         size_t answers_len, uint32_t out[6]);
 
 /* UTF-8 by RFC 3629; out[0] counts the code points, or the bytes, which stand at the start of `points` or
  * `bytes`. Decoding answers 64 bits: in the low half 0 or the number, and in the high half, for 13 alone,

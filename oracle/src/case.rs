@@ -1,5 +1,5 @@
 //! A call with its inputs, as a value and as one line of text, and what the given Rust answers, or `pairs`, `plus`, `kept`,
-//! `classes` and `wide` for calls that it does not have.
+//! `classes`, `vim` and `wide` for calls that it does not have.
 //!
 //! A line is the call's name and its inputs, each `name=value` and each once:
 //! `move_word_fwd text=61,20,62 row=0 col=0 sticky=none folds= list=40,2c,5f big=0 count=1`.
@@ -7,7 +7,7 @@
 //! numbers are decimal, and a list of them has commas.
 
 use crate::calls::{self, Words};
-use crate::{Outcome, classes, kept, pairs, plus, wide};
+use crate::{Outcome, classes, kept, pairs, plus, vim, wide};
 use std::fmt;
 
 /// An input that a call takes.
@@ -123,6 +123,13 @@ fn plain(k: &Case) -> Outcome {
     })
 }
 
+fn vim_written(k: &Case) -> Outcome {
+    placed(vim::vim_write(&k.list, k.room as usize), |left| {
+        let (count, rest) = (left.len(), vec![FILLER; k.room as usize - left.len()]);
+        Outcome::Written(count as u32, [left, rest].concat())
+    })
+}
+
 fn remembered(k: &Case, down: bool) -> Outcome {
     let answer = kept::screen_kept(&k.text, k.caret, k.offset, &k.folds, k.view, k.tabstop, k.count, down);
     outcome(answer, |(caret, offset)| Outcome::Kept(caret, offset))
@@ -177,7 +184,7 @@ macro_rules! wide {
 }
 
 /// Every public call, those on widths also with the flag.
-pub static CALLS: [Call; 76] = [
+pub static CALLS: [Call; 79] = [
     call!(content_row_count [Text] |k| outcome(calls::content_row_count(&k.text), |n| Outcome::Number(n.into()))),
     counted!(move_left),
     counted!(move_right_in_line),
@@ -251,6 +258,9 @@ pub static CALLS: [Call; 76] = [
     call!(enter [List] |k| placed(plus::enter(&k.list), |n| Outcome::Number(n.into()))),
     call!(enter_matches [List, Character] |k| placed(plus::enter_matches(&k.list, k.character), Outcome::Truth)),
     call!(without_plus [List, Room] plain),
+    call!(vim_parse [List] |k| placed(vim::vim_parse(&k.list), |n| Outcome::Number(n.into()))),
+    call!(vim_matches [List, Character] |k| placed(vim::vim_matches(&k.list, k.character), Outcome::Truth)),
+    call!(vim_write [List, Room] vim_written),
     call!(move_screen_up_kept [Text, Caret, Offset, Folds, Viewport, Tabstop, Count] |k| remembered(k, false)),
     call!(move_screen_down_kept [Text, Caret, Offset, Folds, Viewport, Tabstop, Count] |k| remembered(k, true)),
     call!(word_classes [Text, List, Room] classes_of),

@@ -189,6 +189,52 @@ fn retires(call: &Call) -> bool {
     matches!(call.name, "enter" | "enter_matches" | "without_plus")
 }
 
+/// Calls on Vim's own lists.
+fn by_vim(call: &Call) -> bool {
+    call.name.starts_with("vim_")
+}
+
+/// Parts of Vim's lists; behind them what no part is.
+const VIM_PARTS: [&str; 32] = [
+    "@", "48-57", "_", "192-255", "^a-z", "^,", ",", "@-@", "^@", "a-z", "A-90", "94", "^^", "^^-z", "-", "---", "+--", ",-,", " ", " -~",
+    "00097", "255", "64", "0", "128-255", "^255", "\t", "\u{0}", "~-128", "0-0255", "^@-@", "Z-^",
+];
+const VIM_SCRAPS: [&str; 14] = ["256", "z-a", "a-", "--", "", "aa", "200-19", "\u{E9}", "a-\u{E9}", "1-2-3", "4294967393", "^a^", "57-48", "+48"];
+
+/// A list as Vim has them, now and then damaged at a place or in a part, with code points above 127 and values that are none among them.
+fn vim_list(dice: &mut Dice) -> Vec<u32> {
+    let most = dice.pick(&[1, 2, 3, 5, 9]);
+    let mut parts: Vec<&str> = (0..dice.below(most + 1)).map(|_| dice.pick(&VIM_PARTS)).collect();
+    if dice.once_in(5) {
+        let at = dice.below(parts.len() + 1);
+        parts.insert(at, dice.pick(&VIM_SCRAPS));
+    }
+    if dice.once_in(8) {
+        parts.push("^");
+    }
+    let mut list = points(&parts.join(","));
+    if dice.once_in(6) {
+        let at = dice.below(list.len() + 1);
+        let odd = dice.pick(&points("^@-,az0259 \u{7F}\u{80}\u{3042}"));
+        match dice.below(3) {
+            0 => list.truncate(at),
+            1 => list.insert(at, odd),
+            _ => _ = list.splice(at..list.len().min(at + 1), [odd]).count(),
+        }
+    }
+    if dice.once_in(20) {
+        list = (0..dice.below(14)).map(|_| dice.pick(&points("^@-,,az0259 "))).collect();
+    }
+    if dice.once_in(40) {
+        let at = dice.below(list.len() + 1);
+        list.insert(at, dice.pick(&[0xD800, 0x110000, MOST]));
+    }
+    if dice.once_in(60) {
+        list = points(&vec![dice.pick(&["a", "^d-z", "@", ",", "^^"]); dice.pick(&[127, 128, 129])].join(","));
+    }
+    list
+}
+
 /// Now and then a plus sign where a number may begin, and anywhere; and a token more.
 fn signed(dice: &mut Dice, list: &[u32]) -> Vec<u32> {
     let mut all = Vec::new();
@@ -261,6 +307,10 @@ pub fn random(call: &'static Call, dice: &mut Dice) -> Case {
     };
     case.big = dice.coin();
     case.stop = dice.once_in(3);
+    if by_vim(call) {
+        case.list = vim_list(dice);
+        case.room = (case.list.len() as u32 + 1).saturating_sub(dice.pick(&[0, 0, 1, 1, 2, 3]));
+    }
     let all = if case.takes(Input::List) && dice.coin() { &case.list } else { &case.text };
     case.character = character(dice, all);
     (case.forward, case.till, case.skip) = (dice.coin(), dice.coin(), dice.coin());
@@ -268,14 +318,16 @@ pub fn random(call: &'static Call, dice: &mut Dice) -> Case {
     case.start = near(dice, size);
     case.end = near(dice, size);
     case.column = near(dice, 2 * size);
-    case.room = 2 * dice.below(size + 2) as u32 + dice.below(2) as u32;
+    if !by_vim(call) {
+        case.room = 2 * dice.below(size + 2) as u32 + dice.below(2) as u32;
+    }
     if case.takes(Input::Segments) {
         case.segments = (0..dice.below(9)).map(|_| near(dice, 8)).collect();
         if dice.coin() {
             case.segments.sort_unstable();
         }
     }
-    if case.takes(Input::Room) && dice.coin() {
+    if case.takes(Input::Room) && dice.coin() && !by_vim(call) {
         case.room = 2 * size as u32 + 2;
     }
     if case.takes(Input::Offset) && dice.coin() {
@@ -388,16 +440,17 @@ fn families(call: &Call) -> Vec<Family> {
 const ROW: &str = "a \t\u{3000}\u{3042}\u{301}\u{1}";
 const WIDE_ROW: &str = "a \t\u{2192}\u{B0}\u{301}\u{3042}";
 
-/// Every list of up to six code points over these, and where plus signs are retired of up to seven over those.
+/// Every list of up to six code points over these, and where plus signs are retired of up to seven over those; Vim's of up to seven.
 const LIST: &str = "@,-+049a_ \u{3000}";
 const SIGNED: &str = "+-,4@ ";
+const VIM: &str = "^@-,z025 ";
 
 /// Every case of a call with a small text and small numbers; `most` caps the length of texts and lists.
 pub fn small(call: &'static Call, most: usize, mut visit: impl FnMut(&Case)) {
     let takes = |input| call.takes.contains(&input);
     if takes(Input::List) && !takes(Input::Text) {
         let tested: &[u32] = &[0, 3, 4, 5, 8, 9, 10, 0x20, 0x2B, 0x2C, 0x2D, 0x30, 0x34, 0x39, 0x40, 0x5F, 0x61, 0x3000];
-        let (alphabet, longest) = if retires(call) { (SIGNED, 7) } else { (LIST, 6) };
+        let (alphabet, longest) = if retires(call) { (SIGNED, 7) } else if by_vim(call) { (VIM, 7) } else { (LIST, 6) };
         for list in texts(&points(alphabet), most.min(longest)) {
             let case = Case { list, ..Case::new(call) };
             let cases = if takes(Input::Character) { each(vec![case], tested, |k, x| k.character = x) } else { vec![case] };
@@ -535,7 +588,7 @@ pub fn limits(call: &'static Call) -> Vec<Case> {
         case.text = points("a b\nc");
         case.line = points("a b");
         case.count = 1;
-        case.room = if retires(call) { 64 } else { 0 };
+        case.room = if retires(call) || by_vim(call) { 64 } else { 0 };
         put(&mut case);
         if classes(call) {
             // no place, and one too few
@@ -657,6 +710,37 @@ pub fn limits(call: &'static Call) -> Vec<Case> {
         }
         add(&|k| (k.list, k.character) = (vec![0xD800, 0x2B, 0x34], 0xD800));
         add(&|k| (k.list, k.character) = (points("+4"), 0xD800));
+    }
+    if by_vim(call) {
+        let tokens = |token: &str, n: usize| vec![token; n].join(",");
+        let zeros = |n: usize, rest: &str| "0".repeat(n) + rest;
+        let lists = [
+            tokens("a", 128),
+            tokens("a", 129),
+            tokens("a", 129) + ",",
+            tokens("^d-z", 128),
+            tokens("^d-z", 128) + ",^",
+            tokens(",", 128),
+            tokens("^^", 127) + ",^",
+            tokens("100-255", 128),
+            zeros(1_021, "255"),
+            zeros(1_021, "25-"),
+            zeros(1_021, "256"),
+            zeros(1_022, "255"),
+            zeros(1_020, "25-a"),
+            "a-".to_string() + &zeros(1_019, "255"),
+            "a-".to_string() + &zeros(1_022, ""),
+            ",".repeat(1_023),
+            ",".repeat(1_024),
+        ];
+        for list in lists.into_iter().map(|list| points(&list)) {
+            add(&|k| k.list = list.clone());
+            for less in (0..3).filter(|_| takes(Input::Room)) {
+                add(&|k| (k.list, k.room) = (list.clone(), (list.len() as u32 + 1).saturating_sub(less)));
+            }
+        }
+        add(&|k| (k.list, k.character) = (vec![0xD800, 0x2C], 0xD800));
+        add(&|k| (k.list, k.character) = (points("a,"), 0xD800));
     }
     if takes(Input::Segments) {
         for n in 0..4 {

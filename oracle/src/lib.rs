@@ -1,10 +1,10 @@
 //! What the given Rust answers, on plain values: the judge of the port's answers.
 //!
 //! `calls` has one function per public call, `refusals` the refusal table of document 01, written
-//! apart from it, `pairs`, `plus`, `kept`, `edits`, `row_table`, `fold_file` and `classes` what document 02 adds on pairs, on plus signs, on screen moves
-//! that remember, on edits, on row starts that are kept, on fold files and on the classes of places,
+//! apart from it, `pairs`, `plus`, `kept`, `edits`, `row_table`, `fold_file`, `classes` and `vim` what document 02 adds on pairs, on plus signs, on screen moves
+//! that remember, on edits, on row starts that are kept, on fold files, on the classes of places and on Vim's lists,
 //! from its words, `case` a call with its inputs as one line of text, `generate` cases from a seed and small families,
-//! `replay` the list that the program `replay` runs, `session` document 01's
+//! `replay` the list that the program `replay` runs, `random_rows` such rows at random, `session` document 01's
 //! session over the given motions, `utf8` RFC 3629's tables and `std::str`, `wide` the calls on widths under the setting
 //! wide.
 
@@ -17,12 +17,14 @@ pub mod generate;
 pub mod kept;
 pub mod pairs;
 pub mod plus;
+pub mod random_rows;
 pub mod refusals;
 pub mod replay;
 pub mod replay_buffers;
 pub mod row_table;
 pub mod session;
 pub mod utf8;
+pub mod vim;
 pub mod wide;
 
 /// Row, column and sticky column.
@@ -79,9 +81,9 @@ pub enum Outcome {
 }
 
 impl Outcome {
-    /// A refusal with its place: 0 where it has none, but for 21.
+    /// A refusal with its place: 0 where it has none, but for 17 and 21.
     pub fn refused_at(number: u32, place: u32) -> Outcome {
-        if number == 21 || place > 0 { Outcome::RefusedAt(number, place) } else { Outcome::Refused(number) }
+        if matches!(number, 17 | 21) || place > 0 { Outcome::RefusedAt(number, place) } else { Outcome::Refused(number) }
     }
 }
 

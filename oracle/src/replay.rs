@@ -7,7 +7,7 @@
 //! last, by RFC 3629's tables: groups 14 and 15, with a byte as a number. A screen move
 //! that remembers, group 18, has in its list whether an offset is kept, and that. Edits and fold files, groups 19 and 20:
 //! `replay_buffers`. The second engine of the word motions is group 21: operations 0 to 4 as group 10 has them, 5 the classes; a
-//! place for a class is a number.
+//! place for a class is a number. Vim's own lists are group 23: operations 0 and 1 as the exports have them, 2 a list written.
 
 use crate::case::{CALLS, Call, Case, FILLER, FILLER_CLASS, Input};
 use crate::generate::{self, Dice};
@@ -73,7 +73,7 @@ fn asked(k: &Case) -> Asked<'_> {
     head.resize(10, 0);
     let (text, folds, list): (&[u32], &[u32], &[u32]) = match group {
         0 => (&[], &[], &[]),
-        1 | 16 | 17 => (&[], &[], &k.list),
+        1 | 16 | 17 | 23 => (&[], &[], &k.list),
         2 | 3 | 5 => (&k.line, &[], &[]),
         4 => (&[], &[], &k.segments),
         10 if op == 4 => (&k.text, &[], &k.list),
@@ -134,6 +134,9 @@ fn plain_numbers(k: &Case, name: &str) -> (u32, u32, Vec<u32>) {
         "enter" => (16, 0, vec![0]),
         "enter_matches" => (16, 1, vec![x]),
         "without_plus" => (17, 0, vec![k.room]),
+        "vim_parse" => (23, 0, vec![0]),
+        "vim_matches" => (23, 1, vec![x]),
+        "vim_write" => (23, 2, vec![k.room]),
         "match_bracket" => (9, 0, caret(&[0])),
         "find_char_on_line" => {
             (9, 1 + u32::from(k.forward) + 2 * u32::from(k.till) + 4 * u32::from(k.skip), caret(&[x]))
@@ -195,7 +198,7 @@ fn answer(k: &Case, places: usize, outcome: &Outcome) -> Option<Vec<u32>> {
         Outcome::Classed(caret, slice) => [vec![0], held(caret).to_vec(), numbers_of(slice)].concat(),
         Outcome::Outside => return None,
     };
-    if matches!(k.call.name, "enter" | "enter_matches") {
+    if matches!(k.call.name, "enter" | "enter_matches") || numbers(k).0 == 23 {
         all.insert(1, if let Outcome::RefusedAt(_, place) = outcome { *place } else { 0 });
     }
     Some(all)
@@ -234,12 +237,17 @@ pub(crate) fn written(parts: &[&[u32]]) -> String {
     runs.collect::<Vec<_>>().join(" ")
 }
 
-/// The rows of a call: random cases on short texts, then the limits.
-fn rows(call: &'static Call) -> Vec<Row> {
-    let random = (0..).map(|index| generate::random(call, &mut Dice::new(SEED, index)));
+/// Random cases of a call on short texts.
+pub(crate) fn random(call: &'static Call, seed: u64, n: usize) -> impl Iterator<Item = Row> {
+    let random = (0..).map(move |index| generate::random(call, &mut Dice::new(seed, index)));
     let short = random.filter(|k| k.text.len() <= LONGEST && k.line.len() <= LONGEST);
+    short.filter_map(|k| row(&k)).take(n)
+}
+
+/// The rows of a call: random cases, then the limits.
+fn rows(call: &'static Call) -> Vec<Row> {
     let limits = generate::limits(call).into_iter().filter_map(|k| row(&k));
-    short.filter_map(|k| row(&k)).take(CASES).chain(limits).collect()
+    random(call, SEED, CASES).chain(limits).collect()
 }
 
 /// What places lent for bytes hold before a call.
@@ -279,11 +287,11 @@ fn encoded(points: &[u32], room: usize) -> Row {
     }
 }
 
-/// Random texts of at most 64 bytes both ways, with damage, and the first limit.
-fn codings() -> Vec<Row> {
+/// Random texts of at most 64 bytes both ways, with damage: decoded, and encoded.
+pub(crate) fn codings(seed: u64, n: usize) -> (Vec<Row>, Vec<Row>) {
     let (mut there, mut back) = (Vec::new(), Vec::new());
-    for index in 0..CASES as u64 {
-        let dice = &mut Dice::new(SEED, index);
+    for index in 0..n as u64 {
+        let dice = &mut Dice::new(seed, index);
         let mut points: Vec<u32> = (0..dice.pick(&[0, 1, 2, 3, 5, 9, 16])).map(|_| dice.pick(&POINTS)).collect();
         let mut bytes: Vec<u8> = points.iter().flat_map(|&x| utf8::encoded(x)).collect();
         let short = |dice: &mut Dice, most: usize| if dice.once_in(6) { most.saturating_sub(1) } else { most.min(60) + dice.below(4) };
@@ -304,12 +312,13 @@ fn codings() -> Vec<Row> {
         }
         there.push(decoded(&bytes, short(dice, most)));
     }
-    back.push(encoded(&vec![0x61; 1_048_577], 4));
-    there.into_iter().chain(back).collect()
+    (there, back)
 }
 
 /// The rows of the list, in its order.
 pub fn list() -> Vec<Row> {
     let buffers = replay_buffers::edits().into_iter().chain(replay_buffers::fold_files());
-    CALLS.iter().flat_map(rows).chain(codings()).chain(buffers).collect()
+    let (there, mut back) = codings(SEED, CASES);
+    back.push(encoded(&vec![0x61; 1_048_577], 4));
+    CALLS.iter().flat_map(rows).chain(there).chain(back).chain(buffers).collect()
 }

@@ -15,7 +15,7 @@ use crate::Outcome;
 const EDITS: u64 = 240;
 const FILES: u64 = 60;
 
-fn row(call: &'static str, number: u32, told: u64, parts: &[&[u32]], words: String) -> Row {
+pub(crate) fn row(call: &'static str, number: u32, told: u64, parts: &[&[u32]], words: String) -> Row {
     let outcome = if number == 0 { Outcome::Number(told) } else { Outcome::Refused(number) };
     Row { call, words: format!("{words} -> {outcome}"), outcome, numbers: written(parts) }
 }
@@ -49,7 +49,7 @@ fn place(dice: &mut Dice, text: &[u32], outside: usize) -> (u32, u32) {
     }
 }
 
-fn points(dice: &mut Dice, sizes: &[usize]) -> Vec<u32> {
+pub(crate) fn points(dice: &mut Dice, sizes: &[usize]) -> Vec<u32> {
     let mut points: Vec<u32> = (0..dice.pick(sizes)).map(|_| dice.pick(&[0x61, 0x62, 0x20, 0x0A, 0x0A, 0x2192])).collect();
     if dice.once_in(24) && !points.is_empty() {
         let at = dice.below(points.len());
@@ -58,7 +58,8 @@ fn points(dice: &mut Dice, sizes: &[usize]) -> Vec<u32> {
     points
 }
 
-fn random_edit(dice: &mut Dice) -> Row {
+/// A random page, a stretch of it, mostly in order, and what is put in, or nothing for a delete.
+pub(crate) fn random_page(dice: &mut Dice) -> (Page, (u32, u32), (u32, u32), Option<Vec<u32>>) {
     let mut text = points(dice, &[0, 1, 3, 6, 10, 16]);
     let rows = text.iter().filter(|&&x| x == 10).count() + 1;
     let mut folds = Vec::new();
@@ -74,12 +75,16 @@ fn random_edit(dice: &mut Dice) -> Row {
     folds.resize(folds.len() + dice.pick(&[0, 0, 1, 3]), 8);
     let page = Page { text, folds, caret: [caret.0, caret.1, 1, 7, 1, 3], sizes: [len, count] };
     if dice.once_in(2) {
-        let put = points(dice, &[0, 1, 2, 4, 9]);
-        return edit(&page, from, from, Some(&put));
+        return (page, from, from, Some(points(dice, &[0, 1, 2, 4, 9])));
     }
     let backward = dice.once_in(12);
     let (first, last) = if (from > to) != backward { (to, from) } else { (from, to) };
-    edit(&page, first, last, None)
+    (page, first, last, None)
+}
+
+pub(crate) fn random_edit(dice: &mut Dice) -> Row {
+    let (page, from, to, points) = random_page(dice);
+    edit(&page, from, to, points.as_deref())
 }
 
 /// Random edits of small pages, a text that is longer than its buffer, and too many code points put in.
@@ -149,7 +154,7 @@ fn damaged(dice: &mut Dice, mut file: Vec<u8>) -> Vec<u8> {
     file
 }
 
-fn random_file(dice: &mut Dice, rows: &mut Vec<Row>) {
+pub(crate) fn random_file(dice: &mut Dice, rows: &mut Vec<Row>) {
     let text = points(dice, &[0, 1, 4, 9, 20]);
     let lines = text.iter().filter(|&&x| x == 10).count() + 1 + usize::from(dice.once_in(6));
     let n = dice.pick(&[0, 1, 2, 3]);

@@ -4,12 +4,12 @@ use oracle::case::{CALLS, Case, Input};
 use oracle::{Outcome, replay};
 use std::collections::BTreeSet;
 
-/// The refusals that a call has, by what it takes (document 01, "Refusal numbers"; document 02, #112 and #113).
+/// The refusals that a call has, by what it takes (document 01, "Refusal numbers"; document 02, #108, #112 and #113).
 fn refusals(case: &Case) -> BTreeSet<u32> {
     let parsed = case.takes(Input::List) && !matches!(case.call.name, "is_keyword_char" | "without_plus");
     let tested = case.takes(Input::Character) && case.call.name != "is_scalar";
     let classes = case.call.name == "word_classes" || case.call.name.ends_with("_by_class");
-    let by_input: [(bool, &[u32]); 12] = [
+    let by_input: [(bool, &[u32]); 13] = [
         (case.takes(Input::Text), &[1, 2, 3]),
         (case.takes(Input::Line), &[1, 2]),
         (tested, &[2]),
@@ -20,7 +20,8 @@ fn refusals(case: &Case) -> BTreeSet<u32> {
         (parsed, &[8]),
         (case.call.name.starts_with("wrap_segments"), &[9]),
         (case.takes(Input::Segments), &[10]),
-        (case.call.name == "without_plus" || classes, &[14]),
+        (matches!(case.call.name, "without_plus" | "vim_write") || classes, &[14]),
+        (case.call.name.starts_with("vim_"), &[17]),
         (matches!(case.call.name, "enter" | "enter_matches"), &[21]),
     ];
     by_input.iter().filter(|(takes, _)| *takes).flat_map(|(_, n)| *n).copied().collect()

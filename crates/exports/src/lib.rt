@@ -7,8 +7,8 @@
 //   102  too little room for the code points
 //   103  an answer that no u32 holds
 // 101 comes first, then 102, then 100, then document 01's; 103 stands in an answer's place, and of
-// UTF-8 that has more bytes than a u32 counts before everything. A refusal with a place (13, 21) is
-// answered in 64 bits, the number in the low half and the place in the high half.
+// UTF-8 that has more bytes than a u32 counts before everything. A refusal with a place (13, 17,
+// 21) is answered in 64 bits, the number in the low half and the place in the high half.
 // A call on bytes decodes into the lent room; its `_u32` form takes code points as they are. The
 // code points stay at the start of the room, also where the call is refused, but for 101 and 102.
 mod characters;
@@ -16,9 +16,12 @@ mod classes;
 mod edits;
 mod encodings;
 mod fold_files;
+mod fold_rows;
 mod inners;
+mod jumping;
 mod kept;
 mod lists;
+mod motion_rows;
 mod moves;
 mod pairs;
 mod rows;
@@ -29,4 +32,5 @@ mod tables;
 mod tabs;
 mod terms;
 mod upright;
+mod vim;
 mod wraps;

@@ -3,6 +3,7 @@ pub mod Examples
 pub mod Runs
 pub mod Codings
 pub mod Entries
+pub mod Vims
 pub mod Buffers
 pub mod ResultTables
 pub mod Results
@@ -19,3 +20,4 @@ pub mod Methods
 pub mod Apart
 pub mod Remembering
 pub mod ByClass
+pub mod RowTables

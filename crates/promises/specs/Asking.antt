@@ -20,6 +20,9 @@ use Rattle.call_folds.specs.Terms.{words}
 use Rattle.list_signs.specs.Plain.{plainIn}
 use Rattle.call_signs.specs.Entry.{placedReply, entering}
 use Rattle.call_signs.specs.Plain.{plainTold}
+use Rattle.call_signs.specs.declared.Placed.{Placed}
+use Rattle.call_signs.specs.declared.Placed.the-variants.{Value as Placed·Value, Refused as Placed·Refused}
+use Rattle.call_vim.specs.Vim.{vimBy, vimWriting, vimLeft}
 
 -- brackets: a partner, the innermost pair of a kind, and the % key
 abbrev pub pair : String → ℕ → ℕ → Reply
@@ -75,6 +78,20 @@ enteredHolds list c = placedReply (entering 1 c (codes list))
 
 abbrev pub plainly : String → Reply
 plainly list = counted (plainTold (replicate 6 9) (codes list)) (plainIn (codes list) (replicate 6 9))
+
+-- Vim's own lists: how many tokens, whether they hold a character, and the list written into six places that hold 9s
+abbrev pub vimRead : String → Reply
+vimRead list = placedReply (vimBy 0 0 (codes list))
+
+abbrev pub vimHolds : String → ℕ → Reply
+vimHolds list c = placedReply (vimBy 1 c (codes list))
+
+abbrev pub placedCounted : Placed → List ℕ → Reply
+placedCounted (Placed·Value n) left = answer (n ∷ left)
+placedCounted (Placed·Refused f) left = refused f
+
+abbrev pub vimAgain : String → Reply
+vimAgain list = placedCounted (vimWriting (codes list) (replicate 6 9)) (vimLeft (codes list) (replicate 6 9))
 
 -- a partner, none; a caret; a search that found, and its caret
 abbrev pub with : ℕ → ℕ → List ℕ

@@ -22,7 +22,7 @@ use Rattle.utf8.specs.Encoding.{utf8}
 use Rattle.session.specs.Session.{sessionOf}
 use Rattle.lists.specs.Lists.{isSame}
 use Rattle.lists.specs.Codes.{codes}
-use Rattle.promises.specs.Asking.{pair, inside, key, till, byWord, entered, enteredHolds, plainly, with, none, spans, alone, at, found, yes, no}
+use Rattle.promises.specs.Asking.{pair, inside, key, till, byWord, entered, enteredHolds, plainly, vimRead, vimHolds, vimAgain, with, none, spans, alone, at, found, yes, no}
 
 pub record Case : Type 0 where
   pub call : String
@@ -182,6 +182,22 @@ entries =
     case "without_plus" (plainly "++4,+") (answer (5 ∷ (codes "++4,+" ++ (9 ∷ [])))) (answer (2 ∷ (codes "4," ++ (9 ∷ 9 ∷ 9 ∷ 9 ∷ []))))
     (answer (4 ∷ (codes "++4," ++ (9 ∷ 9 ∷ [])))) ∷
     case "without_plus" (plainly "+444444,") (refused 14) (answer (6 ∷ codes "444444")) (answer (7 ∷ codes "444444")) ∷
+    []
+
+-- Vim's own lists: commas as characters, what is excluded later, an at sign by its code, the end of the longest beginning, and a character that is no
+-- scalar value; the list written as it was spelt, without leading zeros, a place short, and gone wrong
+unfoldable pub vims : List Case
+vims =
+    case "vim_list" (vimRead "a,,,b") (value 3) (value 2) (refused (17 + 4294967296 * 2)) ∷
+    case "vim_list" (vimRead "26-3,") (refused (17 + 4294967296 * 4)) (refused (17 + 4294967296 * 5)) (refused (17 + 4294967296 * 3)) ∷
+    case "vim_list" (vimHolds "a-z,^b" 98) (answer no) (answer yes) (refused (17 + 4294967296 * 4)) ∷
+    case "vim_list" (vimHolds "64" 97) (answer no) (answer yes) (refused (17 + 4294967296 * 0)) ∷
+    case "vim_list" (vimHolds "a," 97) (refused (17 + 4294967296 * 2)) (refused 17) (answer yes) ∷
+    case "vim_list" (vimHolds "a," 0xdfff) (refused 2) (refused (17 + 4294967296 * 2)) (answer no) ∷
+    case "vim_write" (vimAgain "+-045") (answer (4 ∷ (codes "+-45" ++ (9 ∷ 9 ∷ [])))) (answer (5 ∷ (codes "+-045" ++ (9 ∷ []))))
+    (answer (3 ∷ (codes "+--" ++ (9 ∷ 9 ∷ 9 ∷ [])))) ∷
+    case "vim_write" (vimAgain "a,^,,^^") (refused 14) (answer (6 ∷ codes "a,^,,^")) (answer (7 ∷ codes "a,^,,^")) ∷
+    case "vim_write" (vimAgain "^-~") (refused (17 + 4294967296 * 2)) (answer (3 ∷ (codes "^-~" ++ (9 ∷ 9 ∷ 9 ∷ [])))) (refused 17) ∷
     []
 
 -- document 01's printed session: what it prints, that with `j` left out, and what a refused input prints. Document 02's #104: after `$`, `j` goes

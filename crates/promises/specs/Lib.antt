@@ -13,3 +13,4 @@ pub mod Methods
 pub mod Apart
 pub mod Remembering
 pub mod ByClass
+pub mod RowTables

@@ -39,7 +39,7 @@ pub record OneResult : Type 1 where
   pub answered : (s room out : List ℕ) (m : Reply) → One (λ (x : ℕ × List ℕ × List ℕ). Answered s room out m (x .0) (x .1) (x .2))
   -- an export on several byte strings, which share the room
   pub answered-all : (l : List (List ℕ)) (room out : List ℕ) (m : Reply) → One (λ (x : ℕ × List ℕ × List ℕ). AnsweredAll l room out m (x .0) (x .1) (x .2))
-  -- `wrap_segments`, UTF-8 and `without_plus` for hosts, on code points and on bytes: another clause says what is left in the slice lent for segments,
+  -- `wrap_segments`, UTF-8, `without_plus` and `vim_write` for hosts, on code points and on bytes: another clause says what is left in the slice lent for segments,
   -- code points or bytes
   pub replied-leaving : (m : Reply) (out left : List ℕ) → One (λ (x : ℕ × List ℕ × List ℕ). Replied m out (x .0) (x .1) × (x .2 ≡ left))
   pub answered-leaving : (s room out : List ℕ) (m : Reply) (left : List ℕ) →

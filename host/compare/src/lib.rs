@@ -3,8 +3,8 @@
 use oracle::Outcome;
 use oracle::case::{Case, FILLER, FILLER_CLASS};
 use tsivareza::{
-    self as lib, Ambiguous, Columns, Enter, Kept, Keywords, Offsets, Room, ScreenKept, Seek, Steps, Vertical, Viewport, Word, Words,
-    bytes,
+    self as lib, Ambiguous, Columns, Enter, Kept, Keywords, Offsets, Room, Rows, ScreenKept, Seek, Steps, Vertical, ViewportMove, Vim, Word,
+    Words, bytes,
 };
 
 /// The answer on code points, which the one on bytes must equal where it was asked for.
@@ -101,6 +101,15 @@ pub fn port(case: &Case, mut room: Option<&mut Room>) -> Outcome {
         "enter_matches" => return placed(entered(Enter::Matches(x)), |n| Outcome::Truth(n == 1)),
         _ => {}
     }
+    let mut by_vim = |asked| {
+        let on_bytes = room.as_mut().map(|room| room.vim_list(asked, &bytes(list)));
+        both(case, lib::vim_list(asked, list), on_bytes)
+    };
+    match case.call.name {
+        "vim_parse" => return placed(by_vim(Vim::Count), |n| Outcome::Number(n.into())),
+        "vim_matches" => return placed(by_vim(Vim::Matches(x)), |n| Outcome::Truth(n == 1)),
+        _ => {}
+    }
     let mut columns = |asked| {
         let on_bytes = room.as_mut().map(|room| room.columns_as(asked, &bytes(line), case.tabstop, ambiguous));
         number(both(case, lib::columns_as(asked, line, case.tabstop, ambiguous), on_bytes))
@@ -155,8 +164,55 @@ pub fn port(case: &Case, mut room: Option<&mut Room>) -> Outcome {
         "word_classes" => classes(case, room),
         "wrap_segments" => wrapped(case, room),
         "without_plus" => plain(case, room),
+        "vim_write" => vim_written(case, room),
         name => panic!("no call `{name}`"),
     }
+}
+
+/// What the library answers to a motion with a table of row starts, on code points, and with a room on bytes too; nothing for a
+/// call that has no such form.
+pub fn port_rows(case: &Case, rows: Rows, room: Option<&mut Room>) -> Option<Outcome> {
+    let (text, (name, ambiguous), count) = (&case.text[..], named(case), case.count);
+    let k = lib::Caret { row: case.caret.row, col: case.caret.col, sticky: case.caret.sticky };
+    let steps = Steps { folds: &case.folds[..], count, tabstop: case.tabstop };
+    let folds = bytes(&case.folds);
+    let (in_bytes, in_folds) = (room.is_some().then(|| bytes(text)).unwrap_or_default(), Steps { folds: &folds[..], count, tabstop: case.tabstop });
+    if let Some(&(_, which)) = lib::MOTIONS.iter().find(|(name, _)| *name == case.call.name) {
+        let on_bytes = room.map(|room| room.motion_rows(which, &in_bytes, rows, k, count));
+        return Some(moved(both(case, lib::motion_rows(which, text, rows, k, count), on_bytes)));
+    }
+    if let Some(which) = vertical(case) {
+        let on_bytes = room.map(|room| room.vertical_rows(which, &in_bytes, rows, k, in_folds, ambiguous));
+        return Some(moved(both(case, lib::vertical_rows(which, text, rows, k, steps, ambiguous), on_bytes)));
+    }
+    if let Some(which) = screen_kept(case) {
+        let k = Kept { caret: k, offset: case.offset };
+        let on_bytes = room.map(|room| room.screen_kept_rows(which, &in_bytes, rows, k, in_folds, ambiguous));
+        let moved = both(case, lib::screen_kept_rows(which, text, rows, k, steps, ambiguous), on_bytes);
+        return Some(moved.map_or_else(Outcome::Refused, |k| Outcome::Kept(caret(k.caret), k.offset)));
+    }
+    if let Some(which) = viewport(case) {
+        let on_bytes = room.map(|room| room.viewport_rows(which, &in_bytes, rows, k));
+        return Some(moved(both(case, lib::viewport_rows(which, text, rows, k), on_bytes)));
+    }
+    if let Some(which) = word(case) {
+        let on_bytes = room.map(|room| {
+            let words = Words { folds: &folds[..], list: &bytes(&case.list)[..], big: case.big };
+            room.word_rows(which, &in_bytes, rows, k, words, count)
+        });
+        let words = Words { folds: &case.folds[..], list: &case.list[..], big: case.big };
+        return Some(moved(both(case, lib::word_rows(which, text, rows, k, words, count), on_bytes)));
+    }
+    let which = match name {
+        "match_bracket" => Seek::MatchBracket,
+        "find_char_on_line" => {
+            Seek::FindCharOnLine { x: case.character, forward: case.forward, till: case.till, skip_adjacent: case.skip }
+        }
+        _ => return None,
+    };
+    let on_bytes = room.map(|room| room.seek_rows(which, &in_bytes, rows, k));
+    let sought = both(case, lib::seek_rows(which, text, rows, k), on_bytes);
+    Some(sought.map_or_else(Outcome::Refused, |(found, k)| Outcome::Told(found, caret(k))))
 }
 
 /// The name of a call without the flag, and the setting.
@@ -205,12 +261,12 @@ fn screen_kept(case: &Case) -> Option<ScreenKept> {
     }
 }
 
-fn viewport(case: &Case) -> Option<Viewport> {
+fn viewport(case: &Case) -> Option<ViewportMove> {
     let (top, height, offset) = (case.view.top, case.view.height, case.count);
     match case.call.name {
-        "move_viewport_top" => Some(Viewport::Top { top, offset }),
-        "move_viewport_middle" => Some(Viewport::Middle { top, height }),
-        "move_viewport_bottom" => Some(Viewport::Bottom { top, height, offset }),
+        "move_viewport_top" => Some(ViewportMove::Top { top, offset }),
+        "move_viewport_middle" => Some(ViewportMove::Middle { top, height }),
+        "move_viewport_bottom" => Some(ViewportMove::Bottom { top, height, offset }),
         _ => None,
     }
 }
@@ -252,6 +308,21 @@ fn plain(case: &Case, room: Option<&mut Room>) -> Outcome {
         assert!(written.iter().all(|&x| x == FILLER), "a refusal wrote a list on: {case}");
     }
     on_points.map_or_else(Outcome::Refused, |count| Outcome::Written(count, written))
+}
+
+/// `vim_write`, the places lent for the list watched.
+fn vim_written(case: &Case, room: Option<&mut Room>) -> Outcome {
+    let mut written = vec![FILLER; case.room as usize];
+    let on_points = lib::vim_write(&case.list, &mut written);
+    if let Some(room) = room {
+        let mut again = vec![FILLER; case.room as usize];
+        let on_bytes = room.vim_write(&bytes(&case.list), &mut again);
+        let _ = both(case, (on_points, &written), Some((on_bytes, &again)));
+    }
+    if on_points.is_err() {
+        assert!(written.iter().all(|&x| x == FILLER), "a refusal wrote a list on: {case}");
+    }
+    on_points.map_or_else(|(number, place)| Outcome::refused_at(number, place), |count| Outcome::Written(count, written))
 }
 
 /// The slice for classes after a call, which a refusal leaves as it was.

@@ -10,6 +10,7 @@ oracle case WORDS..            what the given Rust answers to one case, as oracl
 oracle cases                   the same for each line of standard input
 oracle random N SEED [CALL..]  N random cases of each call, with their answers
 oracle replay [ROW]            the list that the program `replay` runs, or one of its rows in words
+oracle rows N SEED             N random cases of each call as rows of numbers, and of those that `replay` leaves out
 oracle session                 document 01's session, standard input to standard output";
 
 fn answered(case: &Case) -> String {
@@ -19,6 +20,10 @@ fn answered(case: &Case) -> String {
 fn run(words: &[String]) -> Result<(), String> {
     let mut out = std::io::stdout().lock();
     let mut print = |line: &str| writeln!(out, "{line}").map_err(|e| e.to_string());
+    let number = |at: usize, what: &str| {
+        let word = words.get(at).ok_or(format!("{what} is missing"))?;
+        word.parse::<u64>().map_err(|_| format!("`{word}` is no number"))
+    };
     let mut input = Vec::new();
     match words.first().map(String::as_str) {
         Some("case") => print(&answered(&words[1..].join(" ").parse()?)),
@@ -31,10 +36,6 @@ fn run(words: &[String]) -> Result<(), String> {
             Ok(())
         }
         Some("random") => {
-            let number = |at: usize, what: &str| {
-                let word = words.get(at).ok_or(format!("{what} is missing"))?;
-                word.parse::<u64>().map_err(|_| format!("`{word}` is no number"))
-            };
             let (n, seed) = (number(1, "the number of cases")?, number(2, "the seed")?);
             for call in generate::calls(&words[3..])? {
                 for index in 0..n {
@@ -42,6 +43,16 @@ fn run(words: &[String]) -> Result<(), String> {
                 }
             }
             Ok(())
+        }
+        Some("rows") => {
+            let (n, seed) = (number(1, "the number of cases")?, number(2, "the seed")?);
+            let mut told = Ok(());
+            oracle::random_rows::each(n as usize, seed, |row| {
+                if told.is_ok() {
+                    told = print(row);
+                }
+            });
+            told
         }
         Some("replay") => {
             let list = oracle::replay::list();

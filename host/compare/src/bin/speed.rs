@@ -4,7 +4,7 @@
 //! A case goes to both as it stands in the oracle: code points, checked by document 01's rules, and
 //! for the Rust made into its text. A case in a process of its own is given up after `PATIENCE`.
 
-use compare::port;
+use compare::{port, port_rows};
 use oracle::case::{Call, Case, Input};
 use oracle::{Caret, Viewport, Wrap, calls, generate};
 use std::hint::black_box;
@@ -231,6 +231,43 @@ fn row_table() {
     }
 }
 
+/// Motions with the text's table of row starts beside the same without, from the text's last row, in turn.
+fn second() -> Result<(), String> {
+    println!("\n## Motions with a table of row starts, beside those without\n");
+    println!("| Code points | Key | With the table | Without | Ratio |\n|---|---|---|---|---|");
+    for (_, n) in SIZES {
+        let text = prose(n, false);
+        let mut table = vec![0; n + 1];
+        let content = tsivareza::row_starts(&text, &mut table).map_err(|number| format!("a fill is refused with {number}"))?;
+        let rows = tsivareza::Rows { starts: &table, content };
+        for (key, name, count) in [
+            ("gg", "move_top", 1),
+            ("G", "move_bottom", 0),
+            ("+", "move_first_non_blank_next_line", 1),
+            ("-", "move_first_non_blank_prev_line", 1),
+            ("H", "move_viewport_top", 0),
+            ("L", "move_viewport_bottom", 0),
+            ("j", "move_down", 1),
+            ("k", "move_up", 1),
+            ("w", "move_word_fwd", 1),
+        ] {
+            let last = content - 1;
+            let mut case = Case { text: text.clone(), caret: Caret::at(last, 0), ..case(oracle::case::call(name)?, n, count) };
+            case.view.top = last.saturating_sub(39);
+            if port_rows(&case, rows, None) != Some(port(&case, None)) {
+                return Err(format!("the answers differ on {name}"));
+            }
+            let (mut with, mut without) = (f64::MAX, f64::MAX);
+            for _ in 0..5 {
+                with = with.min(best(|| drop(black_box(port_rows(black_box(&case), rows, None)))));
+                without = without.min(best(|| drop(black_box(port(black_box(&case), None)))));
+            }
+            println!("| {n} | `{key}` | {} | {} | {:.2} |", shown(with), shown(without), with / without);
+        }
+    }
+    Ok(())
+}
+
 /// What could grow faster than the text: one row of many segments, and many folds over many rows.
 fn growth() -> Result<(), String> {
     let n = SIZES[2].1;
@@ -430,6 +467,7 @@ fn main() {
         Some("engines") => engines(),
         Some("edits") => Ok(edits()),
         Some("rows") => Ok(row_table()),
+        Some("second") => second(),
         Some("check") => Ok(check()),
         _ => table()
             .and_then(|()| letters())
@@ -439,7 +477,8 @@ fn main() {
             .and_then(|()| widths())
             .and_then(|()| engines())
             .map(|()| edits())
-            .map(|()| row_table()),
+            .map(|()| row_table())
+            .and_then(|()| second()),
     };
     if let Err(why) = done {
         eprintln!("speed: {why}");
