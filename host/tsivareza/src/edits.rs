@@ -1,15 +1,27 @@
 //! Edits of a text in a buffer, with its folds in another and a caret.
 
-use crate::{Room, raw};
+use crate::{Room, raw::lent};
 
 /// A text and its folds at the start of two buffers, a caret and the sizes: how many code points and how many folds the
 /// buffers hold. The caret is row, column, 1 and the sticky column where it has one, and 1 and the offset within a segment
 /// where it keeps one; an edit clears the last four.
+///
+/// ```
+/// use tsivareza::Page;
+/// // `ab` in a buffer of four places, no folds, and the caret behind it
+/// let mut page = Page { text: vec![97, 98, 0, 0], folds: vec![], caret: [0, 2, 0, 0, 0, 0], sizes: [2, 0] };
+/// assert_eq!(page.insert(&[99], (0, 2)), Ok(()));
+/// assert_eq!((&page.text[..], page.caret[1], page.sizes), (&[97, 98, 99, 0][..], 3, [3, 0]));
+/// ```
 #[derive(Clone, Debug, PartialEq, Eq)]
 pub struct Page {
+    /// The buffer of the text.
     pub text: Vec<u32>,
+    /// The buffer of the folds.
     pub folds: Vec<u32>,
+    /// Row, column, and the sticky column and the offset behind a 1 each.
     pub caret: [u32; 6],
+    /// How many code points and folds there are.
     pub sizes: [u32; 2],
 }
 
@@ -30,20 +42,7 @@ impl Page {
     /// ```
     pub fn insert(&mut self, points: &[u32], (row, col): (u32, u32)) -> Result<(), u32> {
         let (text, folds) = (&mut self.text, &mut self.folds);
-        told(unsafe {
-            raw::tsivareza_insert_u32(
-                text.as_mut_ptr(),
-                text.len(),
-                folds.as_mut_ptr(),
-                folds.len(),
-                points.as_ptr(),
-                points.len(),
-                row,
-                col,
-                &mut self.caret,
-                &mut self.sizes,
-            )
-        })
+        told(lent::tsivareza_insert_u32(text, folds, points, row, col, &mut self.caret, &mut self.sizes))
     }
 
     /// Takes away what stands from a position up to another. A fold whose differing ends become one row is dropped.
@@ -58,42 +57,21 @@ impl Page {
     /// ```
     pub fn delete(&mut self, (row, col): (u32, u32), (end_row, end_col): (u32, u32)) -> Result<(), u32> {
         let (text, folds) = (&mut self.text, &mut self.folds);
-        told(unsafe {
-            raw::tsivareza_delete(
-                text.as_mut_ptr(),
-                text.len(),
-                folds.as_mut_ptr(),
-                folds.len(),
-                row,
-                col,
-                end_row,
-                end_col,
-                &mut self.caret,
-                &mut self.sizes,
-            )
-        })
+        told(lent::tsivareza_delete(text, folds, row, col, end_row, end_col, &mut self.caret, &mut self.sizes))
     }
 }
 
 impl Room {
     /// `Page::insert` of bytes, four to a code point.
+    ///
+    /// ```
+    /// use tsivareza::{Page, Room, bytes};
+    /// let mut page = Page { text: vec![97, 0], folds: vec![], caret: [0; 6], sizes: [1, 0] };
+    /// assert_eq!(Room::new(1).insert(&mut page, &bytes(&[98]), (0, 1)), Ok(()));
+    /// assert_eq!((page.text, page.sizes), (vec![97, 98], [2, 0]));
+    /// ```
     pub fn insert(&mut self, page: &mut Page, points: &[u8], (row, col): (u32, u32)) -> Result<(), u32> {
         let (text, folds, room) = (&mut page.text, &mut page.folds, &mut self.0);
-        told(unsafe {
-            raw::tsivareza_insert(
-                text.as_mut_ptr(),
-                text.len(),
-                folds.as_mut_ptr(),
-                folds.len(),
-                points.as_ptr(),
-                points.len(),
-                room.as_mut_ptr(),
-                room.len(),
-                row,
-                col,
-                &mut page.caret,
-                &mut page.sizes,
-            )
-        })
+        told(lent::tsivareza_insert(text, folds, points, room, row, col, &mut page.caret, &mut page.sizes))
     }
 }

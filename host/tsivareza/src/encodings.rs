@@ -1,6 +1,6 @@
 //! UTF-8: code points from bytes and back, over lent slices.
 
-use crate::{Room, number, placed, raw};
+use crate::{Room, number, placed, raw::lent};
 
 /// Puts the code points of `bytes` at the start of `points`, and answers how many there are. What is
 /// refused is told with its number and its place: 13 and where the first byte stands that RFC 3629
@@ -15,9 +15,7 @@ use crate::{Room, number, placed, raw};
 /// assert_eq!(tsivareza::utf8_decode(b"abcde", &mut points), Err((14, 0)));
 /// ```
 pub fn utf8_decode(bytes: &[u8], points: &mut [u32]) -> Result<u32, (u32, u32)> {
-    placed(|out| unsafe {
-        raw::tsivareza_utf8_decode(bytes.as_ptr(), bytes.len(), points.as_mut_ptr(), points.len(), out)
-    })
+    placed(|out| lent::tsivareza_utf8_decode(bytes, points, out))
 }
 
 /// Puts the encoding of `points` at the start of `bytes`, and answers how many bytes it has; 1, 2 and
@@ -30,17 +28,18 @@ pub fn utf8_decode(bytes: &[u8], points: &mut [u32]) -> Result<u32, (u32, u32)> 
 /// assert_eq!(tsivareza::utf8_encode(&[0xD800], &mut bytes), Err(2));
 /// ```
 pub fn utf8_encode(points: &[u32], bytes: &mut [u8]) -> Result<u32, u32> {
-    number(|out| unsafe {
-        raw::tsivareza_utf8_encode_u32(points.as_ptr(), points.len(), bytes.as_mut_ptr(), bytes.len(), out)
-    })
+    number(|out| lent::tsivareza_utf8_encode_u32(points, bytes, out))
 }
 
 impl Room {
+    /// [`utf8_encode`] of bytes, four to a code point.
+    ///
+    /// ```
+    /// let mut written = [0; 2];
+    /// assert_eq!(tsivareza::Room::new(1).utf8_encode(&tsivareza::bytes(&[0xE9]), &mut written), Ok(2));
+    /// ```
     pub fn utf8_encode(&mut self, points: &[u8], bytes: &mut [u8]) -> Result<u32, u32> {
         let room = &mut self.0;
-        number(|out| unsafe {
-            let (places, len) = (bytes.as_mut_ptr(), bytes.len());
-            raw::tsivareza_utf8_encode(points.as_ptr(), points.len(), room.as_mut_ptr(), room.len(), places, len, out)
-        })
+        number(|out| lent::tsivareza_utf8_encode(points, room, bytes, out))
     }
 }

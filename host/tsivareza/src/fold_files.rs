@@ -1,6 +1,6 @@
 //! Folds into a file and back, over lent slices.
 
-use crate::{Room, number, raw};
+use crate::{Room, number, raw::lent};
 
 /// Puts the file of `folds`, three numbers each, at the start of `file`, and answers how many bytes it
 /// has: 512 for each 56 folds or part of them, and for none. Refused are the text (1 to 3), the folds
@@ -14,10 +14,7 @@ use crate::{Room, number, raw};
 /// assert_eq!(tsivareza::folds_write(&text, &[0, 2, 1], &mut file), Err(5));
 /// ```
 pub fn folds_write(text: &[u32], folds: &[u32], file: &mut [u8]) -> Result<u32, u32> {
-    number(|out| unsafe {
-        let (bytes, len) = (file.as_mut_ptr(), file.len());
-        raw::tsivareza_folds_write_u32(text.as_ptr(), text.len(), folds.as_ptr(), folds.len(), bytes, len, out)
-    })
+    number(|out| lent::tsivareza_folds_write_u32(text, folds, file, out))
 }
 
 /// Puts the folds of `file` at the start of `folds`, and answers how many there are. Refused are the
@@ -36,44 +33,27 @@ pub fn folds_write(text: &[u32], folds: &[u32], file: &mut [u8]) -> Result<u32, 
 /// assert_eq!(tsivareza::folds_read(&text, &file, &mut folds), Err(19));
 /// ```
 pub fn folds_read(text: &[u32], file: &[u8], folds: &mut [u32]) -> Result<u32, u32> {
-    number(|out| unsafe {
-        let (places, len) = (folds.as_mut_ptr(), folds.len());
-        raw::tsivareza_folds_read_u32(text.as_ptr(), text.len(), file.as_ptr(), file.len(), places, len, out)
-    })
+    number(|out| lent::tsivareza_folds_read_u32(text, file, folds, out))
 }
 
 impl Room {
+    /// [`folds_write`] of bytes.
+    ///
+    /// ```
+    /// assert_eq!(tsivareza::Room::new(0).folds_write(&[], &[], &mut [0; 512]), Ok(512));
+    /// ```
     pub fn folds_write(&mut self, text: &[u8], folds: &[u8], file: &mut [u8]) -> Result<u32, u32> {
         let room = &mut self.0;
-        number(|out| unsafe {
-            raw::tsivareza_folds_write(
-                text.as_ptr(),
-                text.len(),
-                folds.as_ptr(),
-                folds.len(),
-                room.as_mut_ptr(),
-                room.len(),
-                file.as_mut_ptr(),
-                file.len(),
-                out,
-            )
-        })
+        number(|out| lent::tsivareza_folds_write(text, folds, room, file, out))
     }
 
+    /// [`folds_read`] of bytes.
+    ///
+    /// ```
+    /// assert_eq!(tsivareza::Room::new(0).folds_read(&[], &[0; 512], &mut []), Ok(0));
+    /// ```
     pub fn folds_read(&mut self, text: &[u8], file: &[u8], folds: &mut [u32]) -> Result<u32, u32> {
         let room = &mut self.0;
-        number(|out| unsafe {
-            raw::tsivareza_folds_read(
-                text.as_ptr(),
-                text.len(),
-                file.as_ptr(),
-                file.len(),
-                room.as_mut_ptr(),
-                room.len(),
-                folds.as_mut_ptr(),
-                folds.len(),
-                out,
-            )
-        })
+        number(|out| lent::tsivareza_folds_read(text, file, room, folds, out))
     }
 }

@@ -1,7 +1,44 @@
-//! The exports as they are declared in `crates/exports`. A slice goes as its pointer and its length.
+//! The exports as they are declared in `crates/exports`. A slice goes as its pointer and its length; in `lent` each has a
+//! form that takes the slices themselves. No other module needs `unsafe`.
 
-#[link(name = "exports", kind = "static")]
-unsafe extern "C" {
+macro_rules! exports {
+    ($($(#[$doc:meta])* pub fn $name:ident($($given:tt)*) -> $answer:ty;)*) => {
+        #[link(name = "exports", kind = "static")]
+        unsafe extern "C" {
+            $($(#[$doc])* pub fn $name($($given)*) -> $answer;)*
+        }
+
+        /// The same on slices and places that are borrowed.
+        pub mod lent {
+            $(exports!(@ $name $answer [] [] $($given)*,);)*
+        }
+    };
+    // the places for an answer
+    (@ $name:ident $answer:ty [$($takes:tt)*] [$($hands:tt)*] $x:ident: *mut [$t:ident; $n:literal], $($rest:tt)*) => {
+        exports!(@ $name $answer [$($takes)* $x: &mut [$t; $n],] [$($hands)* $x,] $($rest)*);
+    };
+    // a slice that is read, and one that is written to
+    (@ $name:ident $answer:ty [$($takes:tt)*] [$($hands:tt)*] $x:ident: *const $t:ident, $len:ident: usize, $($rest:tt)*) => {
+        exports!(@ $name $answer [$($takes)* $x: &[$t],] [$($hands)* $x.as_ptr(), $x.len(),] $($rest)*);
+    };
+    (@ $name:ident $answer:ty [$($takes:tt)*] [$($hands:tt)*] $x:ident: *mut $t:ident, $len:ident: usize, $($rest:tt)*) => {
+        exports!(@ $name $answer [$($takes)* $x: &mut [$t],] [$($hands)* $x.as_mut_ptr(), $x.len(),] $($rest)*);
+    };
+    // a number
+    (@ $name:ident $answer:ty [$($takes:tt)*] [$($hands:tt)*] $x:ident: $t:ident, $($rest:tt)*) => {
+        exports!(@ $name $answer [$($takes)* $x: $t,] [$($hands)* $x,] $($rest)*);
+    };
+    (@ $name:ident $answer:ty [$($takes:tt)*] [$($hands:tt)*] $(,)?) => {
+        #[inline]
+        pub fn $name($($takes)*) -> $answer {
+            // SAFETY: what is borrowed is live for the call, and what is borrowed to be written to overlaps nothing else. The
+            // exports ask nothing more.
+            unsafe { super::$name($($hands)*) }
+        }
+    };
+}
+
+exports! {
     pub fn tsivareza_character(op: u32, x: u32, out: *mut [u32; 1]) -> u32;
 
     pub fn tsivareza_content_row_count(
@@ -35,6 +72,32 @@ unsafe extern "C" {
     ) -> u64;
     pub fn tsivareza_enter_u32(op: u32, list: *const u32, list_len: usize, x: u32, out: *mut [u32; 1]) -> u64;
 
+    pub fn tsivareza_vim_list(
+        op: u32,
+        list: *const u8,
+        list_len: usize,
+        room: *mut u32,
+        room_len: usize,
+        x: u32,
+        out: *mut [u32; 1],
+    ) -> u64;
+    pub fn tsivareza_vim_list_u32(op: u32, list: *const u32, list_len: usize, x: u32, out: *mut [u32; 1]) -> u64;
+    pub fn tsivareza_vim_write(
+        list: *const u8,
+        list_len: usize,
+        room: *mut u32,
+        room_len: usize,
+        written: *mut u32,
+        written_len: usize,
+        out: *mut [u32; 1],
+    ) -> u64;
+    pub fn tsivareza_vim_write_u32(
+        list: *const u32,
+        list_len: usize,
+        written: *mut u32,
+        written_len: usize,
+        out: *mut [u32; 1],
+    ) -> u64;
     pub fn tsivareza_without_plus(
         list: *const u8,
         list_len: usize,
@@ -441,6 +504,52 @@ unsafe extern "C" {
         out: *mut [u32; 4],
     ) -> u32;
 
+    pub fn tsivareza_jumps(
+        text: *const u8,
+        text_len: usize,
+        folds: *const u8,
+        folds_len: usize,
+        list: *const u8,
+        list_len: usize,
+        room: *mut u32,
+        room_len: usize,
+        starts: *const u32,
+        starts_len: usize,
+        content: u32,
+        row: u32,
+        col: u32,
+        held: u32,
+        sticky: u32,
+        kept: u32,
+        offset: u32,
+        pairs: *const u32,
+        pairs_len: usize,
+        answers: *mut u32,
+        answers_len: usize,
+        out: *mut [u32; 6],
+    ) -> u32;
+    pub fn tsivareza_jumps_u32(
+        text: *const u32,
+        text_len: usize,
+        starts: *const u32,
+        starts_len: usize,
+        content: u32,
+        folds: *const u32,
+        folds_len: usize,
+        list: *const u32,
+        list_len: usize,
+        row: u32,
+        col: u32,
+        held: u32,
+        sticky: u32,
+        kept: u32,
+        offset: u32,
+        pairs: *const u32,
+        pairs_len: usize,
+        answers: *mut u32,
+        answers_len: usize,
+        out: *mut [u32; 6],
+    ) -> u32;
     pub fn tsivareza_screen_kept(
         op: u32,
         text: *const u8,
@@ -507,6 +616,225 @@ unsafe extern "C" {
         height: u16,
         offset: u32,
         out: *mut [u32; 4],
+    ) -> u32;
+
+    pub fn tsivareza_motion_rows_u32(
+        op: u32,
+        text: *const u32,
+        text_len: usize,
+        starts: *const u32,
+        starts_len: usize,
+        content: u32,
+        row: u32,
+        col: u32,
+        held: u32,
+        sticky: u32,
+        count: u32,
+        out: *mut [u32; 4],
+    ) -> u32;
+    pub fn tsivareza_motion_rows(
+        op: u32,
+        text: *const u8,
+        text_len: usize,
+        starts: *const u32,
+        starts_len: usize,
+        content: u32,
+        room: *mut u32,
+        room_len: usize,
+        row: u32,
+        col: u32,
+        held: u32,
+        sticky: u32,
+        count: u32,
+        out: *mut [u32; 4],
+    ) -> u32;
+    pub fn tsivareza_word_rows_u32(
+        op: u32,
+        text: *const u32,
+        text_len: usize,
+        starts: *const u32,
+        starts_len: usize,
+        content: u32,
+        folds: *const u32,
+        folds_len: usize,
+        list: *const u32,
+        list_len: usize,
+        row: u32,
+        col: u32,
+        held: u32,
+        sticky: u32,
+        big: u32,
+        count: u32,
+        out: *mut [u32; 4],
+    ) -> u32;
+    pub fn tsivareza_word_rows(
+        op: u32,
+        text: *const u8,
+        text_len: usize,
+        starts: *const u32,
+        starts_len: usize,
+        content: u32,
+        folds: *const u8,
+        folds_len: usize,
+        list: *const u8,
+        list_len: usize,
+        room: *mut u32,
+        room_len: usize,
+        row: u32,
+        col: u32,
+        held: u32,
+        sticky: u32,
+        big: u32,
+        count: u32,
+        out: *mut [u32; 4],
+    ) -> u32;
+    pub fn tsivareza_vertical_rows_u32(
+        op: u32,
+        text: *const u32,
+        text_len: usize,
+        starts: *const u32,
+        starts_len: usize,
+        content: u32,
+        folds: *const u32,
+        folds_len: usize,
+        row: u32,
+        col: u32,
+        held: u32,
+        sticky: u32,
+        mode: u32,
+        width: u16,
+        count: u32,
+        tabstop: u32,
+        out: *mut [u32; 4],
+    ) -> u32;
+    pub fn tsivareza_vertical_rows(
+        op: u32,
+        text: *const u8,
+        text_len: usize,
+        starts: *const u32,
+        starts_len: usize,
+        content: u32,
+        folds: *const u8,
+        folds_len: usize,
+        room: *mut u32,
+        room_len: usize,
+        row: u32,
+        col: u32,
+        held: u32,
+        sticky: u32,
+        mode: u32,
+        width: u16,
+        count: u32,
+        tabstop: u32,
+        out: *mut [u32; 4],
+    ) -> u32;
+    pub fn tsivareza_screen_kept_rows_u32(
+        op: u32,
+        text: *const u32,
+        text_len: usize,
+        starts: *const u32,
+        starts_len: usize,
+        content: u32,
+        folds: *const u32,
+        folds_len: usize,
+        row: u32,
+        col: u32,
+        held: u32,
+        sticky: u32,
+        kept: u32,
+        offset: u32,
+        mode: u32,
+        width: u16,
+        count: u32,
+        tabstop: u32,
+        out: *mut [u32; 6],
+    ) -> u32;
+    pub fn tsivareza_screen_kept_rows(
+        op: u32,
+        text: *const u8,
+        text_len: usize,
+        starts: *const u32,
+        starts_len: usize,
+        content: u32,
+        folds: *const u8,
+        folds_len: usize,
+        room: *mut u32,
+        room_len: usize,
+        row: u32,
+        col: u32,
+        held: u32,
+        sticky: u32,
+        kept: u32,
+        offset: u32,
+        mode: u32,
+        width: u16,
+        count: u32,
+        tabstop: u32,
+        out: *mut [u32; 6],
+    ) -> u32;
+    pub fn tsivareza_viewport_rows_u32(
+        op: u32,
+        text: *const u32,
+        text_len: usize,
+        starts: *const u32,
+        starts_len: usize,
+        content: u32,
+        row: u32,
+        col: u32,
+        held: u32,
+        sticky: u32,
+        top: u32,
+        height: u16,
+        offset: u32,
+        out: *mut [u32; 4],
+    ) -> u32;
+    pub fn tsivareza_viewport_rows(
+        op: u32,
+        text: *const u8,
+        text_len: usize,
+        starts: *const u32,
+        starts_len: usize,
+        content: u32,
+        room: *mut u32,
+        room_len: usize,
+        row: u32,
+        col: u32,
+        held: u32,
+        sticky: u32,
+        top: u32,
+        height: u16,
+        offset: u32,
+        out: *mut [u32; 4],
+    ) -> u32;
+    pub fn tsivareza_seek_rows_u32(
+        op: u32,
+        text: *const u32,
+        text_len: usize,
+        starts: *const u32,
+        starts_len: usize,
+        content: u32,
+        row: u32,
+        col: u32,
+        held: u32,
+        sticky: u32,
+        x: u32,
+        out: *mut [u32; 5],
+    ) -> u32;
+    pub fn tsivareza_seek_rows(
+        op: u32,
+        text: *const u8,
+        text_len: usize,
+        starts: *const u32,
+        starts_len: usize,
+        content: u32,
+        room: *mut u32,
+        room_len: usize,
+        row: u32,
+        col: u32,
+        held: u32,
+        sticky: u32,
+        x: u32,
+        out: *mut [u32; 5],
     ) -> u32;
 
     pub fn tsivareza_utf8_decode(

@@ -1,8 +1,13 @@
 //! Keyword lists where plus signs are retired: the entry that refuses them, and the converter that writes a list without.
 
-use crate::{Room, number, placed, raw};
+use crate::{Room, number, placed, raw::lent};
 
 /// A question to the entry of a keyword list.
+///
+/// ```
+/// use tsivareza::{Enter, enter};
+/// assert_eq!([Enter::Count, Enter::Matches(0x61)].map(|asked| enter(asked, &[0x40])), [Ok(1), Ok(1)]);
+/// ```
 #[derive(Clone, Copy)]
 pub enum Enter {
     /// How many tokens are kept in the list's table.
@@ -33,7 +38,7 @@ impl Enter {
 /// ```
 pub fn enter(asked: Enter, list: &[u32]) -> Result<u32, (u32, u32)> {
     let (op, x) = asked.numbers();
-    placed(|out| unsafe { raw::tsivareza_enter_u32(op, list.as_ptr(), list.len(), x, out) })
+    placed(|out| lent::tsivareza_enter_u32(op, list, x, out))
 }
 
 /// Writes the list without its retired signs to the start of `written`, all else as it stood, and
@@ -47,24 +52,29 @@ pub fn enter(asked: Enter, list: &[u32]) -> Result<u32, (u32, u32)> {
 /// assert_eq!(tsivareza::without_plus(&list, &mut written[..9]), Err(14));
 /// ```
 pub fn without_plus(list: &[u32], written: &mut [u32]) -> Result<u32, u32> {
-    number(|out| unsafe {
-        raw::tsivareza_without_plus_u32(list.as_ptr(), list.len(), written.as_mut_ptr(), written.len(), out)
-    })
+    number(|out| lent::tsivareza_without_plus_u32(list, written, out))
 }
 
 impl Room {
+    /// [`enter`] of bytes.
+    ///
+    /// ```
+    /// use tsivareza::{Enter, Room, bytes};
+    /// assert_eq!(Room::new(2).enter(Enter::Count, &bytes(&[0x2B, 0x34])), Err((21, 0)));
+    /// ```
     pub fn enter(&mut self, asked: Enter, list: &[u8]) -> Result<u32, (u32, u32)> {
         let ((op, x), room) = (asked.numbers(), &mut self.0);
-        placed(|out| unsafe {
-            raw::tsivareza_enter(op, list.as_ptr(), list.len(), room.as_mut_ptr(), room.len(), x, out)
-        })
+        placed(|out| lent::tsivareza_enter(op, list, room, x, out))
     }
 
+    /// [`without_plus`] of bytes.
+    ///
+    /// ```
+    /// let mut written = [0; 2];
+    /// assert_eq!(tsivareza::Room::new(2).without_plus(&tsivareza::bytes(&[0x2B, 0x34]), &mut written), Ok(1));
+    /// ```
     pub fn without_plus(&mut self, list: &[u8], written: &mut [u32]) -> Result<u32, u32> {
         let room = &mut self.0;
-        number(|out| unsafe {
-            let (places, len) = (written.as_mut_ptr(), written.len());
-            raw::tsivareza_without_plus(list.as_ptr(), list.len(), room.as_mut_ptr(), room.len(), places, len, out)
-        })
+        number(|out| lent::tsivareza_without_plus(list, room, written, out))
     }
 }

@@ -1,7 +1,8 @@
 //! What the boundary itself refuses, and what it leaves in the lent room.
 
 use tsivareza::{
-    Caret, Columns, Enter, Keywords, Kind, Motion, Offsets, Room, Seek, Steps, Vertical, Viewport, Word, Words, Wrap, bytes, content_row_count,
+    Caret, Columns, Enter, Keywords, Kind, Motion, Offsets, Room, Seek, Steps, Vertical, ViewportMove, Vim, Word, Words, Wrap, bytes,
+    content_row_count,
 };
 
 /// What a room holds that no text of these tests has.
@@ -85,7 +86,7 @@ fn a_refused_call_leaves_the_code_points_in_the_room() {
     refused(3, &[&[0x0D]], |room| room.motion(Motion::move_left, &bytes(&[0x0D]), START, 1));
     let outside = Caret { row: 0, col: 2, sticky: Some(5) };
     refused(4, &[&[0x61]], |room| room.motion(Motion::move_top, &bytes(&[0x61]), outside, 1));
-    refused(4, &[&[0x61]], |room| room.viewport(Viewport::Top { top: 0, offset: 0 }, &bytes(&[0x61]), outside));
+    refused(4, &[&[0x61]], |room| room.viewport(ViewportMove::Top { top: 0, offset: 0 }, &bytes(&[0x61]), outside));
     refused(4, &[&[0x28, 0x29]], |room| room.inner_pair(Kind::Round, &bytes(&[0x28, 0x29]), 0, 3));
     let down = |folds: &[u32], tabstop| {
         let folds = bytes(folds);
@@ -160,6 +161,28 @@ fn a_list_with_a_retired_sign_leaves_what_is_lent() {
     assert_eq!(tsivareza::without_plus(&list, &mut written), Ok(3));
     assert_eq!(written, [0x35, 0x2C, 0x34, BEFORE]);
     assert_eq!(tsivareza::enter(Enter::Matches(4), &written[..3]), Ok(1));
+}
+
+#[test]
+fn a_vim_list_leaves_what_is_lent() {
+    let (list, mut written) = ([0x61, 0x2C, 0x30, 0x39, 0x38], [BEFORE; 5]);
+    let mut room = used(5);
+    assert_eq!(room.vim_list(Vim::Count, &bytes(&list[..2])), Err((17, 2)));
+    assert_eq!(room.points(), [0x61, 0x2C, BEFORE, BEFORE, BEFORE]);
+    let mut room = used(3);
+    assert_eq!(room.vim_list(Vim::Matches(0xD800), &bytes(&list)[..15]), Err((101, 0)));
+    assert_eq!(room.vim_list(Vim::Matches(0xD800), &bytes(&list)), Err((102, 0)));
+    assert_eq!(room.vim_write(&bytes(&list)[..15], &mut written), Err((101, 0)));
+    assert_eq!(room.vim_write(&bytes(&list), &mut written), Err((102, 0)));
+    assert_eq!(room.points(), [BEFORE; 3]);
+    assert_eq!(tsivareza::vim_list(Vim::Matches(0xD800), &list[..2]), Err((2, 0)));
+    assert_eq!(tsivareza::vim_write(&[0x2C, 0xD800], &mut written), Err((7, 0)));
+    assert_eq!(tsivareza::vim_write(&list[..2], &mut written), Err((17, 2)));
+    assert_eq!(tsivareza::vim_write(&list, &mut written[..3]), Err((14, 0)));
+    assert_eq!(written, [BEFORE; 5]);
+    assert_eq!(tsivareza::vim_write(&list, &mut written), Ok(4));
+    assert_eq!(written, [0x61, 0x2C, 0x39, 0x38, BEFORE]);
+    assert_eq!(tsivareza::vim_list(Vim::Matches(98), &written[..4]), Ok(1));
 }
 
 #[test]

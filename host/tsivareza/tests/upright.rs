@@ -1,6 +1,6 @@
 //! What a call on a text and folds leaves in the lent room, and the corners of up, down, screen and viewport.
 
-use tsivareza::{Caret, Room, Steps, Vertical, Viewport, Wrap, bytes, vertical, viewport};
+use tsivareza::{Caret, Room, Steps, Vertical, ViewportMove, Wrap, bytes, vertical, viewport};
 
 fn at(row: u32, col: u32, sticky: Option<u32>) -> Caret {
     Caret { row, col, sticky }
@@ -38,7 +38,7 @@ fn viewports_do_not_wrap_round() {
     let text = [0x61, 0x0A, 0x20, 0x62, 0x0A];
     let k = at(0, 1, Some(7));
     let (top, height, offset) = (u32::MAX, u16::MAX, u32::MAX);
-    for which in [Viewport::Top { top, offset }, Viewport::Middle { top, height }, Viewport::Bottom { top, height, offset }] {
+    for which in [ViewportMove::Top { top, offset }, ViewportMove::Middle { top, height }, ViewportMove::Bottom { top, height, offset }] {
         assert_eq!(viewport(which, &text, k), Ok(at(1, 1, Some(7))));
     }
 }
