@@ -45,9 +45,8 @@ pub fn go_rows(
     ensures { λ r. ⌜ r ≡ goesRows (now (t .entry)) (now (starts .entry)) content (now (folds .entry))
         (now (list .entry)) tabstop m count k ⌝ }
 {
-    let c = text_rows::checked(t);
-    let rows = c.rows;
-    let g = row_table::check::table_refusal(t, rows, rows, starts, content);
+    let c = text_rows::checked(t, starts, content);
+    let g = c.table;
     if g != 0 {
         return or_table(g, k.go(t, folds, list, tabstop, m, count));
     }
@@ -58,6 +57,6 @@ pub fn go_rows(
         row: k.row as usize,
         col: k.col as usize,
     };
-    let e = row_entries::enter_by(t, starts, rows, content, p);
+    let e = row_entries::enter_by(t, starts, c.rows, content, p);
     motions::go_from(k, t, folds, list, tabstop, e, m, count)
 }

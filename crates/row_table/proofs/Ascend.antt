@@ -7,6 +7,7 @@ use Prim.Native.Nat.{ℕ, _+_, _-_, _≤_, _<_}
 use native.Mathlib.Decide.{decLt, ℕ-discrete}
 use native.Mathlib.Omega.{arith}
 use lib.ListN.{length, getD, take}
+use borrow.Author.Tests.{eq-eqb, ne-eqb}
 use lib.Seq.{ext-getD, getD-take, length-take-le}
 use Rattle.lists.specs.Lists.{isSame}
 use Rattle.lists.proofs.Same.{same-refl, same-true}
@@ -16,7 +17,7 @@ use Rattle.text.proofs.Rows.{rows-pos, start-zero}
 use Rattle.text.proofs.At.{at-start, at-le}
 use Rattle.text.proofs.Before.{start-after, before-row-nl, behind-nl, rows-apart}
 use Rattle.text.proofs.Stands.{first-line, at-stands, row-there, stands-row}
-use Rattle.row_table.specs.Table.{rowStarts}
+use Rattle.row_table.specs.Table.{rowStarts, holdsRows}
 use Rattle.row_table.proofs.Starts.{rows-length, rows-read}
 
 -- equal lists and `isSame`
@@ -29,6 +30,21 @@ same-no a b n = go (isSame a b) refl
     go : (x : Bool) → isSame a b ≡ x → isSame a b ≡ false
     go true e = absurd (n (same-true a b e))
     go false e = e
+
+-- and the test that the text has so many rows, too
+module _ (t : List ℕ) (rows : ℕ) (starts : List ℕ) where
+  pub held-yes : rows ≡ rowCount t → take (rowCount t) starts ≡ rowStarts t → holdsRows t rows starts ≡ true
+  held-yes q e = rw (eq-eqb rows (rowCount t) q, same-yes _ _ e)
+
+  pub held-same : rows ≡ rowCount t → holdsRows t rows starts ≡ isSame (take (rowCount t) starts) (rowStarts t)
+  held-same q = rw (eq-eqb rows (rowCount t) q)
+
+  pub held-no : (rows ≡ rowCount t → take (rowCount t) starts ≡ rowStarts t → ⊥) → holdsRows t rows starts ≡ false
+  held-no n = go (ℕ-discrete rows (rowCount t))
+    where
+      go : Dec (rows ≡ rowCount t) → holdsRows t rows starts ≡ false
+      go (yes q) = rw (eq-eqb rows (rowCount t) q, same-no _ _ (n q))
+      go (no m) = rw (ne-eqb rows (rowCount t) m)
 
 -- the table of the text, place by place
 module _ (t starts : List ℕ) where
@@ -117,6 +133,12 @@ module _ {t starts : List ℕ} {i last : ℕ} (a : Ascend t starts i last) where
         mark j h (no n) =
             let m = a .marks j (omega arith) in
             record { begins = m .begins; low = m .low; high = rw q (omega (arith, m .high, further, a .some)) }
+
+  -- no more than there are rows
+  pub ascend-few : i ≤ rowCount t
+  ascend-few =
+      let top = a .marks (i - 1) (omega (arith, a .some)) in
+      omega (arith, top .low, top .begins .in-row)
 
   -- all of them
   pub ascend-all : i ≡ rowCount t → rowCount t ≤ length starts → take (rowCount t) starts ≡ rowStarts t

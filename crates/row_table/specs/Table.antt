@@ -21,6 +21,10 @@ rowStarts t = 0 ∷ startsFrom 0 t
 abbrev pub isTable : List ℕ → List ℕ → ℕ → Bool
 isTable t starts content = isSame (take (rowCount t) starts) (rowStarts t) && eqb content (contentRows t)
 
+-- the text has so many rows, and the first places are its row starts
+abbrev pub holdsRows : List ℕ → ℕ → List ℕ → Bool
+holdsRows t rows starts = eqb rows (rowCount t) && isSame (take (rowCount t) starts) (rowStarts t)
+
 -- 15: fewer places than are needed; then 16: another table than the text's
 unfoldable pub tableRefusal : ℕ → List ℕ → List ℕ → ℕ → ℕ
 tableRefusal need t starts content = cond (ltb (length starts) need) 15 (cond (isTable t starts content) 0 16)

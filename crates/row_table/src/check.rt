@@ -1,18 +1,16 @@
 // A lent table against the text: whether it holds the text's own row starts.
 ghost use mathlib.Core.Path.{_≡_};
 ghost use Prim.Native.Nat.{_≤_};
-ghost use lib.ListN.{length, take};
-ghost use Rattle.lists.specs.Lists.{isSame};
+ghost use lib.ListN.{length};
 ghost use Rattle.text.specs.Text.{rowCount};
-ghost use Rattle.row_table.specs.Table.{rowStarts, tableRefusal};
+ghost use Rattle.row_table.specs.Table.{holdsRows, tableRefusal};
 
-// Whether the first places hold the row starts of a text of so many rows. They do if they begin with
-// 0, ascend, and stand behind a separator each: as many as there are separators, they are all of
-// them. So the text is read once a row.
-fn holds(t: &[u32], rows: usize, starts: &[u32]) -> bool
-    requires { ⌜ (rows ≡ rowCount (now t)) × (rows ≤ length (now starts)) ⌝ }
-    ensures { λ r. ⌜ r ≡ isSame (take (rowCount (now (t .entry))) (now (starts .entry)))
-        (rowStarts (now (t .entry))) ⌝ }
+// Whether a text has so many rows, and the first places hold its row starts. They do if they begin
+// with 0, ascend, and stand behind a separator each: no fewer than there are rows, they are all of
+// them. So the text is read once a row. It may be asked with more rows than there are, and says no.
+pub fn holds(t: &[u32], rows: usize, starts: &[u32]) -> bool
+    requires { ⌜ (rowCount (now t) ≤ rows) × (rows ≤ length (now starts)) ⌝ }
+    ensures { λ r. ⌜ r ≡ holdsRows (now (t .entry)) rows (now (starts .entry)) ⌝ }
 {
     if starts[0] != 0 {
         return false;

@@ -1,2 +1,3 @@
-pub mod Clean
-pub mod Passes
+pub mod Bits
+pub mod Marks
+pub mod Told

@@ -1,37 +1,43 @@
--- What one pass over a text finds out, and which stretches of it are to be looked at once more. Definitions only; the laws are in `proofs/`.
--- Assumes nothing.
-use Prim.Native.Nat.{ℕ, _+_, _≤_}
+-- What one pass over a text tells of it and of its table of row starts. Definitions only; the laws are in `proofs/`. Assumes nothing.
+use Prim.Native.Nat.{ℕ, suc, _+_, _%_, _≤_}
 use mathlib.Core.Path.{_≡_}
 use mathlib.Core.List.{List, [], _∷_}
-use mathlib.Core.Bool.{Bool, false, cond, _||_}
+use mathlib.Core.Bool.{Bool, true, cond}
 use lib.Bits.{bitAnd, bitOr}
 use lib.Dec.{eqb, leb}
 use lib.ListN.{length}
-use Rattle.lists.specs.Lists.{any}
 use Rattle.text_check.specs.Accept.{textRefusal}
 use Rattle.text.specs.Text.{rowCount}
+use Rattle.row_table.specs.Table.{holdsRows, tableRefusal}
 use Rattle.text_rows.specs.declared.Found.{Found}
-use Rattle.text_rows.specs.declared.Stretch.{Stretch}
+use Rattle.text_rows.specs.declared.Held.{Held}
 
--- the refusal of a text, and how many rows it has
-abbrev pub foundIn : List ℕ → Found
-foundIn t = record { refusal = textRefusal t; rows = rowCount t }
+-- the refusal of a text, how many rows it has, and the refusal of its table
+abbrev pub foundIn : List ℕ → List ℕ → ℕ → Found
+foundIn t starts content = record { refusal = textRefusal t; rows = rowCount t; table = tableRefusal (rowCount t) t starts content }
 
--- may be a line break below U+2000 that a text may not hold
-abbrev pub isDoubt : ℕ → Bool
-isDoubt x = cond (eqb x 0xffffffff) false (eqb (bitAnd (x + 1) 0xffffff74) 4)
+-- a separator, or what may be a line break below U+2000 that a text may not hold
+abbrev pub isMark : ℕ → Bool
+isMark x = eqb (bitAnd ((x + 2) % 4294967296) 0xffffff74) 4
+
+-- how many of them
+unfoldable pub marksIn : List ℕ → ℕ
+marksIn [] = 0
+marksIn (x ∷ t) = let later = marksIn t in cond (isMark x) (suc later) later
 
 -- the bits of all values together, with those of `bits`
 unfoldable pub allBits : ℕ → List ℕ → ℕ
 allBits bits [] = bits
-allBits bits (x ∷ part) = allBits (bitOr bits x) part
+allBits bits (x ∷ t) = allBits (bitOr bits x) t
 
--- a stretch with such a code point, or with one from U+2000 on
-abbrev pub isDoubtful : List ℕ → Bool
-isDoubtful part = any isDoubt part || leb 0x2000 (allBits 0 part)
+-- what is read of a text: whether it has a code point from U+2000 on, and its marks
+pub record ReadIn (t : List ℕ) (r : Held) : Type 0 where
+  pub high : r .high ≡ leb 0x2000 (allBits 0 t)
+  pub marks : r .marks ≡ marksIn t
+  pub few : r .marks ≤ length t
 
--- what is read of a stretch: whether it is doubtful, and its separators, of which it has one less than rows
-pub record ReadIn (part : List ℕ) (r : Stretch) : Type 0 where
-  pub doubt : r .doubt ≡ isDoubtful part
-  pub rows : r .feeds + 1 ≡ rowCount part
-  pub few : r .feeds ≤ length part
+-- where rows are told, the text is accepted, and the table holds their starts
+pub record Tells (t starts : List ℕ) (rows : ℕ) : Type 0 where
+  pub accepted : (rows ≡ 0 → ⊥) → textRefusal t ≡ 0
+  pub held : (rows ≡ 0 → ⊥) → holdsRows t rows starts ≡ true
+  pub room : (rows ≡ 0 → ⊥) → rows ≤ length starts

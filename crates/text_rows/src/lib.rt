@@ -1,96 +1,117 @@
-// The check of a text and the count of its rows, in one pass. The answers are those of
-// `text_check::text_refusal` and `text::row_count`, which pass over the text one after the other.
+// The check of a text and of its table of row starts, in one pass. The answers are those of
+// `text_check::text_refusal`, `text::row_count` and `row_table::check::table_refusal`, each of which
+// would pass over the text by itself. From document 02, #106.
 ghost use mathlib.Core.Path.{_≡_};
 ghost use Prim.Native.Nat.{_≤_};
 ghost use lib.ListN.{length};
-ghost use Rattle.text_rows.specs.Pass.{isDoubt, ReadIn, foundIn};
+ghost use Rattle.text_rows.specs.Pass.{isMark, ReadIn, Tells, foundIn};
 
-// The number that a text is refused with, and how many rows it has.
+// The number that a text is refused with, how many rows it has, and the number that its table is
+// refused with.
 pub struct Found {
     pub refusal: u32,
     pub rows: usize,
+    pub table: u32,
 }
 
-// What a stretch holds: whether a code point may have to be refused, and how many separators.
-struct Stretch {
-    doubt: bool,
-    feeds: u32,
+// What a text holds: whether a code point is from U+2000 on, and how many marks.
+struct Held {
+    high: bool,
+    marks: u32,
 }
 
-// How many code points are read at a time.
-const STRETCH: usize = 1024;
-
-// Whether x may be a line break below U+2000 that a text may not hold. They are U+000B to U+000D and
-// U+0085: one more, and without the bits in which the four then differ, each is 4. Some other control
-// characters come to 4 too, but no separator, no tab and nothing that is printed.
-fn doubt(x: u32) -> bool
-    ensures { λ r. ⌜ r ≡ isDoubt x ⌝ }
+// Whether x is a mark: a separator, or a line break below U+2000 that a text may not hold, U+000B to
+// U+000D and U+0085. Two more, and without the bits in which the five then differ, each is 4. Some
+// other control characters come to 4 too, but no tab and nothing that is printed.
+fn is_mark(x: u32) -> bool
+    ensures { λ r. ⌜ r ≡ isMark x ⌝ }
 {
-    if x == 0xffffffff {
-        return false;
-    }
-    (x + 1) & 0xffffff74 == 4
+    std::num::wrapping_add_u32(x, 2) & 0xffffff74 == 4
 }
 
-// One pass over a stretch, with no branch on what is read, so that the compiler reads many code
-// points at a time: all their bits together tell whether one is from U+2000 on.
-fn read(part: &[u32]) -> Stretch
-    requires { ⌜ length (now part) ≤ 1048576 ⌝ }
-    ensures { λ r. ⌜ ReadIn (now (part .entry)) r ⌝ }
+// One pass, with no branch on what is read, so that the compiler reads many code points at a time:
+// all their bits together tell whether one is from U+2000 on. The marks are counted in 32 bits, of
+// which it reads more at a time than of 64.
+fn read(t: &[u32]) -> Held
+    requires { ⌜ length (now t) ≤ 1048576 ⌝ }
+    ensures { λ r. ⌜ ReadIn (now (t .entry)) r ⌝ }
 {
     let mut bits: u32 = 0;
-    let mut mark = false;
     let mut n: u32 = 0;
     let mut i: usize = 0;
-    while i < part.len() {
-        let x = part[i];
+    while i < t.len() {
+        let x = t[i];
         bits = bits | x;
-        mark = mark | doubt(x);
-        if x == 10 {
+        if is_mark(x) {
             n += 1;
             i += 1;
         } else {
             i += 1;
         }
     }
-    Stretch {
-        doubt: mark | (bits >= 0x2000),
-        feeds: n,
+    Held {
+        high: bits >= 0x2000,
+        marks: n,
     }
 }
 
-// The check of a text and the count of its rows. A text with a code point that may have to be refused,
-// or one from U+2000 on, is checked once more, by what it holds.
-pub fn checked(t: &[u32]) -> Found
-    ensures { λ r. ⌜ r ≡ foundIn (now (t .entry)) ⌝ }
+// How many rows the text has, where it is accepted and the table holds their starts; 0 where that is
+// not so, or not told by one pass. The starts in a table stand behind a separator each: where they
+// are as many as the marks, every mark is a separator, and no line break is left to refuse.
+fn rows_by(t: &[u32], starts: &[u32]) -> usize
+    ensures { λ r. ⌜ Tells (now (t .entry)) (now (starts .entry)) r ⌝ }
 {
-    let len = t.len();
-    if len > 1048576 {
-        return Found {
-            refusal: 1,
-            rows: text::row_count(t),
-        };
+    if t.len() > 1048576 {
+        return 0;
     }
-    let mut doubted = false;
-    let mut n: usize = 0;
-    let mut i: usize = 0;
-    while len - i >= STRETCH {
-        let end = i + STRETCH;
-        let s = read(&t[i..end]);
-        doubted = doubted | s.doubt;
-        n += s.feeds as usize;
-        i = end;
+    let s = read(t);
+    let rows = s.marks as usize + 1;
+    if rows > starts.len() {
+        return 0;
     }
-    let s = read(&t[i..len]);
-    let rows = n + s.feeds as usize + 1;
-    if doubted | s.doubt {
+    if !row_table::check::holds(t, rows, starts) {
+        return 0;
+    }
+    if s.high {
+        if text_check::text_refusal(t) != 0 {
+            return 0;
+        }
+    }
+    rows
+}
+
+// Each by itself, where one pass does not tell.
+fn found_apart(t: &[u32], starts: &[u32], content: u32) -> Found
+    ensures { λ r. ⌜ r ≡ foundIn (now (t .entry)) (now (starts .entry)) content ⌝ }
+{
+    let rows = text::row_count(t);
+    let f = text_check::text_refusal(t);
+    let g = row_table::check::table_refusal(t, rows, rows, starts, content);
+    Found {
+        refusal: f,
+        rows: rows,
+        table: g,
+    }
+}
+
+// The check of a text and of its table, with the number of rows with content beside it.
+pub fn checked(t: &[u32], starts: &[u32], content: u32) -> Found
+    ensures { λ r. ⌜ r ≡ foundIn (now (t .entry)) (now (starts .entry)) content ⌝ }
+{
+    let rows = rows_by(t, starts);
+    if rows == 0 {
+        return found_apart(t, starts, content);
+    }
+    if content as usize != text::content_of(t, rows) {
         return Found {
-            refusal: text_check::text_refusal(t),
+            refusal: 0,
             rows: rows,
+            table: 16,
         };
     }
     Found {
         refusal: 0,
         rows: rows,
+        table: 0,
     }
 }

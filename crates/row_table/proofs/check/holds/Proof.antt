@@ -5,7 +5,7 @@ use Prim.Native.Nat.{_-_, _≤_}
 use native.Mathlib.Omega.{arith}
 use borrow.Author.Needs.{needs}
 use Rattle.text.proofs.Rows.{rows-pos, start-zero}
-use Rattle.row_table.proofs.Ascend.{same-yes, same-no, table-place, table-within, table-behind, table-ascends, Ascend, ascend-first, ascend-next, ascend-all}
+use Rattle.row_table.proofs.Ascend.{held-yes, held-no, table-place, table-within, table-behind, table-ascends, Ascend, ascend-first, ascend-next, ascend-few, ascend-all}
 use Rattle.row_table.proofs.check.holds.Statement.{statement}
 use Rattle.row_table.proofs.check.holds.Tie as tie
 
@@ -16,14 +16,14 @@ abbrev μ-loop : tie.MeasureT-loop
 μ-loop t rows starts last₀ i₀ last i = rows - i
 
 shared-slice-read-if1 : tie.Need-shared-slice-read-if1 Inv-loop μ-loop
-shared-slice-read-if1 c = omega (arith, c .before .pre .0, rows-pos (c .before .args .t .now))
+shared-slice-read-if1 c = omega (arith, c .before .pre .0, c .before .pre .1, rows-pos (c .before .args .t .now))
 
 -- the first start isn't 0
 returns : tie.Need-returns Inv-loop μ-loop
 returns c =
     let s = c .before .before in
     let t = s .args .t .now in
-    sym (same-no _ _ (λ e. c .if1 .taken (table-place t (s .args .starts .now) e 0 (rows-pos t) ∙ start-zero t)))
+    sym (held-no _ _ _ (λ q e. c .if1 .taken (table-place t (s .args .starts .now) e 0 (rows-pos t) ∙ start-zero t)))
 
 loop-holds : tie.Need-loop-holds Inv-loop μ-loop
 loop-holds c =
@@ -39,21 +39,21 @@ returns-2 c =
     let l = c .before .before .before in
     let s = l .before .before .before in
     let i = l .loop .inv .0 in
-    sym (same-no _ _ (λ e. omega (arith, c .if2 .taken, i .last-is, table-ascends (s .args .t .now) (s .args .starts .now) e (l .loop .i) (i .some) (omega (arith, c .before .before .loop-test .taken, s .pre .0)))))
+    sym (held-no _ _ _ (λ q e. omega (arith, c .if2 .taken, i .last-is, table-ascends (s .args .t .now) (s .args .starts .now) e (l .loop .i) (i .some) (omega (arith, c .before .before .loop-test .taken, q)))))
 
 -- one beyond the text
 returns-3 : tie.Need-returns-3 Inv-loop μ-loop
 returns-3 c =
     let l = c .before .before .before .before in
     let s = l .before .before .before in
-    sym (same-no _ _ (λ e. omega (arith, c .if3 .taken, table-within (s .args .t .now) (s .args .starts .now) e (l .loop .i) (omega (arith, c .before .before .before .loop-test .taken, s .pre .0)))))
+    sym (held-no _ _ _ (λ q e. omega (arith, c .if3 .taken, table-within (s .args .t .now) (s .args .starts .now) e (l .loop .i) (omega (arith, c .before .before .before .loop-test .taken, q)))))
 
 -- one that stands behind no separator
 returns-4 : tie.Need-returns-4 Inv-loop μ-loop
 returns-4 c =
     let l = c .before .before .before .before .before .before in
     let s = l .before .before .before in
-    sym (same-no _ _ (λ e. c .if4 .taken (table-behind (s .args .t .now) (s .args .starts .now) e (l .loop .i) (omega (arith, c .before .before .before .before .before .loop-test .taken, s .pre .0)) (l .loop .inv .0 .some))))
+    sym (held-no _ _ _ (λ q e. c .if4 .taken (table-behind (s .args .t .now) (s .args .starts .now) e (l .loop .i) (omega (arith, c .before .before .before .before .before .loop-test .taken, q)) (l .loop .inv .0 .some))))
 
 loop-again : tie.Need-loop-again Inv-loop μ-loop
 loop-again c =
@@ -64,7 +64,10 @@ returns-5 : tie.Need-returns-5 Inv-loop μ-loop
 returns-5 c =
     let l = c .before in
     let s = l .before .before .before in
-    sym (same-yes _ _ (ascend-all (l .loop .inv .0) (omega (arith, l .loop .inv .1, c .loop-test .left, s .pre .0)) (omega (arith, s .pre))))
+    let all = l .loop .inv .0 in
+    let few = ascend-few all in
+    sym (held-yes _ _ _ (omega (arith, few, l .loop .inv .1, c .loop-test .left, s .pre .0))
+    (ascend-all all (omega (arith, few, l .loop .inv .1, c .loop-test .left, s .pre .0)) (omega (arith, s .pre .0, s .pre .1))))
 
 pub holds-spec : {M : Type 1} → statement M
 holds-spec =

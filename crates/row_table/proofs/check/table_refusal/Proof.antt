@@ -5,6 +5,7 @@ use native.Mathlib.Omega.{arith}
 use borrow.Author.Needs.{needs}
 use borrow.Author.Tests.{eq-eqb, ne-eqb, lt-ltb, le-ltb, not-true, not-false}
 use Rattle.row_table.specs.Table.{tableRefusal}
+use Rattle.row_table.proofs.Ascend.{held-same}
 use Rattle.row_table.proofs.check.table_refusal.Statement.{statement}
 use Rattle.row_table.proofs.check.table_refusal.Tie as tie
 
@@ -16,7 +17,8 @@ returns-2 : tie.Need-returns-2
 unfolding tableRefusal
 returns-2 c =
     let held = c .before in
-    rw (le-ltb _ _ (held .before .if1 .left), sym (held .holds .ensures) ∙ not-true _ (c .if2 .taken))
+    let same = held-same _ _ _ (held .before .before .before .before .pre .0) in
+    rw (le-ltb _ _ (held .before .if1 .left), sym same ∙ sym (held .holds .ensures) ∙ not-true _ (c .if2 .taken))
 
 returns-3 : tie.Need-returns-3
 unfolding tableRefusal
@@ -30,7 +32,13 @@ unfolding tableRefusal
 returns-4 c =
     let counted = c .before in
     let held = counted .before .before in
-    rw (le-ltb _ _ (held .before .if1 .left), ← counted .content-of .ensures, eq-eqb _ _ (c .if3 .left), sym (held .holds .ensures) ∙ not-false _ (counted .before .if2 .left))
+    let same = held-same _ _ _ (held .before .before .before .before .pre .0) in
+    rw (
+      le-ltb _ _ (held .before .if1 .left),
+      ← counted .content-of .ensures,
+      eq-eqb _ _ (c .if3 .left),
+      sym same ∙ sym (held .holds .ensures) ∙ not-false _ (counted .before .if2 .left),
+    )
 
 pub table-refusal-spec : {M : Type 1} → statement M
 table-refusal-spec =
