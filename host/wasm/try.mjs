@@ -60,6 +60,31 @@ function jumped(kind, count, given, told = () => []) {
     });
 }
 
+// The motions by their groups: the call, what it is given, and what of that goes as code points.
+const MOTIONS = {
+    8: ({ op, n, text }) => ["motion", { op, text, ...caret(n), count: n[4] }, ["text"]],
+    9: ({ op, n, text }) => ["seek", { op, text, ...caret(n), x: n[4] }, ["text"]],
+    10: ({ op, n, text, folds, list }) => ["word", { op, text, folds, list, ...caret(n), count: n[4], big: n[5] }, ["text", "folds", "list"]],
+    11: ({ op, n, text, folds }) =>
+        ["vertical", { op, text, folds, ...caret(n), count: n[4], tabstop: n[5], mode: n[6], width: n[7] }, ["text", "folds"]],
+    12: ({ op, n, text }) => ["viewport", { op, text, ...caret(n), offset: n[4], top: n[5], height: n[6] }, ["text"]],
+    18: ({ op, n, text, folds, list: [kept, offset] }) =>
+        ["screen_kept", { op, text, folds, ...caret(n), kept, offset, count: n[4], tabstop: n[5], mode: n[6], width: n[7] }, ["text", "folds"]],
+};
+
+// The first operations of these groups with a table.
+const TABLED = [[800, 18], [700, 9], [600, 12], [300, 11], [200, 10], [100, 8]];
+
+// An edit that keeps a table.
+function kept({ op, n, text, folds, content, starts, own }) {
+    const given = { text, folds, starts, row: n[0], col: n[1], end_row: n[2], end_col: n[3], caret: [n[6], n[7], 1, 7, 1, 3], sizes: [n[4], n[5], content] };
+    const left = ["caret", "sizes", "text", "folds", "starts"];
+    return op === 1 ? forms("insert_rows", { ...given, points: own }, ["points"], left) : [made("tsivareza_delete_rows", given, left)];
+}
+
+// A `%` as a single jump, which moves where it finds a partner.
+const partner = ({ n, text }) => jumped(3, n[4], { text, ...caret(n) }, (row, col) => [Number(row !== n[0] || col !== n[1])]);
+
 // The call that each group stands for. `n` has its numbers.
 const GROUPS = {
     0: ({ op, n }) => [made("tsivareza_character", { op, x: n[0] }, ["out"])],
@@ -70,27 +95,20 @@ const GROUPS = {
     5: ({ op, n, text }) => forms("wrap_segments", { mode: op, row: text, width: n[0], segments: filled(n[1]) }, ["row"], ["out", "segments"]),
     6: ({ text }) => forms("content_row_count", { text }, ["text"], ["out"]),
     7: ({ n, text }) => forms("matching_bracket_pos", { text, row: n[0], col: n[1] }, ["text"], ["out"]),
-    8: ({ op, n, text }) => motions("motion", { op, text, ...caret(n), count: n[4] }, ["text"]),
-    // a `%` that finds a partner moves
-    9: ({ op, n, text }) => [
-        ...motions("seek", { op, text, ...caret(n), x: n[4] }, ["text"]),
-        ...(op === 0 ? jumped(3, n[4], { text, ...caret(n) }, (row, col) => [Number(row !== n[0] || col !== n[1])]) : []),
+    8: (row) => motions(...MOTIONS[8](row)),
+    9: (row) => [...motions(...MOTIONS[9](row)), ...(row.op === 0 ? partner(row) : [])],
+    10: (row) => [
+        ...motions(...MOTIONS[10](row)),
+        ...(row.op < 3 && row.n[5] === 0 ? jumped(row.op, row.n[4], { text: row.text, folds: row.folds, list: row.list, ...caret(row.n) }) : []),
     ],
-    10: ({ op, n, text, folds, list }) => [
-        ...motions("word", { op, text, folds, list, ...caret(n), count: n[4], big: n[5] }, ["text", "folds", "list"]),
-        ...(op < 3 && n[5] === 0 ? jumped(op, n[4], { text, folds, list, ...caret(n) }) : []),
-    ],
-    11: ({ op, n, text, folds }) =>
-        motions("vertical", { op, text, folds, ...caret(n), count: n[4], tabstop: n[5], mode: n[6], width: n[7] }, ["text", "folds"]),
-    12: ({ op, n, text }) => motions("viewport", { op, text, ...caret(n), offset: n[4], top: n[5], height: n[6] }, ["text"]),
+    11: (row) => motions(...MOTIONS[11](row)),
+    12: (row) => motions(...MOTIONS[12](row)),
     13: ({ op, n, text }) => forms("inner_pair", { kind: op, text, row: n[0], col: n[1] }, ["text"], ["out"]),
     14: ({ n, text }) => [made("tsivareza_utf8_decode", { bytes: Uint8Array.from(text), points: filled(n[0]) }, ["out", "points"], true)],
     15: ({ n, text }) => forms("utf8_encode", { points: text, bytes: filled(n[0], 165) }, ["points"], ["out", "bytes"]),
     16: ({ op, n, list }) => forms("enter", { op, list, x: n[0] }, ["list"], ["out"], true),
     17: ({ n, list }) => forms("without_plus", { list, written: filled(n[0]) }, ["list"], ["out", "written"]),
-    18: ({ op, n, text, folds, list: [kept, offset] }) =>
-        motions("screen_kept", { op, text, folds, ...caret(n), kept, offset, count: n[4], tabstop: n[5], mode: n[6], width: n[7] },
-            ["text", "folds"]),
+    18: (row) => motions(...MOTIONS[18](row)),
     19: ({ op, n, text, folds, list }) => {
         const given = { text, folds, row: n[0], col: n[1], end_row: n[2], end_col: n[3], caret: [n[6], n[7], 1, 7, 1, 3], sizes: [n[4], n[5]] };
         const left = ["caret", "sizes", "text", "folds"];
@@ -103,15 +121,24 @@ const GROUPS = {
         ? forms("word_classes", { text, list, classes: filled(n[6], 165) }, ["text", "list"], ["out", "classes"])
         : forms("word_by_class", { op, text, folds, list, ...caret(n), count: n[4], big: n[5], classes: filled(n[6], 165) },
             ["text", "folds", "list"], ["out", "classes"]),
+    22: ({ op, n, text, folds, list }) => {
+        if (op === 0) return forms("row_starts", { text, starts: list }, ["text"], ["out", "starts"]);
+        const [content, places] = list;
+        const [starts, own] = [list.slice(2, 2 + places), list.slice(2 + places)];
+        if (op < 3) return kept({ op, n, text, folds, content, starts, own });
+        const [first, group] = TABLED.find(([first]) => op >= first);
+        const [stem, given, points] = MOTIONS[group]({ op: op - first, n, text, folds, list: own });
+        return forms(`${stem}_rows`, { ...given, starts, content }, points, ["out"]);
+    },
     23: ({ op, n, list }) => op === 2
         ? forms("vim_write", { list, written: filled(n[0]) }, ["list"], ["out", "written"], true)
         : forms("vim_list", { op, list, x: n[0] }, ["list"], ["out"], true),
-    100: ({ text, list }) => forms("row_starts", { text, starts: list }, ["text"], ["out", "starts"]),
-    101: ({ op, n, text, folds, list: [content, places, ...list] }) => {
-        const given = { text, folds, row: n[0], col: n[1], end_row: n[2], end_col: n[3], caret: [n[6], n[7], 1, 7, 1, 3], sizes: [n[4], n[5], content] };
-        const left = ["caret", "sizes", "text", "folds", "starts"];
-        given.starts = list.slice(0, places);
-        return op === 0 ? forms("insert_rows", { ...given, points: list.slice(places) }, ["points"], left) : [made("tsivareza_delete_rows", given, left)];
+    24: ({ n, text, folds, list }) => {
+        const [places, numbers] = list;
+        const [pairs, words] = [2 + places, 2 + places + numbers];
+        const given = { text, folds, ...caret(n), kept: n[4], offset: n[5], content: n[7], starts: list.slice(2, pairs),
+            pairs: list.slice(pairs, words), list: list.slice(words), answers: filled(n[6]) };
+        return forms("jumps", given, ["text", "folds", "list"], ["out", "answers"]);
     },
     102: ({ text }) => {
         counts.set("tsivareza_session", counts.get("tsivareza_session") + 1);

@@ -1,8 +1,8 @@
 //! What the given Rust answers, on plain values: the judge of the port's answers.
 //!
 //! `calls` has one function per public call, `refusals` the refusal table of document 01, written
-//! apart from it, `pairs`, `plus`, `kept`, `edits`, `row_table`, `fold_file`, `classes` and `vim` what document 02 adds on pairs, on plus signs, on screen moves
-//! that remember, on edits, on row starts that are kept, on fold files, on the classes of places and on Vim's lists,
+//! apart from it, `pairs`, `plus`, `kept`, `edits`, `row_table`, `fold_file`, `classes`, `jumps` and `vim` what document 02 adds on pairs, on plus signs,
+//! on screen moves that remember, on edits, on row starts that are kept, on fold files, on the classes of places, on jumps and on Vim's lists,
 //! from its words, `case` a call with its inputs as one line of text, `generate` cases from a seed and small families,
 //! `replay` the list that the program `replay` runs, `random_rows` such rows at random, `session` document 01's
 //! session over the given motions, `utf8` RFC 3629's tables and `std::str`, `wide` the calls on widths under the setting
@@ -14,6 +14,7 @@ pub mod classes;
 pub mod edits;
 pub mod fold_file;
 pub mod generate;
+pub mod jumps;
 pub mod kept;
 pub mod pairs;
 pub mod plus;
@@ -21,6 +22,8 @@ pub mod random_rows;
 pub mod refusals;
 pub mod replay;
 pub mod replay_buffers;
+pub mod replay_jumps;
+pub mod replay_tables;
 pub mod row_table;
 pub mod session;
 pub mod utf8;

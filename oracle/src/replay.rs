@@ -6,12 +6,12 @@
 //! whose refusal may have a place has the place, or 0, behind the number. UTF-8, which the given Rust has no call for, comes
 //! last, by RFC 3629's tables: groups 14 and 15, with a byte as a number. A screen move
 //! that remembers, group 18, has in its list whether an offset is kept, and that. Edits and fold files, groups 19 and 20:
-//! `replay_buffers`. The second engine of the word motions is group 21: operations 0 to 4 as group 10 has them, 5 the classes; a
+//! `replay_buffers`. Row starts, group 22: `replay_tables`; jumps, group 24: `replay_jumps`. The second engine of the word motions is group 21: operations 0 to 4 as group 10 has them, 5 the classes; a
 //! place for a class is a number. Vim's own lists are group 23: operations 0 and 1 as the exports have them, 2 a list written.
 
 use crate::case::{CALLS, Call, Case, FILLER, FILLER_CLASS, Input};
 use crate::generate::{self, Dice};
-use crate::{Outcome, Wrap, replay_buffers, utf8, wide};
+use crate::{Outcome, Wrap, replay_buffers, replay_jumps, replay_tables, utf8, wide};
 
 pub(crate) const SEED: u64 = 9;
 
@@ -49,15 +49,15 @@ const MOTIONS: [&str; 21] = [
 ];
 
 /// A case as the program takes it: group, operation and numbers, and the places lent for the answer.
-struct Asked<'a> {
-    head: Vec<u32>,
-    places: usize,
-    text: &'a [u32],
-    folds: &'a [u32],
-    list: Vec<u32>,
+pub(crate) struct Asked<'a> {
+    pub(crate) head: Vec<u32>,
+    pub(crate) places: usize,
+    pub(crate) text: &'a [u32],
+    pub(crate) folds: &'a [u32],
+    pub(crate) list: Vec<u32>,
 }
 
-fn asked(k: &Case) -> Asked<'_> {
+pub(crate) fn asked(k: &Case) -> Asked<'_> {
     let (group, op, numbers) = numbers(k);
     let places = match group {
         7 => 3,
@@ -176,7 +176,7 @@ fn numbers_of(slice: &[u8]) -> Vec<u32> {
 }
 
 /// The number and the places afterwards; nothing where there is no answer to compare with.
-fn answer(k: &Case, places: usize, outcome: &Outcome) -> Option<Vec<u32>> {
+pub(crate) fn answer(k: &Case, places: usize, outcome: &Outcome) -> Option<Vec<u32>> {
     let held = |c: &crate::Caret| [c.row, c.col, c.sticky.is_some().into(), c.sticky.unwrap_or(0)];
     let mut all = match outcome {
         Outcome::Refused(number) | Outcome::RefusedAt(number, _) => {
@@ -320,5 +320,6 @@ pub fn list() -> Vec<Row> {
     let buffers = replay_buffers::edits().into_iter().chain(replay_buffers::fold_files());
     let (there, mut back) = codings(SEED, CASES);
     back.push(encoded(&vec![0x61; 1_048_577], 4));
-    CALLS.iter().flat_map(rows).chain(there).chain(back).chain(buffers).collect()
+    let later = replay_tables::tables().into_iter().chain(replay_jumps::jumps());
+    CALLS.iter().flat_map(rows).chain(there).chain(back).chain(buffers).chain(later).collect()
 }

@@ -26,17 +26,26 @@ pub fn fill(text: &[u32], table: &mut [u32]) -> Result<u32, u32> {
     Ok(content)
 }
 
-/// What a motion answers beside a table and a number of rows with content: `first`, its answer without them; then 15 for
-/// fewer places than the text has rows, and 16 for a table or number that is not the text's.
+/// What a table and a number of rows with content are refused with: 15 for fewer places than the text has rows, 16 for one that
+/// is not the text's, and else 0.
+pub fn refused(text: &[u32], table: &[u32], content: u32) -> u32 {
+    let (starts, rows) = counted(text);
+    match table.get(..starts.len()) {
+        None => 15,
+        Some(places) if places == starts && content == rows => 0,
+        Some(_) => 16,
+    }
+}
+
+/// What a motion answers beside a table and a number of rows with content: `first`, its answer without them, and then their
+/// refusal.
 pub fn second(first: Outcome, text: &[u32], table: &[u32], content: u32) -> Outcome {
     if let Outcome::Refused(_) = first {
         return first;
     }
-    let (starts, rows) = counted(text);
-    match table.get(..starts.len()) {
-        None => Outcome::Refused(15),
-        Some(places) if places == starts && content == rows => first,
-        Some(_) => Outcome::Refused(16),
+    match refused(text, table, content) {
+        0 => first,
+        number => Outcome::Refused(number),
     }
 }
 

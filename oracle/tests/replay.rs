@@ -27,6 +27,26 @@ fn refusals(case: &Case) -> BTreeSet<u32> {
     by_input.iter().filter(|(takes, _)| *takes).flat_map(|(_, n)| *n).copied().collect()
 }
 
+/// Each motion that takes a table is answered with its own and a longer one, and refused with 15 and with 16.
+fn every_motion_with_a_table(list: &[replay::Row]) {
+    let tabled = |row: &&replay::Row| row.call.ends_with("_rows") && row.words.contains(" by [");
+    let motions: BTreeSet<&str> = list.iter().filter(tabled).filter_map(|row| row.words.split(' ').next()).collect();
+    assert_eq!(motions.len(), 42, "{motions:?}");
+    for name in motions {
+        let rows = list.iter().filter(tabled).filter(|row| row.words.split(' ').next() == Some(name));
+        let (mut answered, mut short, mut wrong) = (0, 0, 0);
+        for row in rows {
+            match row.outcome {
+                Outcome::Refused(15) => short += 1,
+                Outcome::Refused(16) => wrong += 1,
+                Outcome::Refused(_) => {}
+                _ => answered += 1,
+            }
+        }
+        assert!(answered >= 2 && short >= 1 && wrong >= 1, "{name}: {answered} answered, {short} with 15, {wrong} with 16");
+    }
+}
+
 #[test]
 fn the_stored_list_is_current() {
     let list = replay::list();
@@ -49,6 +69,7 @@ fn the_stored_list_is_current() {
         assert!(answered >= 40, "{}: {answered} cases are answered", call.name);
         assert_eq!(refused, refusals(&Case::new(call)), "the refusals of {}", call.name);
     }
+    every_motion_with_a_table(&list);
     let beside = [
         ("utf8_decode", [13, 14].as_slice()),
         ("utf8_encode", &[1, 2, 14]),
@@ -56,11 +77,22 @@ fn the_stored_list_is_current() {
         ("delete", &[1, 2, 3, 4, 5, 11]),
         ("folds_write", &[1, 2, 3, 5, 14]),
         ("folds_read", &[1, 2, 3, 5, 14, 18, 19, 20]),
+        ("row_starts", &[1, 2, 3, 15]),
+        ("insert_rows", &[1, 2, 3, 4, 5, 11, 12, 15, 16]),
+        ("delete_rows", &[1, 2, 3, 4, 5, 11, 15, 16]),
+        ("motion_rows", &[1, 2, 3, 4, 15, 16]),
+        ("word_rows", &[1, 2, 3, 4, 5, 7, 8, 15, 16]),
+        ("vertical_rows", &[1, 2, 3, 4, 5, 6, 15, 16]),
+        ("screen_kept_rows", &[1, 2, 3, 4, 5, 6, 15, 16]),
+        ("viewport_rows", &[1, 2, 3, 4, 15, 16]),
+        ("seek_rows", &[1, 2, 3, 4, 15, 16]),
+        ("jumps", &[1, 2, 3, 4, 5, 7, 8, 14, 15, 16, 22]),
     ];
     for (call, all) in beside {
         let rows: Vec<_> = list.iter().filter(|row| row.call == call).collect();
-        let told = |row: &&&replay::Row| matches!(row.outcome, Outcome::Number(_));
-        assert!(rows.iter().filter(told).count() >= 30, "{call}");
+        let least = if call.ends_with("_rows") && !matches!(call, "insert_rows" | "delete_rows") { 4 } else { 30 };
+        let answered = rows.iter().filter(|row| !matches!(row.outcome, Outcome::Refused(_))).count();
+        assert!(answered >= least, "{call}: {answered} cases are answered");
         let refused: BTreeSet<u32> = rows.iter().filter_map(|row| if let Outcome::Refused(n) = row.outcome { Some(n) } else { None }).collect();
         assert_eq!(refused, all.iter().copied().collect(), "the refusals of {call}");
     }

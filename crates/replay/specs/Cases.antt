@@ -14,7 +14,9 @@ use Rattle.replay_signs.specs.Signs.{enteredOf, plainVerdict}
 use Rattle.replay_edits.specs.Edits.{editVerdict}
 use Rattle.replay_fold_file.specs.FoldFiles.{fileVerdict}
 use Rattle.replay_classes.specs.Classes.{classVerdict}
+use Rattle.replay_tables.specs.Verdicts.{tabledVerdict}
 use Rattle.replay_vim.specs.Vim.{vimVerdict}
+use Rattle.replay_jumps.specs.Jumps.{jumpVerdict}
 use Rattle.replay.specs.Calls.{characterOf, keywordsOf, columnsOf, offsetsOf, segmentForColOf, wrapVerdict}
 use Rattle.replay.specs.Calls.{contentRowCountOf, matchingBracketPosOf, innerPairOf, motionOf, seekOf, wordOf, verticalVerdict, viewportVerdict, keptVerdict}
 
@@ -43,8 +45,10 @@ byGroup group k text folds list stored =
     (cond (eqb group 19) (editVerdict k text folds list stored)
     (cond (eqb group 20) (fileVerdict k text folds list stored)
     (cond (eqb group 21) (classVerdict k text folds list stored)
+    (cond (eqb group 22) (tabledVerdict k text folds list stored)
     (cond (eqb group 23) (vimVerdict k list stored)
-    Malformed))))))))))))))))))))))
+    (cond (eqb group 24) (jumpVerdict k text folds list stored)
+    Malformed))))))))))))))))))))))))
 
 -- the verdict of a case
 unfoldable pub verdictOf : List ℕ → Verdict

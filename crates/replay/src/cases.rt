@@ -41,7 +41,9 @@ fn by_group(
         19 => replay_edits::edit(k, text, folds, list, stored),
         20 => replay_fold_file::fold_file(k, text, folds, list, stored),
         21 => replay_classes::by_class(k, text, folds, list, stored),
+        22 => replay_tables::tabled(k, text, folds, list, stored),
         23 => replay_vim::vim(k, list, stored),
+        24 => replay_jumps::jumped(k, text, folds, list, stored),
         _ => Verdict::Malformed,
     }
 }

@@ -12,7 +12,7 @@ ghost use Rattle.replay_verdicts.specs.Answers.{compared as Answers·compared};
 ghost use Rattle.replay_edits.specs.Edits.{Edits, editedInto, editVerdict};
 
 // Writes numbers from an index on, and answers the next index.
-fn put_all(out: &mut [u32], at: usize, s: &[u32]) -> usize
+pub fn put_all(out: &mut [u32], at: usize, s: &[u32]) -> usize
     requires { ⌜ at + length (now s) ≤ length (now out) ⌝ }
     ensures { λ r. ⌜ Wrote (now (out .entry)) at (now (s .entry)) r (now (out .exit)) ⌝ }
 {

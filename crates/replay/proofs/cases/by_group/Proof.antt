@@ -5,34 +5,36 @@ use Rattle.replay.specs.Cases.{byGroup}
 use Rattle.replay.proofs.cases.by_group.Statement.{statement}
 use Rattle.replay.proofs.cases.by_group.Tie as tie
 
-returns-24 : tie.Need-returns-24
+returns-26 : tie.Need-returns-26
 unfolding byGroup
-returns-24 c =
+returns-26 c =
     let m = c .match .rest in
     rw (
-      ne-eqb _ 0 (m .0 .0 .0 .0 .0 .0 .0 .0 .0 .0 .0 .0 .0 .0 .0 .0 .0 .0 .0 .0 .0 .0 .1),
-      ne-eqb _ 1 (m .0 .0 .0 .0 .0 .0 .0 .0 .0 .0 .0 .0 .0 .0 .0 .0 .0 .0 .0 .0 .0 .1),
-      ne-eqb _ 2 (m .0 .0 .0 .0 .0 .0 .0 .0 .0 .0 .0 .0 .0 .0 .0 .0 .0 .0 .0 .0 .1),
-      ne-eqb _ 3 (m .0 .0 .0 .0 .0 .0 .0 .0 .0 .0 .0 .0 .0 .0 .0 .0 .0 .0 .0 .1),
-      ne-eqb _ 4 (m .0 .0 .0 .0 .0 .0 .0 .0 .0 .0 .0 .0 .0 .0 .0 .0 .0 .0 .1),
-      ne-eqb _ 5 (m .0 .0 .0 .0 .0 .0 .0 .0 .0 .0 .0 .0 .0 .0 .0 .0 .0 .1),
-      ne-eqb _ 6 (m .0 .0 .0 .0 .0 .0 .0 .0 .0 .0 .0 .0 .0 .0 .0 .0 .1),
-      ne-eqb _ 7 (m .0 .0 .0 .0 .0 .0 .0 .0 .0 .0 .0 .0 .0 .0 .0 .1),
-      ne-eqb _ 8 (m .0 .0 .0 .0 .0 .0 .0 .0 .0 .0 .0 .0 .0 .0 .1),
-      ne-eqb _ 9 (m .0 .0 .0 .0 .0 .0 .0 .0 .0 .0 .0 .0 .0 .1),
-      ne-eqb _ 10 (m .0 .0 .0 .0 .0 .0 .0 .0 .0 .0 .0 .0 .1),
-      ne-eqb _ 11 (m .0 .0 .0 .0 .0 .0 .0 .0 .0 .0 .0 .1),
-      ne-eqb _ 12 (m .0 .0 .0 .0 .0 .0 .0 .0 .0 .0 .1),
-      ne-eqb _ 13 (m .0 .0 .0 .0 .0 .0 .0 .0 .0 .1),
-      ne-eqb _ 14 (m .0 .0 .0 .0 .0 .0 .0 .0 .1),
-      ne-eqb _ 15 (m .0 .0 .0 .0 .0 .0 .0 .1),
-      ne-eqb _ 16 (m .0 .0 .0 .0 .0 .0 .1),
-      ne-eqb _ 17 (m .0 .0 .0 .0 .0 .1),
-      ne-eqb _ 18 (m .0 .0 .0 .0 .1),
-      ne-eqb _ 19 (m .0 .0 .0 .1),
-      ne-eqb _ 20 (m .0 .0 .1),
-      ne-eqb _ 21 (m .0 .1),
-      ne-eqb _ 23 (m .1),
+      ne-eqb _ 0 (m .0 .0 .0 .0 .0 .0 .0 .0 .0 .0 .0 .0 .0 .0 .0 .0 .0 .0 .0 .0 .0 .0 .0 .0 .1),
+      ne-eqb _ 1 (m .0 .0 .0 .0 .0 .0 .0 .0 .0 .0 .0 .0 .0 .0 .0 .0 .0 .0 .0 .0 .0 .0 .0 .1),
+      ne-eqb _ 2 (m .0 .0 .0 .0 .0 .0 .0 .0 .0 .0 .0 .0 .0 .0 .0 .0 .0 .0 .0 .0 .0 .0 .1),
+      ne-eqb _ 3 (m .0 .0 .0 .0 .0 .0 .0 .0 .0 .0 .0 .0 .0 .0 .0 .0 .0 .0 .0 .0 .0 .1),
+      ne-eqb _ 4 (m .0 .0 .0 .0 .0 .0 .0 .0 .0 .0 .0 .0 .0 .0 .0 .0 .0 .0 .0 .0 .1),
+      ne-eqb _ 5 (m .0 .0 .0 .0 .0 .0 .0 .0 .0 .0 .0 .0 .0 .0 .0 .0 .0 .0 .0 .1),
+      ne-eqb _ 6 (m .0 .0 .0 .0 .0 .0 .0 .0 .0 .0 .0 .0 .0 .0 .0 .0 .0 .0 .1),
+      ne-eqb _ 7 (m .0 .0 .0 .0 .0 .0 .0 .0 .0 .0 .0 .0 .0 .0 .0 .0 .0 .1),
+      ne-eqb _ 8 (m .0 .0 .0 .0 .0 .0 .0 .0 .0 .0 .0 .0 .0 .0 .0 .0 .1),
+      ne-eqb _ 9 (m .0 .0 .0 .0 .0 .0 .0 .0 .0 .0 .0 .0 .0 .0 .0 .1),
+      ne-eqb _ 10 (m .0 .0 .0 .0 .0 .0 .0 .0 .0 .0 .0 .0 .0 .0 .1),
+      ne-eqb _ 11 (m .0 .0 .0 .0 .0 .0 .0 .0 .0 .0 .0 .0 .0 .1),
+      ne-eqb _ 12 (m .0 .0 .0 .0 .0 .0 .0 .0 .0 .0 .0 .0 .1),
+      ne-eqb _ 13 (m .0 .0 .0 .0 .0 .0 .0 .0 .0 .0 .0 .1),
+      ne-eqb _ 14 (m .0 .0 .0 .0 .0 .0 .0 .0 .0 .0 .1),
+      ne-eqb _ 15 (m .0 .0 .0 .0 .0 .0 .0 .0 .0 .1),
+      ne-eqb _ 16 (m .0 .0 .0 .0 .0 .0 .0 .0 .1),
+      ne-eqb _ 17 (m .0 .0 .0 .0 .0 .0 .0 .1),
+      ne-eqb _ 18 (m .0 .0 .0 .0 .0 .0 .1),
+      ne-eqb _ 19 (m .0 .0 .0 .0 .0 .1),
+      ne-eqb _ 20 (m .0 .0 .0 .0 .1),
+      ne-eqb _ 21 (m .0 .0 .0 .1),
+      ne-eqb _ 22 (m .0 .0 .1),
+      ne-eqb _ 23 (m .0 .1),
+      ne-eqb _ 24 (m .1),
     )
 
 pub by-group-spec : {M : Type 1} → statement M
@@ -43,7 +45,8 @@ by-group-spec =
     (λ c κs. search needs) (λ c κs. search needs) (λ c κs. search needs) (λ c κs. search needs) (λ c κs. search needs) (λ c κs. search needs)
     (λ c κs. search needs) (λ c κs. search needs) (λ c κs. search needs) (λ c κs. search needs) (λ c κs. search needs) (λ c κs. search needs)
     (λ c κs. search needs) (λ c κs. search needs) (λ c κs. search needs) (λ c κs. search needs) (λ c κs. search needs) (λ c κs. search needs)
-    (λ c κs. search needs) (λ c κs. search needs) (λ c κs. search needs) (λ c κs. search needs) (λ c κs. search needs)
+    (λ c κs. search needs) (λ c κs. search needs) (λ c κs. search needs) (λ c κs. search needs) (λ c κs. search needs) (λ c κs. search needs)
+    (λ c κs. search needs)
     (λ c. rw (c .before .match .keys1) (c .character .ensures))
     (λ c. rw (c .before .match .keys2) (c .keywords .ensures))
     (λ c. rw (c .before .match .keys3) (c .columns .ensures))
@@ -66,5 +69,7 @@ by-group-spec =
     (λ c. rw (c .before .match .keys20) (c .edit .ensures))
     (λ c. rw (c .before .match .keys21) (c .fold-file .ensures))
     (λ c. rw (c .before .match .keys22) (c .by-class .ensures))
-    (λ c. rw (c .before .match .keys23) (c .vim .ensures))
-    returns-24)
+    (λ c. rw (c .before .match .keys23) (c .tabled .ensures))
+    (λ c. rw (c .before .match .keys24) (c .vim .ensures))
+    (λ c. rw (c .before .match .keys25) (c .jumped .ensures))
+    returns-26)

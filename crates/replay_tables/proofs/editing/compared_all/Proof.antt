@@ -1,0 +1,64 @@
+-- `editing::compared_all` meets its contract: the pieces, one after another, are compared. Assumes nothing.
+use mathlib.Core.Path.{sym}
+use native.Mathlib.Omega.{arith}
+use borrow.Author.Needs.{needs}
+use lib.Seq.{length-take-le}
+use Rattle.print.proofs.Laws.{wrote-then}
+use Rattle.replay_edits.proofs.Comparing.{written-front}
+use Rattle.replay_tables.proofs.editing.compared_all.Statement.{statement}
+use Rattle.replay_tables.proofs.editing.compared_all.Tie as tie
+
+lent : tie.Need-slice-aggregate-compared
+lent c =
+    let at-put-all5 = c .before .before in
+    let at-put-all4 = at-put-all5 .before .before .before in
+    let at-put-all3 = at-put-all4 .before .before .before in
+    let at-put-all2 = at-put-all3 .before .before .before in
+    let at-put-all = at-put-all2 .before .before .before .before in
+    let entry = at-put-all .before .before .before .before .before .before .before in
+    let p = at-put-all .put-all .ensures in
+    let q = at-put-all2 .put-all2 .ensures in
+    let r = at-put-all3 .put-all3 .ensures in
+    let s = at-put-all4 .put-all4 .ensures in
+    let t = at-put-all5 .put-all5 .ensures in
+    let fit = entry .pre in
+    sym
+    (length-take-le _ _
+    (omega (arith, p .next, p .size, q .next, q .size, r .next, r .size, s .next, s .size, t .next, t .size, fit .0, fit .1, fit .2)))
+
+returns : tie.Need-returns
+returns c =
+    let at-put-all5 = c .before .before .before in
+    let at-put-all4 = at-put-all5 .before .before .before in
+    let at-put-all3 = at-put-all4 .before .before .before in
+    let at-put-all2 = at-put-all3 .before .before .before in
+    let at-put-all = at-put-all2 .before .before .before .before in
+    let entry = at-put-all .before .before .before .before .before .before .before in
+    let p = at-put-all .put-all .ensures in
+    let q = at-put-all2 .put-all2 .ensures in
+    let r = at-put-all3 .put-all3 .ensures in
+    let s = at-put-all4 .put-all4 .ensures in
+    let t = at-put-all5 .put-all5 .ensures in
+    let fit = entry .pre in
+    let all = wrote-then (wrote-then (wrote-then (wrote-then p q) r) s) t in
+    let front = written-front all (omega (arith, all .next, p .next, q .next, r .next, s .next, t .next, fit .0, fit .1, fit .2)) in
+    rw front at (c .compared .ensures)
+
+pub compared-all-spec : {M : Type 1} → statement M
+compared-all-spec =
+    tie.close
+    (tie.spec
+    (λ c. search needs)
+    (λ c κs. search needs)
+    (λ c. search needs)
+    (λ c κs. search needs)
+    (λ c. search needs)
+    (λ c κs. search needs)
+    (λ c. search needs)
+    (λ c κs. search needs)
+    (λ c. search needs)
+    (λ c κs. search needs)
+    (λ c. search needs)
+    lent
+    (λ c κs. search needs)
+    returns)

@@ -1,0 +1,38 @@
+-- `editing::edited` meets its contract: it is the call of the operation. Assumes nothing.
+use borrow.Author.Needs.{needs}
+use Rattle.replay_tables.proofs.Keeping.{to-insert, put-insert, to-delete, put-delete}
+use Rattle.replay_tables.proofs.editing.edited.Statement.{statement}
+use Rattle.replay_tables.proofs.editing.edited.Tie as tie
+
+returns : tie.Need-returns
+returns c =
+    let at-insert = c .before .before .before .before .before .before in
+    let at-if1 = at-insert .before .before .before .before .before .before in
+    let entry = at-if1 .before .before .before .before .before .before in
+    let a = entry .args in
+    let e = at-if1 .if1 .taken in
+    rw (to-insert (a .k) (a .points .now) e, put-insert (a .k) (a .points .now) e) (at-insert .insert-rows .ensures)
+
+returns-2 : tie.Need-returns-2
+returns-2 c =
+    let at-delete = c .before .before .before .before .before .before in
+    let at-if1 = at-delete .before .before .before .before .before .before in
+    let entry = at-if1 .before .before .before .before .before .before in
+    let a = entry .args in
+    let n = at-if1 .if1 .left in
+    rw (to-delete (a .k) (a .points .now) n, put-delete (a .k) (a .points .now) n) (at-delete .delete-rows .ensures)
+
+pub edited-spec : {M : Type 1} → statement M
+edited-spec =
+    tie.close
+    (tie.spec
+    (λ c κs. search needs)
+    (λ c. search needs)
+    (λ c. search needs)
+    (λ c. search needs)
+    returns
+    (λ c κs. search needs)
+    (λ c. search needs)
+    (λ c. search needs)
+    (λ c. search needs)
+    returns-2)

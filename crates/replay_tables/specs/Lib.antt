@@ -1,0 +1,4 @@
+pub mod Tables
+pub mod Edits
+pub mod Motions
+pub mod Verdicts
