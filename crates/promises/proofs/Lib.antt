@@ -21,3 +21,4 @@ pub mod Apart
 pub mod Remembering
 pub mod ByClass
 pub mod RowTables
+pub mod Jumps

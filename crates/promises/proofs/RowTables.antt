@@ -26,6 +26,7 @@ use Rattle.row_search.specs.Nearest.{firstFrom, lastBelow}
 use Rattle.bracket_walks.specs.Pairs.{count, stretch}
 use Rattle.bracket_walks.specs.Matching.{nearestOf, placed}
 use Rattle.brackets.specs.Find.{keyTo}
+use Rattle.brackets.specs.Matching.{matchingBracketPos}
 use Rattle.word_kinds.specs.Places.{kindOf, kindAt, onEmptyRow, nextRow, stepForward, endOfBuffer}
 use Rattle.word_loops.specs.Walks.{walk, goesOn}
 use Rattle.word_edges.specs.Words.{nextWordStart}
@@ -65,7 +66,7 @@ pub tabled-alone : judged tabled ≡ good tabled
 unfolding tabled
     any upTo onFirst split isSame codes rounds letters isLetter whites isWhite zeroWidths doubleWidths widthBy widthOf widthAs stopOf visualFrom charFrom
     fits cellsIn pairsBefore afterWhite firstSegment segmentsFrom segmentsOf textRefusal rows startIn rowOf anyFold foldRefusal visibleFrom prevVisible
-    allDigits value trimStart trimEnd tokensIn sideOf keyBracket firstFrom lastBelow count stretch nearestOf placed keyTo
+    allDigits value trimStart trimEnd tokensIn sideOf keyBracket firstFrom lastBelow count stretch nearestOf placed keyTo matchingBracketPos
     kindOf kindAt onEmptyRow nextRow stepForward endOfBuffer walk goesOn nextWordStart roundOf counted wordMotion verticalRow landed stepScreen
     positionRefusal lowest orSought indentOf moving partnerTo seeking landsOn replaced zeros refilled mappedRow isLost keptFolds offsetAfter isBefore beyond
     lower heldRefusal heldFolds stretchRefusal editRefusal roomRefusal editedBy keptBy startsFrom tableRefusal fillRefusal refusalWith answeredBy

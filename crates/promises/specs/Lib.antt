@@ -14,3 +14,4 @@ pub mod Apart
 pub mod Remembering
 pub mod ByClass
 pub mod RowTables
+pub mod Jumps

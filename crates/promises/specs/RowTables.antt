@@ -18,7 +18,8 @@ use Rattle.call_texts.specs.Carets.{caretOf}
 use Rattle.call_edits.specs.Edits.{sizesIn}
 use Rattle.call_row_table.specs.Tables.{fillOf, sizesReply, numberOf, editOf}
 use Rattle.call_motion_rows.specs.Asks.{byTable}
-use Rattle.promises.specs.Calls.{Case, case, caret, caretTo, caretKept, motion, word, upright, remembering, viewport}
+use Rattle.promises.specs.Asking.{key, found}
+use Rattle.promises.specs.Calls.{Case, case, caret, missing, caretTo, caretKept, motion, word, upright, remembering, viewport}
 use Rattle.promises.specs.Buffers.{shown}
 
 -- a fill of n places that hold 9s: the rows with content, and the places
@@ -65,4 +66,5 @@ tabled =
     case "screen_kept_rows" (beside "a\nb" (remembering 1 1 2 [] "a\nb" 0 0 1 1)) (caretKept 1 0 1 1) (caretKept 1 0 0 0) (caretKept 0 0 1 1) ∷
     case "viewport_rows" (byTable (codes "a\nb\nc") (0 ∷ 2 ∷ 4 ∷ []) 3 (viewport 2 0 2)) (caret 1 0) (caret 0 0) (caret 2 0) ∷
     case "viewport_rows" (byTable (codes "a\nb\nc") (0 ∷ 4 ∷ 2 ∷ []) 3 (viewport 2 0 2)) (refused 16) (caret 1 0) (caret 2 0) ∷
+    case "seek_rows" (beside "(\n)" (key "(\n)" 0 0)) (answer (found 1 0)) (missing 0 0) (answer (found 0 0)) ∷
     []
