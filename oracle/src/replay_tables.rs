@@ -142,13 +142,14 @@ fn refused(call: &'static Call) -> Vec<Row> {
     rows
 }
 
-/// Random fills and edits of small pages, a text that is longer than its buffer, too many code points, each motion with every
-/// kind of table, and the refusals of each call of a host.
+/// Random fills and edits of small pages, tables that are too short, a text that is longer than its buffer, too many code
+/// points, each motion with every kind of table, and the refusals of each call of a host.
 pub fn tables() -> Vec<Row> {
     let mut rows: Vec<Row> = (0..FILLS).map(|index| random_fill(&mut Dice::new(SEED, index))).collect();
     let long = vec![0x61; 1_048_577];
     rows.push(fill(&long, &[]));
     rows.extend([0xD800, 0x0D].map(|bad| fill(&[bad], &[])));
+    rows.extend([("", 0), ("a\n", 1), ("\n\n", 2), ("a\n\nb", 2)].map(|(text, places)| fill(&crate::points(text), &vec![9; places])));
     rows.extend((0..EDITS).map(|index| random_edit(&mut Dice::new(SEED, index))));
     let page = |len, caret| Page { text: vec![0x61, 0x0A], folds: vec![], caret: [caret, 0, 1, 7, 1, 3], sizes: [len, 0] };
     let tabled = |len, caret| Tabled { page: page(len, caret), table: vec![9], content: 9 };
