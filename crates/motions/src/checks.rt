@@ -12,7 +12,7 @@ ghost use Rattle.motions.specs.WordMoves.{foldsOf};
 ghost use Rattle.motions.specs.Checks.{orStop, checked};
 
 // How many of the folds' numbers a word motion takes: all of them, but none for `ge`.
-pub(crate) fn taken(motion: Motion, folds: &[u32]) -> usize
+pub fn taken(motion: Motion, folds: &[u32]) -> usize
     ensures { λ r. ⌜ (r ≤ length (now (folds .entry))) ×
         (take r (now (folds .entry)) ≡ foldsOf motion (now (folds .entry))) ⌝ }
 {

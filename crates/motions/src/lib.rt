@@ -26,6 +26,7 @@ mod viewport_moves;
 mod within;
 mod word_moves;
 
+pub use checks::taken;
 pub use going::go_from;
 
 // A row, a column in it, which may be the row's character count, the sticky column, and the offset
@@ -139,8 +140,8 @@ impl Caret {
         positions::enter(t, p)
     }
 
-    // The caret at another row and column.
-    pub(crate) fn placed(self, row: usize, col: usize) -> Caret
+    // The caret at another row and column: its sticky column stays.
+    pub fn placed(self, row: usize, col: usize) -> Caret
         requires { ⌜ (row < 2 ^ 32) × (col < 2 ^ 32) ⌝ }
         ensures { λ r. ⌜ r ≡ placed self row col ⌝ }
     {

@@ -1,20 +1,24 @@
--- The class test by bounds and the ranges of the letters, all lent, and what it requires of them.
+-- The class test by bounds or flags and the ranges of the letters, all lent, and what it requires of them.
 -- Definitions only. Assumes nothing.
 use Prim.Native.Nat.{ℕ, _+_, _≤_}
 use mathlib.Core.Path.{_≡_}
 use mathlib.Core.List.{List}
-use mathlib.Core.Bool.{Bool, true}
-use lib.Dec.{leb}
-use lib.ListN.{length, take}
-use Rattle.letters.specs.Letters.{LetterRanges}
+use mathlib.Core.Bool.{Bool, true, cond, not, _&&_}
+use lib.Dec.{eqb, ltb, leb}
+use lib.ListN.{length, take, getD}
+use Rattle.letters.specs.Letters.{isLetter, LetterRanges}
 use Rattle.lists.specs.Lists.{any}
 use Rattle.keywords.specs.Flat.{flatHolds}
 use Rattle.word_kinds.specs.Places.{kindOf}
 use Rattle.word_kinds.specs.declared.Setting.{Setting}
 
--- the words by bounds that are lent, and the kinds
+-- the words by a flag for each code up to 255; above it the letters, or nothing
+unfoldable pub flagged : List ℕ → Bool → ℕ → Bool
+flagged flags letters x = cond (ltb x 256) (not (eqb (getD flags x 0) 0)) (letters && isLetter x)
+
+-- the words by what is lent, flags or pairs of bounds, and the kinds
 abbrev pub wordBy : List ℕ → Setting → ℕ → Bool
-wordBy bounds s = flatHolds (take (s .pairs + s .pairs) bounds) (s .letters)
+wordBy bounds s x = cond (s .flags) (flagged bounds (s .letters) x) (flatHolds (take (s .pairs + s .pairs) bounds) (s .letters) x)
 
 abbrev pub kindBy : List ℕ → Setting → ℕ → ℕ
 kindBy bounds s = kindOf (wordBy bounds s) (s .big)

@@ -10,11 +10,13 @@ pub struct Spot {
     pub at: usize,
 }
 
-// What a walk knows of the text and of the kinds: rows and rows with content, how many pairs of
-// bounds the keyword list has, whether letters are in it, and whether words are big.
+// What a walk knows of the text and of the kinds: rows and rows with content, whether the bounds are
+// a flag for each code up to 255, and else how many pairs of bounds the keyword list has, whether
+// letters are in it (by flags, those above 255), and whether words are big.
 pub struct Setting {
     pub rows: usize,
     pub content: usize,
+    pub flags: bool,
     pub pairs: usize,
     pub letters: bool,
     pub big: bool,

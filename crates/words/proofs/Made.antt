@@ -1,12 +1,9 @@
--- What a walk goes by where `prepare` made it. Assumes nothing.
+-- What a walk goes by where it was made before. Assumes nothing.
 use mathlib.Core.Path.{_≡_, ap, _∙_}
 use mathlib.Core.List.{List}
 use mathlib.Core.Bool.{Bool}
 use Prim.Native.Nat.{ℕ}
 use Rattle.text.specs.declared.Position.{Position}
-use Rattle.list_tokens.specs.Tokens.{anyToken}
-use Rattle.keywords.specs.declared.KeywordSpec.{KeywordSpec}
-use Rattle.keywords.specs.Table.{kept}
 use Rattle.word_kinds.specs.Places.{kindOf}
 use Rattle.word_kinds.specs.Lent.{kindBy}
 use Rattle.word_kinds.specs.declared.Spot.{Spot}
@@ -16,7 +13,7 @@ use Rattle.word_rounds.specs.Turns.{Folded}
 use Rattle.words.specs.declared.Prepared.{Prepared}
 use Rattle.words.specs.Prepared.{Prepares}
 
-module _ {t : List ℕ} {spec : KeywordSpec} {big : Bool} {rows content : ℕ} {r : Prepared} (made : Prepares t spec big rows content r) where
+module _ {t : List ℕ} {word : ℕ → Bool} {big : Bool} {rows content : ℕ} {r : Prepared} (made : Prepares t word big rows content r) where
   pub made-folded : {folds : List ℕ} {p : Spot} → Folded t folds rows content p → Folded t folds (r .setting .rows) (r .setting .content) p
   made-folded f =
       record {
@@ -28,7 +25,7 @@ module _ {t : List ℕ} {spec : KeywordSpec} {big : Bool} {rows content : ℕ} {
 
   pub made-motion : (folds : List ℕ) (m : Motion) (stop : Bool) (count : ℕ) (p : Position) →
       wordMotion t folds (kindBy (r .bounds) (r .setting)) (r .setting .big) m stop count p ≡
-      wordMotion t folds (kindOf (anyToken (kept spec)) big) big m stop count p
+      wordMotion t folds (kindOf word big) big m stop count p
   made-motion folds m stop count p =
       ap (λ (kind : ℕ → ℕ). wordMotion t folds kind (r .setting .big) m stop count p) (made .kinds) ∙
-      ap (λ (b : Bool). wordMotion t folds (kindOf (anyToken (kept spec)) big) b m stop count p) (made .is-big)
+      ap (λ (b : Bool). wordMotion t folds (kindOf word big) b m stop count p) (made .is-big)

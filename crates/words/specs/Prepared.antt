@@ -6,9 +6,6 @@ use mathlib.Core.Bool.{Bool, false, _||_}
 use lib.Dec.{ltb}
 use lib.ListN.{length}
 use Rattle.lists.specs.Lists.{any}
-use Rattle.list_tokens.specs.Tokens.{anyToken}
-use Rattle.keywords.specs.declared.KeywordSpec.{KeywordSpec}
-use Rattle.keywords.specs.Table.{kept}
 use Rattle.word_kinds.specs.Places.{kindOf}
 use Rattle.word_kinds.specs.Lent.{kindBy, isHigh}
 use Rattle.words.specs.declared.Prepared.{Prepared}
@@ -17,9 +14,10 @@ use Rattle.words.specs.declared.Prepared.{Prepared}
 unfoldable pub needsLetters : List ℕ → Bool
 needsLetters t = ltb 8192 (length t) || any isHigh t
 
--- the kinds by the bounds are those by the list's tokens, the numbers those handed in, and where `high` is false the text does not need the ranges of the letters
-pub record Prepares (t : List ℕ) (spec : KeywordSpec) (big : Bool) (rows content : ℕ) (r : Prepared) : Type 0 where
-  pub kinds : kindBy (r .bounds) (r .setting) ≡ kindOf (anyToken (kept spec)) big
+-- the kinds by the bounds are those by `word`, which is what the list holds, the numbers those handed in, and where `high` is false the text does not need
+-- the ranges of the letters
+pub record Prepares (t : List ℕ) (word : ℕ → Bool) (big : Bool) (rows content : ℕ) (r : Prepared) : Type 0 where
+  pub kinds : kindBy (r .bounds) (r .setting) ≡ kindOf word big
   pub room : r .setting .pairs + r .setting .pairs ≤ length (r .bounds)
   pub is-big : r .setting .big ≡ big
   pub all-rows : r .setting .rows ≡ rows

@@ -9,15 +9,17 @@ use word_kinds::Spot;
 use word_rounds::Motion;
 use word_rounds::Round;
 ghost use mathlib.Core.Path.{_≡_};
+ghost use mathlib.Core.Bool.{false};
 ghost use Prim.Native.Nat.{_+_, _-_, _≤_, max};
 ghost use lib.ListN.{length};
+ghost use Rattle.lists.specs.Lists.{any};
 ghost use Rattle.list_tokens.specs.Tokens.{anyToken};
 ghost use Rattle.keywords.specs.Table.{kept};
 ghost use Rattle.word_kinds.specs.Places.{kindOf};
 ghost use Rattle.word_rounds.specs.Rounds.{wordMotion};
 ghost use Rattle.word_kinds.specs.Spots.{placeOf, IsSpot};
 ghost use Rattle.word_rounds.specs.Turns.{Folded, Set};
-ghost use Rattle.word_kinds.specs.Lent.{kindBy};
+ghost use Rattle.word_kinds.specs.Lent.{kindBy, isHigh};
 
 // How many rounds follow the first: count 0 acts as 1.
 fn rest(count: u32) -> u32
@@ -89,9 +91,37 @@ fn walk_with_letters(
     )
 }
 
-// A word motion from a place of a text with so many rows, and rows with content. The ranges of the
-// letters are lent where the text may need them, and else other numbers, which are then not read as
-// letters.
+// The same by what was made for the text. The ranges of the letters are lent where the text may need
+// them, `high`, and else other numbers, which are then not read as letters.
+pub fn walk_made(
+    t: &[u32],
+    folds: &[u32],
+    bounds: &[u32; 256],
+    s: Setting,
+    high: bool,
+    m: Motion,
+    stop: bool,
+    count: u32,
+    p: Spot,
+) -> Spot
+    requires { ⌜ (s .pairs + s .pairs ≤ length (now bounds)) ×
+        (high ≡ false → any isHigh (now t) ≡ false) ×
+        Folded (now t) (now folds) (s .rows) (s .content) p ⌝ }
+    ensures { λ r.
+        ⌜ (placeOf (now (t .entry)) r ≡
+        wordMotion (now (t .entry)) (now (folds .entry)) (kindBy (now (bounds .entry)) s)
+        (s .big) m stop count (placeOf (now (t .entry)) p)) ×
+        IsSpot (now (t .entry)) r ⌝ }
+{
+    if high {
+        return walk_with_letters(t, folds, bounds, s, m, stop, count, p);
+    }
+    let starts = [0u32; 1];
+    let lengths = [0u16; 1];
+    walk(t, folds, bounds, &starts, &lengths, s, m, stop, count, p)
+}
+
+// A word motion from a place of a text with so many rows, and rows with content.
 pub fn word_motion(
     t: &[u32],
     folds: &[u32],
@@ -114,10 +144,5 @@ pub fn word_motion(
     let made = prepare(t, spec, big, rows, content);
     let bounds = made.bounds;
     let s = made.setting;
-    if made.high {
-        return walk_with_letters(t, folds, &bounds, s, m, stop, count, p);
-    }
-    let starts = [0u32; 1];
-    let lengths = [0u16; 1];
-    walk(t, folds, &bounds, &starts, &lengths, s, m, stop, count, p)
+    walk_made(t, folds, &bounds, s, made.high, m, stop, count, p)
 }

@@ -10,7 +10,9 @@ mod once;
 mod rounds;
 
 pub use entry::walk;
+pub use entry::walk_made;
 pub use entry::word_motion;
+pub use once::needs_letters;
 pub use once::prepare;
 pub use rounds::rounds_from;
 

@@ -5,6 +5,8 @@ use word_kinds::Setting;
 ghost use mathlib.Core.Path.{_≡_};
 ghost use Prim.Native.Nat.{_≤_};
 ghost use Rattle.lists.specs.Lists.{any};
+ghost use Rattle.list_tokens.specs.Tokens.{anyToken};
+ghost use Rattle.keywords.specs.Table.{kept};
 ghost use Rattle.word_kinds.specs.Lent.{isHigh};
 ghost use Rattle.words.specs.Prepared.{Prepares, needsLetters};
 
@@ -26,7 +28,7 @@ fn has_high(t: &[u32]) -> bool
 
 // Whether the ranges of the letters are to be lent: where the text has a code point for which they
 // are read, or is so long that to look for one takes longer than to make them.
-fn needs_letters(t: &[u32]) -> bool
+pub fn needs_letters(t: &[u32]) -> bool
     ensures { λ r. ⌜ r ≡ needsLetters (now (t .entry)) ⌝ }
 {
     if t.len() > LONG {
@@ -39,12 +41,13 @@ fn needs_letters(t: &[u32]) -> bool
 // The rows of the text, and those with content, are handed in.
 pub fn prepare(t: &[u32], spec: KeywordSpec, big: bool, rows: usize, content: usize) -> Prepared
     requires { ⌜ spec .len ≤ 128 ⌝ }
-    ensures { λ r. ⌜ Prepares (now (t .entry)) spec big rows content r ⌝ }
+    ensures { λ r. ⌜ Prepares (now (t .entry)) (anyToken (kept spec)) big rows content r ⌝ }
 {
     let bounds = keywords::bounds_of(spec);
     let s = Setting {
         rows: rows,
         content: content,
+        flags: false,
         pairs: spec.len,
         letters: keywords::letters_of(spec),
         big: big,
