@@ -1,0 +1,4 @@
+pub mod Telling
+pub mod Above
+pub mod Refusing
+pub mod Alike

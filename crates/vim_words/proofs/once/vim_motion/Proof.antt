@@ -1,0 +1,23 @@
+-- `vim_words::once::vim_motion` meets its contract: what was made is what the walk goes by. Assumes nothing.
+use mathlib.Core.Path.{_∙_}
+use Rattle.word_kinds.specs.Spots.{placeOf}
+use Rattle.words.proofs.Made.{made-folded, made-motion}
+use borrow.Author.Needs.{needs}
+use Rattle.vim_words.proofs.once.vim_motion.Statement.{statement}
+use Rattle.vim_words.proofs.once.vim_motion.Tie as tie
+
+walk-made-requires : tie.Need-walk-made-requires
+walk-made-requires c κs =
+    let prepared = c .before .before .before in
+    let made = prepared .prepare-vim .ensures in
+    (made .room, made .none-high, made-folded made (prepared .before .before .before .pre .0))
+
+returns : tie.Need-returns
+returns c =
+    let prepared = c .before .before .before .before in
+    let given = prepared .before .before .before .args in
+    let motion = made-motion (prepared .prepare-vim .ensures) (given .folds .now) (given .m) (given .stop) (given .count) (placeOf (given .t .now) (given .p)) in
+    (c .walk-made .ensures .0 ∙ motion, c .walk-made .ensures .1)
+
+pub vim-motion-spec : {M : Type 1} → statement M
+vim-motion-spec = tie.close (tie.spec (λ c κs. search needs) walk-made-requires returns)

@@ -1,0 +1,30 @@
+-- The word motions by a Vim list: the first engine's, `moveWord`, with the set of the list's tokens in place of the first reader's. Document 02, #108.
+-- Definitions only; on a list that both readers read alike the two answer the same: `alike` in `proofs/Alike.antt`. Assumes nothing.
+use Prim.Native.Nat.{ℕ}
+use mathlib.Core.List.{List}
+use mathlib.Core.Bool.{Bool, cond}
+use lib.Dec.{eqb}
+use Rattle.positions.specs.Positions.{refusalFolds}
+use Rattle.vim_grammar.specs.Tokens.{inVim}
+use Rattle.vim_reader.specs.declared.VimRead.{VimRead}
+use Rattle.vim_reader.specs.Table.{kept, readOf}
+use Rattle.word_rounds.specs.declared.Motion.{Motion}
+use Rattle.motions.specs.declared.Caret.{Caret}
+use Rattle.motions.specs.Carets.{here}
+use Rattle.motions.specs.WordMoves.{wordCaret}
+use Rattle.vim_words.specs.declared.VimMoved.{VimMoved}
+use Rattle.vim_words.specs.declared.VimMoved.the-variants.{To, Bad, Refused}
+
+-- the characters of a list
+abbrev pub inVimList : List ℕ → ℕ → Bool
+inVimList list = inVim (kept (readOf list .spec))
+
+-- a caret, or what the list is refused with: 7, 17 with its place, 8
+unfoldable pub byRead : VimRead → Caret → VimMoved
+byRead r k = cond (eqb (r .refusal) 0) (To k) (cond (eqb (r .refusal) 17) (Bad (r .place)) (Refused (r .refusal)))
+
+-- text, caret and folds are refused before the list
+unfoldable pub wordByVim : List ℕ → List ℕ → List ℕ → Bool → Motion → Bool → ℕ → Caret → VimMoved
+wordByVim t folds list big m stop count k =
+    let f = refusalFolds t folds (here k) in
+    cond (eqb f 0) (byRead (readOf list) (wordCaret t folds (inVimList list) big m stop count k)) (Refused f)
