@@ -68,6 +68,10 @@ static void nothing_is_null(void) {
     SAYS("words, all null", tsivareza_word_u32(TSIVAREZA_MOVE_WORD_FWD, none, 0, none, 0, none, 0, 0, 0, 0, 0, 0, 1, out), 0, 0, 0, 0);
     SAYS("words, all null, on bytes",
          tsivareza_word(TSIVAREZA_MOVE_WORD_BACK, bytes, 0, bytes, 0, bytes, 0, places, 0, 0, 0, 0, 0, 0, 1, out), 0, 0, 0, 0);
+    SAYS("words by a null Vim list",
+         (uint32_t)tsivareza_word_vim_u32(TSIVAREZA_MOVE_WORD_FWD, none, 0, none, 0, none, 0, 0, 0, 0, 0, 0, 1, out), 0, 0, 0, 0);
+    SAYS("words by a null Vim list on bytes",
+         (uint32_t)tsivareza_word_vim(TSIVAREZA_MOVE_WORD_BACK, bytes, 0, bytes, 0, bytes, 0, places, 0, 0, 0, 0, 0, 0, 1, out), 0, 0, 0, 0);
     REFUSES("null classes", tsivareza_word_classes_u32(none, 0, none, 0, written, 0, out), 14);
     REFUSES("null classes on bytes", tsivareza_word_classes(bytes, 0, bytes, 0, places, 0, written, 0, out), 14);
     REFUSES("words by null classes",
@@ -244,6 +248,17 @@ int main(void) {
     SAYS("a Vim list written", (uint32_t)tsivareza_vim_write_u32(vim_list, 8, vim_written, 8, out), 7);
     expect("without its zeros", 0, 0, vim_written, vim_plain, 8);
     SAYS("and from bytes", (uint32_t)tsivareza_vim_write(vim_bytes, 8, room, 2, vim_written, 2, out), 2);
+
+    /* The word motions by a list of Vim's: a word of a to c but b, and 17 with its place. */
+    static const uint32_t vim_text[] = {'a', 'b', 'c', ' ', 'a'};
+    SAYS("w by a Vim list",
+         (uint32_t)tsivareza_word_vim_u32(TSIVAREZA_MOVE_WORD_FWD, vim_text, 5, none, 0, vim_list, 8, 0, 0, 0, 0, 0, 1, out), 0, 1, 0, 0);
+    SAYS("W by a Vim list",
+         (uint32_t)tsivareza_word_vim_u32(TSIVAREZA_MOVE_WORD_FWD, vim_text, 5, none, 0, vim_list, 8, 0, 0, 0, 0, 1, 1, out), 0, 4, 0, 0);
+    REFUSES("w by a Vim list that goes wrong",
+            (uint32_t)(told = tsivareza_word_vim(TSIVAREZA_MOVE_WORD_FWD, nothing, 0, nothing, 0, vim_bytes, 12, room, 3, 0, 0, 0, 0, 0, 1, out)),
+            17);
+    expect("the place where it does", (uint32_t)(told >> 32), 2, out, out, 0);
 
     /* The second engine: the classes of the places, and the motions by them. */
     static const uint8_t branch_classes[] = {0, 0, 2, 1, 0, 1, 2, 1, 4, 1, 4, 7};

@@ -274,6 +274,17 @@ uint32_t tsivareza_word_by_class(uint32_t op, const uint8_t *text, size_t text_l
                                  uint32_t sticky, uint32_t big, uint32_t count, uint8_t *classes,
                                  size_t classes_len, uint32_t out[4]);
 
+/* A word motion by a list of Vim's grammar, by the numbers of tsivareza_word. The answer's low half is a
+ * refusal's number, in the list's place 7, 17, 8; its high half the place that 17 has. */
+uint64_t tsivareza_word_vim_u32(uint32_t op, const uint32_t *text, size_t text_len, const uint32_t *folds,
+                                size_t folds_len, const uint32_t *list, size_t list_len, uint32_t row,
+                                uint32_t col, uint32_t held, uint32_t sticky, uint32_t big, uint32_t count,
+                                uint32_t out[4]);
+uint64_t tsivareza_word_vim(uint32_t op, const uint8_t *text, size_t text_len, const uint8_t *folds,
+                            size_t folds_len, const uint8_t *list, size_t list_len, uint32_t *room,
+                            size_t room_len, uint32_t row, uint32_t col, uint32_t held, uint32_t sticky,
+                            uint32_t big, uint32_t count, uint32_t out[4]);
+
 /* Up, down and the screen; mode and width matter to the screen moves alone, but a mode above 2 is 100
  * for up and down too. */
 enum {

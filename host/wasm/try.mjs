@@ -145,6 +145,8 @@ const GROUPS = {
         const { number, out } = engine.call("tsivareza_session", { input: Uint8Array.from(text), out: new Uint8Array(393240) });
         return [Array.from(out.subarray(0, number))];
     },
+    103: ({ op, n, text, folds, list }) =>
+        forms("word_vim", { op, text, folds, list, ...caret(n), count: n[4], big: n[5] }, ["text", "folds", "list"], ["out"], true),
 };
 
 const caret = ([row, col, held, sticky]) => ({ row, col, held, sticky });

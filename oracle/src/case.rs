@@ -146,6 +146,12 @@ fn classed(k: &Case, first: Result<crate::Caret, u32>) -> Outcome {
     outcome(answer, |(caret, slice)| Outcome::Classed(caret, slice))
 }
 
+/// By a Vim list what the given Rust answers on the text of letters and marks.
+fn by_vim(k: &Case, folds: bool, given: impl Fn(&[u32], Words) -> Result<crate::Caret, u32>) -> Outcome {
+    let taken = folds.then_some(&k.folds[..]);
+    placed(vim::word_by_vim(&k.text, k.caret, taken, &k.list, |text, list| given(text, Words { list, ..words(k) })), Outcome::Moved)
+}
+
 fn words(k: &Case) -> Words<'_> {
     Words { folds: &k.folds, list: &k.list, big: k.big }
 }
@@ -184,7 +190,7 @@ macro_rules! wide {
 }
 
 /// Every public call, those on widths also with the flag.
-pub static CALLS: [Call; 79] = [
+pub static CALLS: [Call; 83] = [
     call!(content_row_count [Text] |k| outcome(calls::content_row_count(&k.text), |n| Outcome::Number(n.into()))),
     counted!(move_left),
     counted!(move_right_in_line),
@@ -272,6 +278,14 @@ pub static CALLS: [Call; 79] = [
         |k| classed(k, calls::move_word_end(&k.text, k.caret, words(k), k.count, k.stop))),
     call!(word_end_back_by_class [Text, Caret, List, Big, Count, Room]
         |k| classed(k, calls::move_word_end_back(&k.text, k.caret, words(k), k.count))),
+    call!(word_fwd_by_vim [Text, Caret, Folds, List, Big, Count]
+        |k| by_vim(k, true, |text, words| calls::move_word_fwd(text, k.caret, words, k.count))),
+    call!(word_back_by_vim [Text, Caret, Folds, List, Big, Count]
+        |k| by_vim(k, true, |text, words| calls::move_word_back(text, k.caret, words, k.count))),
+    call!(word_end_by_vim [Text, Caret, Folds, List, Big, Stop, Count]
+        |k| by_vim(k, true, |text, words| calls::move_word_end(text, k.caret, words, k.count, k.stop))),
+    call!(word_end_back_by_vim [Text, Caret, List, Big, Count]
+        |k| by_vim(k, false, |text, words| calls::move_word_end_back(text, k.caret, words, k.count))),
     wide!(width_wide [Character]),
     wide!(visual_col_to_char_col_wide [Line, Column, Tabstop]),
     wide!(char_col_to_visual_col_wide [Line, Column, Tabstop]),

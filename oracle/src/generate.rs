@@ -189,9 +189,14 @@ fn retires(call: &Call) -> bool {
     matches!(call.name, "enter" | "enter_matches" | "without_plus")
 }
 
-/// Calls on Vim's own lists.
+/// Calls on Vim's own lists, and the word motions by them.
 fn by_vim(call: &Call) -> bool {
-    call.name.starts_with("vim_")
+    call.name.starts_with("vim_") || words_by_vim(call)
+}
+
+/// The word motions by a Vim list.
+pub fn words_by_vim(call: &Call) -> bool {
+    call.name.ends_with("_by_vim")
 }
 
 /// Parts of Vim's lists; behind them what no part is.
@@ -428,6 +433,8 @@ fn families(call: &Call) -> Vec<Family> {
         _ if takes(Input::Offset) => vec![("a \u{3042}\n", 5, true)],
         _ if takes(Input::End) => vec![(ROW, 4, false)],
         _ if takes(Input::Line) => vec![(ROW, 5, false)],
+        _ if words_by_vim(call) && takes(Input::Folds) => vec![("ab. \n\u{E9}", 4, false), ("ab \n\u{3B1}", 3, true)],
+        _ if words_by_vim(call) => vec![("ab. \n\u{E9}", 4, false)],
         _ if takes(Input::Big) && takes(Input::Folds) => vec![("a. \n\u{A0}", 5, false), ("a. \n\u{A0}", 4, true)],
         _ if takes(Input::Big) || classes(call) => vec![("a. \n\u{A0}", 5, false)],
         _ if takes(Input::Folds) => vec![("a\t\u{3042}\n", 5, false), ("a\t\u{3042}\n", 4, true)],
@@ -444,6 +451,9 @@ const WIDE_ROW: &str = "a \t\u{2192}\u{B0}\u{301}\u{3042}";
 const LIST: &str = "@,-+049a_ \u{3000}";
 const SIGNED: &str = "+-,4@ ";
 const VIM: &str = "^@-,z025 ";
+
+/// The lists of the word motions by Vim lists on small texts; the last two are none of the grammar.
+const VIM_LISTS: [&str; 9] = ["@", "@,^a-z", "a-c,^b", "^@,48-57", ",", "", "@,^@,.,233", "a,", "b-a"];
 
 /// Every case of a call with a small text and small numbers; `most` caps the length of texts and lists.
 pub fn small(call: &'static Call, most: usize, mut visit: impl FnMut(&Case)) {
@@ -529,6 +539,9 @@ fn small_on(call: &'static Call, text: &[u32], folds: &[u32]) -> Vec<Case> {
     if takes(Input::Wrap) {
         cases = each(cases, &[0, 1, 2, 3, 4, 5, 6], |k, n| k.view.width = n);
         cases = each(cases, &[Wrap::None, Wrap::Char, Wrap::Word], |k, wrap| k.view.wrap = wrap);
+    }
+    if words_by_vim(call) {
+        cases = each(cases, &VIM_LISTS, |k, list| k.list = points(list));
     }
     if classes(call) {
         if takes(Input::List) && !takes(Input::Caret) {
@@ -741,6 +754,15 @@ pub fn limits(call: &'static Call) -> Vec<Case> {
         }
         add(&|k| (k.list, k.character) = (vec![0xD800, 0x2C], 0xD800));
         add(&|k| (k.list, k.character) = (points("a,"), 0xD800));
+    }
+    // 17 beside each lower refusal
+    if words_by_vim(call) {
+        for put in [|k: &mut Case| k.text.push(0x0D), |k: &mut Case| k.caret.row = 7, |k: &mut Case| k.folds = vec![1]] {
+            add(&|k| {
+                k.list = points("a,");
+                put(k);
+            });
+        }
     }
     if takes(Input::Segments) {
         for n in 0..4 {

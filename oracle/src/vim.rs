@@ -1,6 +1,10 @@
 //! Vim's own keyword lists, which the given Rust does not have: from document 02, #108, and the grammar of Vim's `options.txt`
 //! (For Vim version 9.0. Last change: 2023 Feb 17, 'isfname'), each line of it a function. A list is cut at its commas in every
-//! way that leaves parts of the grammar; the beginnings of lists are found by trying tails.
+//! way that leaves parts of the grammar; the beginnings of lists are found by trying tails. The word motions by such a list are the
+//! given Rust's, on the text with a letter for each character that the list holds and a mark for every other one.
+
+use crate::refusals::{Inputs, refusal};
+use crate::Caret;
 
 /// An end of a range or a single: its code, and how it is spelt.
 #[derive(Clone, Copy, Debug, PartialEq, Eq)]
@@ -139,15 +143,44 @@ pub fn vim_parse(list: &[u32]) -> Result<u32, (u32, u32)> {
     read(list).map(|tokens| tokens.len() as u32)
 }
 
-/// Whether the list holds a character: the last token that speaks of it decides.
-pub fn vim_matches(list: &[u32], x: u32) -> Result<bool, (u32, u32)> {
-    let c = char::from_u32(x).ok_or((2, 0))?;
+/// Whether tokens hold a character: the last one that speaks of it decides.
+fn holds(tokens: &[Token], c: char) -> bool {
+    let x = u32::from(c);
     let speaks = |token: &&Token| match token.item {
         Item::Letters => c.is_alphabetic(),
         Item::Single(end) => end.code() == x,
         Item::Range(low, high) => (low.code()..=high.code()).contains(&x),
     };
-    read(list).map(|tokens| tokens.iter().rev().find(speaks).is_some_and(|token| !token.excludes))
+    tokens.iter().rev().find(speaks).is_some_and(|token| !token.excludes)
+}
+
+/// Whether the list holds a character.
+pub fn vim_matches(list: &[u32], x: u32) -> Result<bool, (u32, u32)> {
+    let c = char::from_u32(x).ok_or((2, 0))?;
+    read(list).map(|tokens| holds(&tokens, c))
+}
+
+/// A word motion by a list, as `given` makes it by the list `@` on the text of letters and marks: text, caret and the folds that
+/// it takes are refused first, then the list with 7, 17, 8.
+pub fn word_by_vim(
+    text: &[u32],
+    caret: Caret,
+    folds: Option<&[u32]>,
+    list: &[u32],
+    given: impl FnOnce(&[u32], &[u32]) -> Result<Caret, u32>,
+) -> Result<Caret, (u32, u32)> {
+    match refusal(&Inputs { text: Some(text), caret: Some((caret.row, caret.col)), folds, ..Inputs::default() }) {
+        0 => {}
+        number => return Err((number, 0)),
+    }
+    let tokens = read(list)?;
+    let shown = |&x: &u32| match char::from_u32(x).expect("a scalar value") {
+        c if c.is_whitespace() => x,
+        c if holds(&tokens, c) => 'a' as u32,
+        _ => '!' as u32,
+    };
+    let shown: Vec<u32> = text.iter().map(shown).collect();
+    given(&shown, &[AT]).map_err(|number| (number, 0))
 }
 
 /// The list written again into so many places, each end as it was spelt.

@@ -58,7 +58,7 @@ fn the_stored_list_is_current() {
     let said = format!("{0} cases, {0} agree\n", list.len());
     assert_eq!(include_str!("../../crates/replay/stdout"), said);
 
-    for call in &CALLS {
+    for call in CALLS.iter().filter(|call| replay::stored(call)) {
         let (mut answered, mut refused) = (0, BTreeSet::new());
         for row in list.iter().filter(|row| row.call == call.name) {
             match row.outcome {

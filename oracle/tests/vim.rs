@@ -87,3 +87,23 @@ fn written_again() {
     let long = vec!["^d-z"; 128].join(",");
     assert_eq!(vim::vim_write(&points(&long), 639), Ok(points(&long)));
 }
+
+/// The word motions by a list: column by column over `abc é.`, by lists that differ in one character.
+#[test]
+fn words() {
+    let text = points("abc \u{E9}.");
+    let to = |list: &str, col: u32| {
+        let caret = oracle::Caret::at(0, col);
+        let given = |text: &[u32], list: &[u32]| {
+            oracle::calls::move_word_fwd(text, caret, oracle::calls::Words { folds: &[], list, big: false }, 1)
+        };
+        vim::word_by_vim(&text, caret, Some(&[]), &points(list), given).map(|k| k.col)
+    };
+    let row = |list: &str| (0..6).map(|col| to(list, col).unwrap()).collect::<Vec<_>>();
+    assert_eq!(row("@"), [4, 4, 4, 4, 5, 6]);
+    assert_eq!(row("@,^b"), [1, 2, 4, 4, 5, 6]);
+    assert_eq!(row("a-c"), [4, 4, 4, 4, 6, 6]);
+    assert_eq!(row(" ,."), [4, 4, 4, 4, 5, 6]);
+    assert_eq!(to("a,", 0), Err((17, 2)));
+    assert_eq!(to("a,", 7), Err((4, 0)));
+}

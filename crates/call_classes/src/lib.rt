@@ -4,6 +4,7 @@
 mod terms;
 mod written;
 
+pub use terms::term_of;
 pub use terms::word_by_class;
 use word_rounds::Motion;
 pub use written::word_classes;

@@ -13,7 +13,7 @@ ghost use Rattle.call_classes.specs.ByTerm.{termOf, byTerm, leftBy, word
 
 // The word motion that a number stands for, as in `tsivareza_word`: 0 `w`, 1 `b`, 2 and 3 `e` with
 // stop off and on, 4 `ge`, which takes no folds.
-fn term_of(op: u32) -> Term
+pub fn term_of(op: u32) -> Term
     ensures { λ r. ⌜ r ≡ termOf op ⌝ }
 {
     match op {

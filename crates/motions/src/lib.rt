@@ -140,8 +140,8 @@ impl Caret {
         positions::enter(t, p)
     }
 
-    // The caret at another row and column: its sticky column stays.
-    pub fn placed(self, row: usize, col: usize) -> Caret
+    // The caret at another row and column.
+    pub(crate) fn placed(self, row: usize, col: usize) -> Caret
         requires { ⌜ (row < 2 ^ 32) × (col < 2 ^ 32) ⌝ }
         ensures { λ r. ⌜ r ≡ placed self row col ⌝ }
     {

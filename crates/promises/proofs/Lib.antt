@@ -22,3 +22,4 @@ pub mod Remembering
 pub mod ByClass
 pub mod RowTables
 pub mod Jumps
+pub mod ByVim

@@ -15,3 +15,4 @@ pub mod Remembering
 pub mod ByClass
 pub mod RowTables
 pub mod Jumps
+pub mod ByVim

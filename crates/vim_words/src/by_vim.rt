@@ -8,16 +8,25 @@ use word_kinds::Spot;
 use word_rounds::Motion;
 ghost use mathlib.Core.Path.{_≡_};
 ghost use mathlib.Core.Bool.{true};
-ghost use Prim.Native.Nat.{_≤_};
+ghost use Prim.Native.Nat.{_≤_, _<_, _^_};
 ghost use Rattle.text.specs.Text.{rowCount};
 ghost use Rattle.folds.specs.Folds.{foldRefusal};
 ghost use Rattle.positions.specs.Positions.{Accepted};
 ghost use Rattle.vim_grammar.specs.Tokens.{inVim};
 ghost use Rattle.vim_reader.specs.Table.{kept};
-ghost use Rattle.motions.specs.Carets.{here};
+ghost use Rattle.motions.specs.Carets.{here, placed};
 ghost use Rattle.motions.specs.WordMoves.{foldsOf, wordCaret};
 ghost use Rattle.vim_words.specs.Flags.{lowEnds};
 ghost use Rattle.vim_words.specs.ByVim.{wordByVim};
+
+// The caret at another row and column: its sticky column stays.
+fn placed(k: Caret, row: usize, col: usize) -> Caret
+    requires { ⌜ (row < 2 ^ 32) × (col < 2 ^ 32) ⌝ }
+    ensures { λ r. ⌜ r ≡ placed k row col ⌝ }
+{
+    let s = k.sticky;
+    Caret::at(row as u32, col as u32, s)
+}
 
 // Where a word motion leads to, of inputs that were accepted.
 fn to_word(
@@ -43,7 +52,7 @@ fn to_word(
     };
     let r = vim_motion(t, own, spec, big, e.rows, e.content, m, stop, count, from);
     let l = text::offsets::up(t, r.row, r.at, 0);
-    k.placed(r.row, r.at - l.start)
+    placed(k, r.row, r.at - l.start)
 }
 
 // A word motion by a Vim list: where it leads to, or why not. By `a-c` `w` leads from column 0 of

@@ -78,6 +78,16 @@ pub fn port(case: &Case, mut room: Option<&mut Room>) -> Outcome {
     if let Some(which) = word_by_class(case) {
         return classed(case, which, k, room);
     }
+    if let Some(which) = word_by_vim(case) {
+        let (count, big, folds) = (case.count, case.big, &case.folds);
+        let on_bytes = room.map(|room| {
+            let words = Words { folds: &bytes(folds)[..], list: &bytes(list)[..], big };
+            room.word_vim(which, &bytes(text), k, words, count)
+        });
+        let on_points = lib::word_vim(which, text, k, Words { folds: &folds[..], list: &list[..], big }, count);
+        let moved = both(case, on_points, on_bytes);
+        return moved.map_or_else(|(number, place)| Outcome::refused_at(number, place), |k| Outcome::Moved(caret(k)));
+    }
     let mut keywords = |asked| {
         let on_bytes = room.as_mut().map(|room| room.keywords(asked, &bytes(list)));
         both(case, lib::keywords(asked, list), on_bytes)
@@ -237,6 +247,16 @@ fn word_by_class(case: &Case) -> Option<Word> {
         "word_back_by_class" => Some(Word::Back),
         "word_end_by_class" => Some(Word::End { stop: case.stop }),
         "word_end_back_by_class" => Some(Word::EndBack),
+        _ => None,
+    }
+}
+
+fn word_by_vim(case: &Case) -> Option<Word> {
+    match case.call.name {
+        "word_fwd_by_vim" => Some(Word::Fwd),
+        "word_back_by_vim" => Some(Word::Back),
+        "word_end_by_vim" => Some(Word::End { stop: case.stop }),
+        "word_end_back_by_vim" => Some(Word::EndBack),
         _ => None,
     }
 }

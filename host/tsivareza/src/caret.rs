@@ -5,7 +5,7 @@
 
 use crate::{
     Caret, Cells, Folds, Ground, Jump, Kept, KeywordList, Motion, Refusal, ScreenKept, Seek, Steps, Text, Vertical, Viewport,
-    ViewportMove, Word, Words, jumps, motion_rows, screen_kept_rows, seek_rows, vertical_rows, viewport_rows, word_rows,
+    ViewportMove, Word, WordList, jumps, motion_rows, screen_kept_rows, seek_rows, vertical_rows, viewport_rows,
 };
 
 impl Caret {
@@ -207,11 +207,6 @@ impl Caret {
         self.seen(ViewportMove::Bottom { top: viewport.top, height: viewport.height, offset }, text)
     }
 
-    fn by_words(self, which: Word, text: &Text, folds: &Folds, list: &KeywordList, big: bool, count: u32) -> Result<Caret, Refusal> {
-        let words = Words { folds: folds.numbers(), list: list.points(), big };
-        word_rows(which, text.points(), text.table(), self, words, count).map_err(Refusal::plain)
-    }
-
     /// `w`, or `W` where `big`: words forward; a closed fold is jumped at each round. [`Refusal::Caret`], [`Refusal::Folds`].
     ///
     /// ```
@@ -222,8 +217,8 @@ impl Caret {
     /// assert_eq!(Caret::at(0, 0).move_word_fwd(&text, &none, &list, true, 2)?, Caret::at(0, 7));
     /// # Ok::<(), tsivareza::Refusal>(())
     /// ```
-    pub fn move_word_fwd(self, text: &Text, folds: &Folds, list: &KeywordList, big: bool, count: u32) -> Result<Caret, Refusal> {
-        self.by_words(Word::Fwd, text, folds, list, big, count)
+    pub fn move_word_fwd(self, text: &Text, folds: &Folds, list: &impl WordList, big: bool, count: u32) -> Result<Caret, Refusal> {
+        list.moved(Word::Fwd, self, text, folds, big, count)
     }
 
     /// `b`, or `B` where `big`: words back. [`Refusal::Caret`], [`Refusal::Folds`].
@@ -235,8 +230,8 @@ impl Caret {
     /// assert_eq!(Caret::at(0, 7).move_word_back(&text, &none, &list, true, 1)?, Caret::at(0, 3));
     /// # Ok::<(), tsivareza::Refusal>(())
     /// ```
-    pub fn move_word_back(self, text: &Text, folds: &Folds, list: &KeywordList, big: bool, count: u32) -> Result<Caret, Refusal> {
-        self.by_words(Word::Back, text, folds, list, big, count)
+    pub fn move_word_back(self, text: &Text, folds: &Folds, list: &impl WordList, big: bool, count: u32) -> Result<Caret, Refusal> {
+        list.moved(Word::Back, self, text, folds, big, count)
     }
 
     /// `e`, or `E` where `big`: to the end of a word; with `stop` the first round may stay where it is on one, as `cw` does.
@@ -254,12 +249,12 @@ impl Caret {
         self,
         text: &Text,
         folds: &Folds,
-        list: &KeywordList,
+        list: &impl WordList,
         big: bool,
         count: u32,
         stop: bool,
     ) -> Result<Caret, Refusal> {
-        self.by_words(Word::End { stop }, text, folds, list, big, count)
+        list.moved(Word::End { stop }, self, text, folds, big, count)
     }
 
     /// `ge`, or `gE` where `big`: back to the end of a word; it takes no folds. [`Refusal::Caret`].
@@ -270,8 +265,8 @@ impl Caret {
     /// assert_eq!(Caret::at(0, 4).move_word_end_back(&text, &KeywordList::default(), false, 1)?, Caret::at(0, 1));
     /// # Ok::<(), tsivareza::Refusal>(())
     /// ```
-    pub fn move_word_end_back(self, text: &Text, list: &KeywordList, big: bool, count: u32) -> Result<Caret, Refusal> {
-        self.by_words(Word::EndBack, text, &Folds::new(), list, big, count)
+    pub fn move_word_end_back(self, text: &Text, list: &impl WordList, big: bool, count: u32) -> Result<Caret, Refusal> {
+        list.moved(Word::EndBack, self, text, &Folds::new(), big, count)
     }
 
     fn found(self, which: Seek, text: &Text) -> Result<Option<Caret>, Refusal> {

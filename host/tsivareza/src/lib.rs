@@ -71,7 +71,7 @@ pub use kept::{Kept, ScreenKept, screen_kept, screen_kept_as};
 pub use motion_rows::{Rows, motion_rows, screen_kept_rows, seek_rows, vertical_rows, viewport_rows, word_rows};
 pub use row_table::{TabledPage, row_starts};
 pub use signs::{Enter, enter, without_plus};
-pub use vim::{Vim, vim_list, vim_write};
+pub use vim::{Vim, vim_list, vim_write, word_vim};
 pub use upright::{Steps, Vertical, Viewport, vertical, vertical_as, viewport};
 
 // What a host works with: the calls above are by numbers, and these are made of them.
@@ -82,6 +82,7 @@ mod keyword_list;
 mod refusal;
 mod screen;
 mod text;
+mod word_list;
 
 pub use fold_list::{Fold, Folds};
 pub use keyword_list::KeywordList;
@@ -89,6 +90,7 @@ pub use refusal::Refusal;
 pub use screen::Cells;
 pub use text::Text;
 pub use upright::ViewportMove;
+pub use word_list::{VimList, WordList};
 
 // The examples of the papers for hosts are tests too.
 #[cfg(doctest)]
@@ -118,15 +120,19 @@ fn number(call: impl FnOnce(&mut [u32; 1]) -> u32) -> Result<u32, u32> {
 }
 
 /// The same of a call whose refusal has a place, in the high half: its number, and the place.
-fn placed(call: impl FnOnce(&mut [u32; 1]) -> u64) -> Result<u32, (u32, u32)> {
-    let mut out = [UNTOUCHED; 1];
+fn placed_answer<const N: usize>(call: impl FnOnce(&mut [u32; N]) -> u64) -> Result<[u32; N], (u32, u32)> {
+    let mut out = [UNTOUCHED; N];
     match call(&mut out) {
-        0 => Ok(out[0]),
+        0 => Ok(out),
         told => {
-            assert_eq!(out, [UNTOUCHED], "a refusal wrote into its answer");
+            assert_eq!(out, [UNTOUCHED; N], "a refusal wrote into its answer");
             Err((told as u32, (told >> 32) as u32))
         }
     }
+}
+
+fn placed(call: impl FnOnce(&mut [u32; 1]) -> u64) -> Result<u32, (u32, u32)> {
+    placed_answer(call).map(|[n]| n)
 }
 
 /// Code points as bytes.

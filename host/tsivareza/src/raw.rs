@@ -469,6 +469,41 @@ exports! {
         out: *mut [u32; 4],
     ) -> u32;
 
+    pub fn tsivareza_word_vim(
+        op: u32,
+        text: *const u8,
+        text_len: usize,
+        folds: *const u8,
+        folds_len: usize,
+        list: *const u8,
+        list_len: usize,
+        room: *mut u32,
+        room_len: usize,
+        row: u32,
+        col: u32,
+        held: u32,
+        sticky: u32,
+        big: u32,
+        count: u32,
+        out: *mut [u32; 4],
+    ) -> u64;
+    pub fn tsivareza_word_vim_u32(
+        op: u32,
+        text: *const u32,
+        text_len: usize,
+        folds: *const u32,
+        folds_len: usize,
+        list: *const u32,
+        list_len: usize,
+        row: u32,
+        col: u32,
+        held: u32,
+        sticky: u32,
+        big: u32,
+        count: u32,
+        out: *mut [u32; 4],
+    ) -> u64;
+
     pub fn tsivareza_vertical(
         op: u32,
         text: *const u8,

@@ -1,6 +1,6 @@
-//! Vim's own keyword lists: read, tested and written.
+//! Vim's own keyword lists: read, tested and written, and the word motions by them.
 
-use crate::{Room, placed, raw::lent};
+use crate::{Caret, Room, Word, Words, placed, placed_answer, raw::lent};
 
 /// A question to a Vim list.
 ///
@@ -56,7 +56,46 @@ pub fn vim_write(list: &[u32], written: &mut [u32]) -> Result<u32, (u32, u32)> {
     placed(|out| lent::tsivareza_vim_write_u32(list, written, out))
 }
 
+/// The caret after a word motion by a Vim list: 1 to 5, then what [`vim_list`] refuses, 17 with its place.
+///
+/// ```
+/// use tsivareza::{Caret, Word, Words, word_vim};
+/// let points = |text: &str| text.chars().map(u32::from).collect::<Vec<_>>();
+/// let (text, list) = (points("ISO-8859"), points("@,48-57,^a-z"));
+/// let to = |list| word_vim(Word::Fwd, &text, Caret::at(0, 0), Words { folds: &[], list, big: false }, 1);
+/// assert_eq!(to(&list), Ok(Caret::at(0, 3)));
+/// assert_eq!(to(&points("@,-")), Ok(Caret::at(0, 4)));
+/// assert_eq!(to(&points("a,")), Err((17, 2)));
+/// ```
+pub fn word_vim(which: Word, text: &[u32], k: Caret, words: Words, count: u32) -> Result<Caret, (u32, u32)> {
+    let (held, sticky) = k.held();
+    let Words { folds, list, big } = words;
+    placed_answer(|out| {
+        lent::tsivareza_word_vim_u32(which.number(), text, folds, list, k.row, k.col, held, sticky, big.into(), count, out)
+    })
+    .map(Caret::of)
+}
+
 impl Room {
+    /// [`word_vim`] of bytes: the room takes the code points of the text, the folds and the list.
+    ///
+    /// ```
+    /// use tsivareza::{Caret, Room, Word, Words, bytes};
+    /// let (text, list) = (bytes(&[0x61, 0x62, 0x20]), bytes(&[0x61]));
+    /// let words = Words { folds: &[], list: &list, big: false };
+    /// assert_eq!(Room::new(4).word_vim(Word::Fwd, &text, Caret::at(0, 0), words, 1), Ok(Caret::at(0, 1)));
+    /// ```
+    pub fn word_vim(&mut self, which: Word, text: &[u8], k: Caret, words: Words<u8>, count: u32) -> Result<Caret, (u32, u32)> {
+        let ((held, sticky), room) = (k.held(), &mut self.0);
+        let Words { folds, list, big } = words;
+        placed_answer(|out| {
+            lent::tsivareza_word_vim(
+                which.number(), text, folds, list, room, k.row, k.col, held, sticky, big.into(), count, out,
+            )
+        })
+        .map(Caret::of)
+    }
+
     /// [`vim_list`] of bytes.
     ///
     /// ```
