@@ -6,9 +6,10 @@
 //! whose refusal may have a place has the place, or 0, behind the number. UTF-8, which the given Rust has no call for, comes
 //! last, by RFC 3629's tables: groups 14 and 15, with a byte as a number. A screen move
 //! that remembers, group 18, has in its list whether an offset is kept, and that. Edits and fold files, groups 19 and 20:
-//! `replay_buffers`. Row starts, group 22: `replay_tables`; jumps, group 24: `replay_jumps`. The second engine of the word motions is group 21: operations 0 to 4 as group 10 has them, 5 the classes; a
-//! place for a class is a number. Vim's own lists are group 23: operations 0 and 1 as the exports have them, 2 a list written. The
-//! word motions by a Vim list, group 103, are not stored: `random_rows`.
+//! `replay_buffers`. The second engine of the word motions is group 21: operations 0 to 4 as group 10 has them, 5 the classes; a
+//! place for a class is a number. Row starts are group 22: `replay_tables`. Vim's own lists are group 23: operations 0 and 1 as the
+//! exports have them, 2 a list written. Jumps are group 24: `replay_jumps`. The word motions by a Vim
+//! list, group 103, are not stored: `random_rows`.
 
 use crate::case::{CALLS, Call, Case, FILLER, FILLER_CLASS, Input};
 use crate::generate::{self, Dice};
