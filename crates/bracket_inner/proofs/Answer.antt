@@ -38,7 +38,7 @@ module _ (k : Kind) (t : List ℕ) (at : ℕ) (h : at ≤ length t) where
   by-open l e = on (closeFrom (openOf k) (closeOf k) t (at + 1) 1) refl
     where
       on : (f : Found) → closeFrom (openOf k) (closeOf k) t (at + 1) 1 ≡ f → paired (posOf t at) (placed t f) ≡ pairFrom t (innerOpen k t at)
-      on (At j) s = let m = on-open-found k t at h l e j s in rw (m .1, m .0)
+      on (At j) s = let by-on-open-found = on-open-found k t at h l e j s in rw (by-on-open-found .1, by-on-open-found .0)
       on Nothing s = rw (on-open-none k t at h l e s)
 
   module _ (n : at < length t → getD t at 0 ≡ openOf k → ⊥) where
@@ -47,7 +47,7 @@ module _ (k : Kind) (t : List ℕ) (at : ℕ) (h : at ≤ length t) where
     by-walks i b = on (closeFrom (openOf k) (closeOf k) t at 1) refl
       where
         on : (f : Found) → closeFrom (openOf k) (closeOf k) t at 1 ≡ f → paired (posOf t i) (placed t f) ≡ pairFrom t (innerOpen k t at)
-        on (At j) s = let m = pair-found k t at h n i j b s in rw (m .1, m .0)
+        on (At j) s = let by-pair-found = pair-found k t at h n i j b s in rw (by-pair-found .1, by-pair-found .0)
         on Nothing s = rw (no-close k t at h n s)
 
     by-none : openBelow (openOf k) (closeOf k) t at 1 ≡ Nothing → None ≡ pairFrom t (innerOpen k t at)
@@ -109,8 +109,10 @@ module _ {t : List ℕ} {l : Line} {at : ℕ} {x : Position} {k : Kind} {o c : �
 
         pub close-answer : {r : Inner} → r ≡ paired y (placed t (closeFrom o c t at 1)) → r ≡ pairFrom t (innerOpen k t at)
         close-answer so =
-            let m = placed-there t (openBelow o c t at 1) y (sym is ∙ f) in
-            so ∙ rw (a .opens, a .closes, ← m .2) (by-walks k t at within elsewhere (m .0) (rw (← a .opens, ← a .closes) (m .1)))
+            let by-placed-there = placed-there t (openBelow o c t at 1) y (sym is ∙ f) in
+            so
+            ∙ rw (a .opens, a .closes, ← by-placed-there .2)
+            (by-walks k t at within elsewhere (by-placed-there .0) (rw (← a .opens, ← a .closes) (by-placed-there .1)))
 
       pub none-answer : b ≡ Partner·None → None ≡ pairFrom t (innerOpen k t at)
       none-answer f =

@@ -32,10 +32,14 @@ module _ (p : Position) {a r : Partner} (is : r ≡ a) where
 module _ (t : List ℕ) (short : length t ≤ 1048576) (o c at : ℕ) {q : Position} where
   pub close-brief : placed t (closeFrom o c t at 1) ≡ There q → q .col ≤ 1048576
   close-brief e =
-      let m = placed-there t (closeFrom o c t at 1) q e in
-      omega (arith, ap (λ (y : Position). y .col) (m .2), first-told (closesAt o c t at 1) at (length t) (m .0) (m .1) .below)
+      let by-placed-there = placed-there t (closeFrom o c t at 1) q e in
+      omega (
+        arith,
+        ap (λ (y : Position). y .col) (by-placed-there .2),
+        first-told (closesAt o c t at 1) at (length t) (by-placed-there .0) (by-placed-there .1) .below,
+      )
 
   pub open-brief : at ≤ length t → placed t (openBelow o c t at 1) ≡ There q → q .col ≤ 1048576
   open-brief h e =
-      let m = placed-there t (openBelow o c t at 1) q e in
-      omega (arith, ap (λ (y : Position). y .col) (m .2), last-told (opensAt o c t at 1) at (m .0) (m .1) .below)
+      let by-placed-there = placed-there t (openBelow o c t at 1) q e in
+      omega (arith, ap (λ (y : Position). y .col) (by-placed-there .2), last-told (opensAt o c t at 1) at (by-placed-there .0) (by-placed-there .1) .below)

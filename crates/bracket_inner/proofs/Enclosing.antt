@@ -59,9 +59,12 @@ module _ (k : Kind) (t : List ℕ) where
 
     pub inner-told : (i : ℕ) → innerOpen k t x ≡ At i → (j : ℕ) × Around k t x i j × Latest k t x i
     inner-told i e =
-        let l = last-told (opensAround k t x) (x + 1) i e in
-        let o = opens-told i (l .passes) in
-        (o .0, record { pair = o .1; from = omega (arith, l .below); to = o .2 }, λ m n a. latest l m a (decLt i m))
+        let by-last-told = last-told (opensAround k t x) (x + 1) i e in
+        let by-opens-told = opens-told i (by-last-told .passes) in (
+          by-opens-told .0,
+          record { pair = by-opens-told .1; from = omega (arith, by-last-told .below); to = by-opens-told .2 },
+          λ m n a. latest by-last-told m a (decLt i m),
+        )
       where
         latest : Last (opensAround k t x) (x + 1) i → (m : ℕ) {n : ℕ} → Around k t x m n → Dec (i < m) → m ≤ i
         latest l m a (yes u) = absurd (never (opens-so a) (l .none m u (omega (arith, a .from))))
@@ -77,8 +80,8 @@ module _ (k : Kind) (t : List ℕ) where
       where
         no-later : (m : ℕ) → i < m → m < x + 1 → (b : Bool) → opensAround k t x m ≡ b → b ≡ false
         no-later m u v true e =
-            let o = opens-told m e in
-            absurd (omega (arith, l m (o .0) (record { pair = o .1; from = omega arith; to = o .2 })))
+            let by-opens-told = opens-told m e in
+            absurd (omega (arith, l m (by-opens-told .0) (record { pair = by-opens-told .1; from = omega arith; to = by-opens-told .2 })))
         no-later m u v false e = refl
 
     pub inner-nowhere : ((i j : ℕ) → Around k t x i j → ⊥) → innerOpen k t x ≡ Nothing
@@ -86,6 +89,6 @@ module _ (k : Kind) (t : List ℕ) where
       where
         no-open : (m : ℕ) → m < x + 1 → (b : Bool) → opensAround k t x m ≡ b → b ≡ false
         no-open m u true e =
-            let o = opens-told m e in
-            absurd (n m (o .0) (record { pair = o .1; from = omega arith; to = o .2 }))
+            let by-opens-told = opens-told m e in
+            absurd (n m (by-opens-told .0) (record { pair = by-opens-told .1; from = omega arith; to = by-opens-told .2 }))
         no-open m u false e = refl

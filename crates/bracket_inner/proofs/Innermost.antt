@@ -26,13 +26,13 @@ inner-pairs t k x = record {
 }
   where
     pair-refused : {r : Ranges} {f : ℕ} → Pair r ≡ Refused f → ⊥
-    pair-refused e = let z : _≡_ {A = ℕ} 0 1 = cc in omega arith
+    pair-refused e = let never : _≡_ {A = ℕ} 0 1 = cc in omega arith
 
     none-refused : {f : ℕ} → None ≡ Refused f → ⊥
-    none-refused e = let z : _≡_ {A = ℕ} 0 1 = cc in omega arith
+    none-refused e = let never : _≡_ {A = ℕ} 0 1 = cc in omega arith
 
     pair-none : {r : Ranges} → Pair r ≡ None → ⊥
-    pair-none e = let z : _≡_ {A = ℕ} 0 1 = cc in omega arith
+    pair-none e = let never : _≡_ {A = ℕ} 0 1 = cc in omega arith
 
     pair-once : {r s : Ranges} → Pair r ≡ Pair s → r ≡ s
     pair-once e = cc

@@ -47,8 +47,8 @@ module _ {t : List ℕ} {p q : Position} (a : stands t p) (b : stands t q) where
       on (yes e) d = inl e
       on (no e) (yes f) = absurd (omega (arith, rows-apart t (q .row) (p .row) f (a .in-row), b .in-col))
       on (no e) (no f) =
-          let r : p .row ≡ q .row = omega arith in
-          inr (r, omega (arith, ap (rowStart t) r))
+          let row-is : p .row ≡ q .row = omega arith in
+          inr (row-is, omega (arith, ap (rowStart t) row-is))
 
 -- of two positions one stands before the other at most
 pub before-once : {p q : Position} → Before p q → Before q p → ⊥

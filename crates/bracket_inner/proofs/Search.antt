@@ -31,22 +31,22 @@ module _ (p : ℕ → Bool) (b : ℕ) where
   last-nowhere h = on (lastBelow p b) refl
     where
       on : (f : Found) → lastBelow p b ≡ f → f ≡ Nothing
-      on (At m) e = let d = last-told p b m e in absurd (never (d .passes) (h m (d .below)))
+      on (At m) e = let by-last-told = last-told p b m e in absurd (never (by-last-told .passes) (h m (by-last-told .below)))
       on Nothing e = refl
 
 -- a walk's answer that is a position is that of an offset, and none is a refusal
 module _ (t : List ℕ) where
   pub placed-there : (f : Found) (q : Position) → placed t f ≡ There q → (j : ℕ) × (f ≡ At j) × (posOf t j ≡ q)
   unfolding placed
-  placed-there (At j) q e = let z : posOf t j ≡ q = cc in (j, refl, z)
-  placed-there Nothing q e = let z : _≡_ {A = ℕ} 0 1 = cc in absurd (omega arith)
+  placed-there (At j) q e = let pos-is : posOf t j ≡ q = cc in (j, refl, pos-is)
+  placed-there Nothing q e = let nonsense : _≡_ {A = ℕ} 0 1 = cc in absurd (omega arith)
 
   pub placed-nowhere : (f : Found) → placed t f ≡ None → f ≡ Nothing
   unfolding placed
-  placed-nowhere (At j) e = let z : _≡_ {A = ℕ} 0 1 = cc in absurd (omega arith)
+  placed-nowhere (At j) e = let nonsense : _≡_ {A = ℕ} 0 1 = cc in absurd (omega arith)
   placed-nowhere Nothing e = refl
 
   pub placed-refuses : (f : Found) (n : ℕ) → placed t f ≡ Refused n → ⊥
   unfolding placed
-  placed-refuses (At j) n e = let z : _≡_ {A = ℕ} 0 1 = cc in omega arith
-  placed-refuses Nothing n e = let z : _≡_ {A = ℕ} 0 1 = cc in omega arith
+  placed-refuses (At j) n e = let nonsense : _≡_ {A = ℕ} 0 1 = cc in omega arith
+  placed-refuses Nothing n e = let nonsense : _≡_ {A = ℕ} 0 1 = cc in omega arith

@@ -45,11 +45,11 @@ module _ (t : List ℕ) (k : Kind) (x : Position) where
     -- a pair that encloses the position is one around its offset
     enclosing : {p q : Position} → Encloses k t x p q → Around k t (offsetOf t x) (offsetOf t p) (offsetOf t q)
     enclosing {p} {q} e =
-        let m = unique t ok .told p q (e .pair .answer) in
+        let by-unique = unique t ok .told p q (e .pair .answer) in
         record {
           pair = pair-forward t ok (e .pair);
-          from = upto-offset (text-stands (m .from)) here (e .from);
-          to = upto-offset here (text-stands (m .to)) (e .to);
+          from = upto-offset (text-stands (by-unique .from)) here (e .from);
+          to = upto-offset here (text-stands (by-unique .to)) (e .to);
         }
 
     answer-is : innerAt t k x ≡ pairFrom t (innerOpen k t (offsetOf t x))
@@ -98,9 +98,9 @@ module _ (t : List ℕ) (k : Kind) (x : Position) where
       where
         on : (f : Found) → innerOpen k t (offsetOf t x) ≡ f → Answer
         on (At i) e =
-            let m = inner-told k t (offsetOf t x) i e in
-            let is : innerAt t k x ≡ Pair (ranges (posOf t i) (posOf t (m .0))) = answer-is ∙ rw (e, pair-partner k t (m .1 .pair)) in
-            a-pair (posOf t i) (posOf t (m .0)) is (innermost (m .1) (m .2)) (both-stand t ok (m .1 .pair))
+            let by-inner-told = inner-told k t (offsetOf t x) i e in
+            let is : innerAt t k x ≡ Pair (ranges (posOf t i) (posOf t (by-inner-told .0))) = answer-is ∙ rw (e, pair-partner k t (by-inner-told .1 .pair)) in
+            a-pair (posOf t i) (posOf t (by-inner-told .0)) is (innermost (by-inner-told .1) (by-inner-told .2)) (both-stand t ok (by-inner-told .1 .pair))
         on Nothing e =
             let is : innerAt t k x ≡ None = answer-is ∙ rw e in
             a-none is (λ p q c. inner-none k t (offsetOf t x) e (offsetOf t p) (offsetOf t q) (enclosing c))

@@ -34,9 +34,9 @@ module _ (k : Kind) (t : List ℕ) (x : ℕ) (h : x ≤ length t) where
 
     pub on-open-found : (j : ℕ) → closeFrom (openOf k) (closeOf k) t (x + 1) 1 ≡ At j → (partnerOf t x ≡ At j) × (innerOpen k t x ≡ At x)
     on-open-found j s =
-        let g = forward-told k t x j (own-partner ∙ s) in (
+        let by-forward-told = forward-told k t x j (own-partner ∙ s) in (
           open-partner k t x e ∙ own-partner ∙ s,
-          inner-found k t x (record { pair = g; from = omega arith; to = omega (arith, g .balanced .after) }) (λ m n a. a .from),
+          inner-found k t x (record { pair = by-forward-told; from = omega arith; to = omega (arith, by-forward-told .balanced .after) }) (λ m n a. a .from),
         )
 
     pub on-open-none : closeFrom (openOf k) (closeOf k) t (x + 1) 1 ≡ Nothing → innerOpen k t x ≡ Nothing
@@ -46,8 +46,8 @@ module _ (k : Kind) (t : List ℕ) (x : ℕ) (h : x ≤ length t) where
         alone i j a (yes u) v = forward-none k t x (own-partner ∙ s) j (rw u at (a .pair .balanced))
         alone i j a (no u) (yes v) = differ k (sym e ∙ ap (λ (m : ℕ). getD t m 0) v ∙ a .pair .balanced .closes)
         alone i j a (no u) (no v) =
-            let m = inner-open (a .pair) x (omega (arith, a .from)) (omega (arith, a .to)) e in
-            forward-none k t x (own-partner ∙ s) (m .0) (m .1 .balanced)
+            let by-inner-open = inner-open (a .pair) x (omega (arith, a .from)) (omega (arith, a .to)) e in
+            forward-none k t x (own-partner ∙ s) (by-inner-open .0) (by-inner-open .1 .balanced)
 
   -- anywhere else
   module _ (n : x < length t → getD t x 0 ≡ openOf k → ⊥) where
@@ -57,26 +57,29 @@ module _ (k : Kind) (t : List ℕ) (x : ℕ) (h : x ≤ length t) where
       where
         on : Dec (i ≡ x) → (i < x) × Above (openOf k) (closeOf k) t i x
         on (yes u) = absurd (n (omega (arith, a .to, a .pair .balanced .inside)) (ap (λ (m : ℕ). getD t m 0) (sym u) ∙ a .pair .balanced .opens))
-        on (no u) = let l : i < x = omega (arith, a .from) in (l, arch-of-forward (a .pair) .above x l (a .to))
+        on (no u) = let i-below : i < x = omega (arith, a .from) in (i-below, arch-of-forward (a .pair) .above x i-below (a .to))
 
     pub no-open : openBelow (openOf k) (closeOf k) t x 1 ≡ Nothing → innerOpen k t x ≡ Nothing
     no-open s = inner-nowhere k t x none
       where
         none : (i j : ℕ) → Around k t x i j → ⊥
         none i j a =
-            let b = starts-before a in
-            let m = free-open k t x h i (a .from) (b .1) in
-            never (m .3) (last-none (opensAt (openOf k) (closeOf k) t x 1) x s (m .0) (m .2))
+            let by-starts-before = starts-before a in
+            let by-free-open = free-open k t x h i (a .from) (by-starts-before .1) in
+            never (by-free-open .3) (last-none (opensAt (openOf k) (closeOf k) t x 1) x s (by-free-open .0) (by-free-open .2))
 
     pub no-close : closeFrom (openOf k) (closeOf k) t x 1 ≡ Nothing → innerOpen k t x ≡ Nothing
     no-close s = inner-nowhere k t x none
       where
         none : (i j : ℕ) → Around k t x i j → ⊥
         none i j a =
-            let b = starts-before a in
-            let d = a .pair .balanced in
-            let m = free-close k t x h (suc j) (omega (arith, a .to)) (d .inside) (omega (arith, b .1, balanced-level d)) in
-            never (m .3) (first-none (closesAt (openOf k) (closeOf k) t x 1) x (length t) s (m .0) (m .1) (omega (arith, m .2, d .inside)))
+            let by-starts-before = starts-before a in
+            let balanced = a .pair .balanced in
+            let by-free-close = free-close k t x h (suc j) (omega (arith, a .to)) (balanced .inside)
+            (omega (arith, by-starts-before .1, balanced-level balanced)) in
+            never (by-free-close .3)
+            (first-none (closesAt (openOf k) (closeOf k) t x 1) x (length t) s (by-free-close .0) (by-free-close .1)
+            (omega (arith, by-free-close .2, balanced .inside)))
 
     -- the open that the walk back finds, and the close that the walk on finds: they are partners, and every pair around x starts there or before
     module _ (i j : ℕ) (back : openBelow (openOf k) (closeOf k) t x 1 ≡ At i) (on : closeFrom (openOf k) (closeOf k) t x 1 ≡ At j) where
@@ -89,8 +92,8 @@ module _ (k : Kind) (t : List ℕ) (x : ℕ) (h : x ≤ length t) where
       -- no place behind the open is less deep than x
       no-later : (a : ℕ) → i < a → a ≤ x → Above (openOf k) (closeOf k) t a x → ⊥
       no-later a l u up =
-          let m = free-open k t x h a u up in
-          never (m .3) (behind .none (m .0) (omega (arith, m .1)) (m .2))
+          let by-free-open = free-open k t x h a u up in
+          never (by-free-open .3) (behind .none (by-free-open .0) (omega (arith, by-free-open .1)) (by-free-open .2))
 
       partners : Forward k t i j
       partners = record { balanced = pair; nearest = λ m b. nearest m b (decLt m j) (decLt m x) }
@@ -109,15 +112,15 @@ module _ (k : Kind) (t : List ℕ) (x : ℕ) (h : x ≤ length t) where
           nearest m b (yes u) (yes v) =
               absurd (no-later (suc m) (omega (arith, b .after)) v (omega (arith, balanced-level b, p .1)))
           nearest m b (yes u) (no v) =
-              let s = closes-so (openOf k) (closeOf k) t x 1 m (omega arith) (b .closes) (omega (arith, balanced-level b, p .1)) in
-              absurd (never s (ahead .none m (omega arith) u))
+              let by-closes-so = closes-so (openOf k) (closeOf k) t x 1 m (omega arith) (b .closes) (omega (arith, balanced-level b, p .1)) in
+              absurd (never by-closes-so (ahead .none m (omega arith) u))
 
       pub pair-found : (partnerOf t i ≡ At j) × (innerOpen k t x ≡ At i)
       pair-found =
           (pair-partner k t partners, inner-found k t x (record { pair = partners; from = omega (arith, behind .below); to = ahead .from }) latest)
         where
           latest : Latest k t x i
-          latest m e a = let b = starts-before a in by (decLt i m) (b .0) (b .1)
+          latest m e a = let by-starts-before = starts-before a in by (decLt i m) (by-starts-before .0) (by-starts-before .1)
             where
               by : Dec (i < m) → m < x → Above (openOf k) (closeOf k) t m x → m ≤ i
               by (yes u) v up = absurd (no-later m u (omega arith) up)

@@ -24,9 +24,9 @@ use Rattle.bracket_walks.proofs.Sides.{side-open, side-close, SideIs, side-told
 module _ {k : Kind} {t : List ℕ} {i j : ℕ} where
   pub balances-told : balances (openOf k) (closeOf k) t i j ≡ true → i < j → j < length t → Balanced k t i j
   balances-told e l h =
-      let p = both (eqb (getD t i 0) (openOf k) && eqb (getD t j 0) (closeOf k)) _ e in
-      let q = both (eqb (getD t i 0) (openOf k)) _ (p .0) in
-      record { after = l; inside = h; opens = eqb-true _ _ (q .0); closes = eqb-true _ _ (q .1); even = eqb-true _ _ (p .1) }
+      let by-both = both (eqb (getD t i 0) (openOf k) && eqb (getD t j 0) (closeOf k)) _ e in
+      let both-here = both (eqb (getD t i 0) (openOf k)) _ (by-both .0) in
+      record { after = l; inside = h; opens = eqb-true _ _ (both-here .0); closes = eqb-true _ _ (both-here .1); even = eqb-true _ _ (by-both .1) }
 
   pub balances-of : Balanced k t i j → balances (openOf k) (closeOf k) t i j ≡ true
   balances-of b = rw (eq-eqb _ _ (b .opens), eq-eqb _ _ (b .closes), eq-eqb _ _ (b .even))
@@ -35,8 +35,11 @@ module _ (k : Kind) (t : List ℕ) (i : ℕ) where
   pub forward-told : (j : ℕ) → nearestOf (Open k) t i ≡ At j → Forward k t i j
   unfolding nearestOf
   forward-told j e =
-      let f = first-told (balances (openOf k) (closeOf k) t i) (i + 1) (length t) j e in
-      record { balanced = balances-told (f .passes) (omega (arith, f .from)) (f .below); nearest = λ m b. on f m b (decLt m j) }
+      let by-first-told = first-told (balances (openOf k) (closeOf k) t i) (i + 1) (length t) j e in
+      record {
+        balanced = balances-told (by-first-told .passes) (omega (arith, by-first-told .from)) (by-first-told .below);
+        nearest = λ m b. on by-first-told m b (decLt m j);
+      }
     where
       on : First (balances (openOf k) (closeOf k) t i) (i + 1) (length t) j → (m : ℕ) → Balanced k t i m → Dec (m < j) → j ≤ m
       on f m b (yes l) = absurd (never (balances-of b) (f .none m (omega (arith, b .after)) l))
@@ -49,8 +52,8 @@ module _ (k : Kind) (t : List ℕ) (i : ℕ) where
   pub backward-told : (j : ℕ) → i < length t → nearestOf (Close k) t i ≡ At j → Backward k t j i
   unfolding nearestOf
   backward-told j h e =
-      let f = last-told (λ m. balances (openOf k) (closeOf k) t m i) i j e in
-      record { balanced = balances-told (f .passes) (f .below) h; nearest = λ m b. on f m b (decLt j m) }
+      let by-last-told = last-told (λ m. balances (openOf k) (closeOf k) t m i) i j e in
+      record { balanced = balances-told (by-last-told .passes) (by-last-told .below) h; nearest = λ m b. on by-last-told m b (decLt j m) }
     where
       on : Last (λ m. balances (openOf k) (closeOf k) t m i) i j → (m : ℕ) → Balanced k t m i → Dec (j < m) → m ≤ j
       on f m b (yes l) = absurd (never (balances-of b) (f .none m l (b .after)))
@@ -82,12 +85,14 @@ module _ (t : List ℕ) (i : ℕ) (h : i < length t) where
   partner-found j (forward k f) = opened k (f .balanced .opens) ∙ on (nearestOf (Open k) t i) refl
     where
       on : (r : Found) → nearestOf (Open k) t i ≡ r → r ≡ At j
-      on (At m) e = let g = forward-told k t i m e in ap At (omega (arith, f .nearest m (g .balanced), g .nearest j (f .balanced)))
+      on (At m) e = let by-forward-told =
+          forward-told k t i m e in ap At (omega (arith, f .nearest m (by-forward-told .balanced), by-forward-told .nearest j (f .balanced)))
       on Nothing e = absurd (forward-none k t i e j (f .balanced))
   partner-found j (backward k f) = closed k (f .balanced .closes) ∙ on (nearestOf (Close k) t i) refl
     where
       on : (r : Found) → nearestOf (Close k) t i ≡ r → r ≡ At j
-      on (At m) e = let g = backward-told k t i m h e in ap At (omega (arith, f .nearest m (g .balanced), g .nearest j (f .balanced)))
+      on (At m) e = let by-backward-told =
+          backward-told k t i m h e in ap At (omega (arith, f .nearest m (by-backward-told .balanced), by-backward-told .nearest j (f .balanced)))
       on Nothing e = absurd (backward-none k t i e j (f .balanced))
 
   -- none exactly where the bracket is alone

@@ -24,13 +24,13 @@ pub there-once : {p q : Position} → There p ≡ There q → p ≡ q
 there-once e = cc
 
 there-answers : {p : Position} {f : ℕ} → There p ≡ Refused f → ⊥
-there-answers e = let z : _≡_ {A = ℕ} 0 1 = cc in omega arith
+there-answers e = let never : _≡_ {A = ℕ} 0 1 = cc in omega arith
 
 refused-once : {f g : ℕ} → Refused f ≡ Refused g → f ≡ g
 refused-once e = cc
 
 pub there-some : {p : Position} → There p ≡ None → ⊥
-there-some e = let z : _≡_ {A = ℕ} 0 1 = cc in omega arith
+there-some e = let never : _≡_ {A = ℕ} 0 1 = cc in omega arith
 
 module _ (t : List ℕ) (row col : ℕ) where
   pub inside? : Dec (Inside t row col)
@@ -47,9 +47,9 @@ module _ (t : List ℕ) (row col : ℕ) where
   call-told f e = on (ℕ-discrete (textRefusal t) 0)
     where
       met : (r : Found) (b : Bool) → cond b (placed t r) None ≡ Refused f → ⊥
-      met (At j) true q = let z : _≡_ {A = ℕ} 0 1 = cc in omega arith
-      met Nothing true q = let z : _≡_ {A = ℕ} 0 1 = cc in omega arith
-      met r false q = let z : _≡_ {A = ℕ} 0 1 = cc in omega arith
+      met (At j) true q = let never : _≡_ {A = ℕ} 0 1 = cc in omega arith
+      met Nothing true q = let never : _≡_ {A = ℕ} 0 1 = cc in omega arith
+      met r false q = let never : _≡_ {A = ℕ} 0 1 = cc in omega arith
 
       on : Dec (textRefusal t ≡ 0) → Refusal t f
       on (yes z) =

@@ -39,11 +39,12 @@ module _ (x y : ℕ) (t : List ℕ) (p q : ℕ) where
       end z = ap (tally z t) (omega arith)
 
       on : Dec (Over b) → Dec (getD t b 0 ≡ x) → (Over b → Crossed x y t p q a b) → Crossed x y t p q a (a + suc n)
-      on (yes m) d ih = let c = ih m in record { at = c .at; from = c .from; below = omega (arith, c .below); is = c .is; level = c .level }
+      on (yes m) d ih = let by-ih =
+          ih m in record { at = by-ih .at; from = by-ih .from; below = omega (arith, by-ih .below); is = by-ih .is; level = by-ih .level }
       on (no m) (yes e) ih =
-          let s = tally-hit x t b (omega arith) e in
+          let by-tally-hit = tally-hit x t b (omega arith) e in
           record { at = b; from = omega arith; below = omega arith; is = e; level = omega (arith, end x, end y, tally-grows y t b (omega arith)) }
       on (no m) (no e) ih = absurd (omega (arith, end x, end y, tally-grows y t b (omega arith), tally-miss x t b (omega arith) e))
 
   pub cross : (a b : ℕ) → a ≤ b → b ≤ length t → (Over a → ⊥) → Over b → Crossed x y t p q a b
-  cross a b l h g m = let e : a + (b - a) ≡ b = omega arith in rw e at (crossing a (b - a) (rw e h) g (rw e m))
+  cross a b l h g m = let sum-is : a + (b - a) ≡ b = omega arith in rw sum-is at (crossing a (b - a) (rw sum-is h) g (rw sum-is m))

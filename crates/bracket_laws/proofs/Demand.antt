@@ -33,11 +33,15 @@ module _ (t : List ℕ) (ok : textRefusal t ≡ 0) where
     where
       met : inText t p → (r : Found) → partnerOf t (offsetOf t p) ≡ r → placed t r ≡ There q → PartnerAt t p q
       met h (At j) f g =
-          let m = partner-told t (offsetOf t p) (offset-in h) j f in
-          let n = to-in m in
-          let s : posOf t j ≡ q = there-once g in
-          let here : PartnerAt t p (posOf t j) = record { from = h; to = pos-in t j (n .0) (n .1); partner = rw (offset-pos t j (n .0) (n .1)) m } in
-          subst (PartnerAt t p) s here
+          let by-partner-told = partner-told t (offsetOf t p) (offset-in h) j f in
+          let by-to-in = to-in by-partner-told in
+          let pos-is : posOf t j ≡ q = there-once g in
+          let here : PartnerAt t p (posOf t j) = record {
+            from = h;
+            to = pos-in t j (by-to-in .0) (by-to-in .1);
+            partner = rw (offset-pos t j (by-to-in .0) (by-to-in .1)) by-partner-told;
+          } in
+          subst (PartnerAt t p) pos-is here
       met h Nothing f g = absurd (there-some (sym g))
 
       on : Dec (inText t p) → PartnerAt t p q
@@ -47,8 +51,8 @@ module _ (t : List ℕ) (ok : textRefusal t ≡ 0) where
   found : (p q : Position) → PartnerAt t p q → answerAt t p ≡ There q
   unfolding placed
   found p q a =
-      let h = partner-found t (offsetOf t p) (offset-in (a .from)) (offsetOf t q) (a .partner) in
-      call-inside t (p .row) (p .col) ok (a .from) ∙ ap (placed t) h ∙ ap There (pos-offset (a .to))
+      let by-partner-found = partner-found t (offsetOf t p) (offset-in (a .from)) (offsetOf t q) (a .partner) in
+      call-inside t (p .row) (p .col) ok (a .from) ∙ ap (placed t) by-partner-found ∙ ap There (pos-offset (a .to))
 
   none : (p : Position) → answerAt t p ≡ None → NoPartner t p
   unfolding placed
@@ -73,13 +77,13 @@ module _ (t : List ℕ) (ok : textRefusal t ≡ 0) where
 
   pub symmetric : Symmetric t
   symmetric p q e =
-      let a = told p q e in
-      found q p (record { from = a .to; to = a .from; partner = partner-back (a .partner) })
+      let by-told = told p q e in
+      found q p (record { from = by-told .to; to = by-told .from; partner = partner-back (by-told .partner) })
 
   pub pair-forward : {k : Kind} {p q : Position} → PairAt k t p q → Forward k t (offsetOf t p) (offsetOf t q)
   pair-forward {k} {p} {q} a =
-      let m = told p q (a .answer) in
-      of-kind k (sym (point-pos (m .from)) ∙ a .opens) (m .partner)
+      let by-told = told p q (a .answer) in
+      of-kind k (sym (point-pos (by-told .from)) ∙ a .opens) (by-told .partner)
 
   pub never-cross : NeverCross t
   never-cross = record { stand = stand; share-none = share-none }
@@ -103,9 +107,9 @@ module _ (t : List ℕ) (ok : textRefusal t ≡ 0) where
       -- the open of one is not the close of another
       apart : {k : Kind} {p q p′ q′ : Position} → PairAt k t p q → PairAt k t p′ q′ → p ≡ q′ → ⊥
       apart {k} a b e =
-          let f = pair-forward a .balanced .opens in
-          let g = pair-forward b .balanced .closes in
-          hands-differ k k (sym f ∙ ap (λ (x : Position). getD t (offsetOf t x) 0) e ∙ g)
+          let by-pair-forward = pair-forward a .balanced .opens in
+          let by-pair-forward-b = pair-forward b .balanced .closes in
+          hands-differ k k (sym by-pair-forward ∙ ap (λ (x : Position). getD t (offsetOf t x) 0) e ∙ by-pair-forward-b)
 
       share-none : (k : Kind) (p q p′ q′ : Position) → PairAt k t p q → PairAt k t p′ q′ → (p ≡ p′ → ⊥) → (p ≡ q′ → ⊥) × (q ≡ p′ → ⊥) × (q ≡ q′ → ⊥)
       share-none k p q p′ q′ a b n =

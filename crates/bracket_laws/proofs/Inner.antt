@@ -30,17 +30,21 @@ module _ {k : Kind} {t : List ℕ} {i j : ℕ} (f : Forward k t i j) (m : ℕ) (
       back : (n : ℕ) × Balanced k t m n × (n ≤ j)
       back =
           let up = arch-of-forward f .above m l (omega arith) in
-          let v = balanced-level b in
-          let r = hit (openOf k) (closeOf k) t m (omega (arith, b .inside)) (differ k) e in
-          let c = cross (closeOf k) (openOf k) t (opens k t m + 1) (closes k t m) (suc m) (suc j) (omega arith) (b .inside) (λ p. omega arith) (omega arith) in
-          let d = hit (closeOf k) (openOf k) t (c .at) (omega (arith, c .below, b .inside)) (λ p. differ k (sym p)) (c .is) in
-          (c .at, balanced-of (c .from) (omega (arith, c .below, b .inside)) e (c .is) (omega (arith, c .level)), omega (arith, c .below))
+          let by-balanced-level = balanced-level b in
+          let by-hit = hit (openOf k) (closeOf k) t m (omega (arith, b .inside)) (differ k) e in
+          let by-cross = cross (closeOf k) (openOf k) t (opens k t m + 1) (closes k t m) (suc m) (suc j) (omega arith) (b .inside) (λ p. omega arith)
+          (omega arith) in
+          let by-hit-t = hit (closeOf k) (openOf k) t (by-cross .at) (omega (arith, by-cross .below, b .inside)) (λ p. differ k (sym p)) (by-cross .is) in (
+            by-cross .at,
+            balanced-of (by-cross .from) (omega (arith, by-cross .below, b .inside)) e (by-cross .is) (omega (arith, by-cross .level)),
+            omega (arith, by-cross .below),
+          )
 
       on : (r : Found) → nearestOf (Open k) t m ≡ r → (n : ℕ) × Forward k t m n × (n < j)
       on (At n) s =
-          let g = forward-told k t m n s in
-          let w = balanced-level (g .balanced) in
-          (n, g, apart n (g .nearest (back .0) (back .1)) (g .balanced) (ℕ-discrete n j))
+          let by-forward-told = forward-told k t m n s in
+          let by-balanced-level = balanced-level (by-forward-told .balanced) in
+          (n, by-forward-told, apart n (by-forward-told .nearest (back .0) (back .1)) (by-forward-told .balanced) (ℕ-discrete n j))
         where
           apart : (n : ℕ) → n ≤ back .0 → Balanced k t m n → Dec (n ≡ j) → n < j
           apart n p g (yes q) =
@@ -61,15 +65,15 @@ module _ {k : Kind} {t : List ℕ} {i j : ℕ} (f : Forward k t i j) (m : ℕ) (
       back : (n : ℕ) × Balanced k t n m × (i ≤ n)
       back =
           let up = arch-of-forward f .above (suc m) (omega arith) h in
-          let r = hit (closeOf k) (openOf k) t m within (λ p. differ k (sym p)) e in
-          let c = cross (openOf k) (closeOf k) t (closes k t (suc m)) (opens k t (suc m)) i m (omega arith) (omega (arith, within)) (λ p. omega arith)
+          let by-hit = hit (closeOf k) (openOf k) t m within (λ p. differ k (sym p)) e in
+          let by-cross = cross (openOf k) (closeOf k) t (closes k t (suc m)) (opens k t (suc m)) i m (omega arith) (omega (arith, within)) (λ p. omega arith)
           (omega arith) in
-          (c .at, balanced-of (c .below) within (c .is) e (omega (arith, c .level)), c .from)
+          (by-cross .at, balanced-of (by-cross .below) within (by-cross .is) e (omega (arith, by-cross .level)), by-cross .from)
 
       on : (r : Found) → nearestOf (Close k) t m ≡ r → (n : ℕ) × Forward k t n m × (i < n)
       on (At n) s =
-          let g = backward-told k t m n within s in
-          (n, backward-forward g, apart n (g .nearest (back .0) (back .1)) (g .balanced) (ℕ-discrete i n))
+          let by-backward-told = backward-told k t m n within s in
+          (n, backward-forward by-backward-told, apart n (by-backward-told .nearest (back .0) (back .1)) (by-backward-told .balanced) (ℕ-discrete i n))
         where
           apart : (n : ℕ) → back .0 ≤ n → Balanced k t n m → Dec (i ≡ n) → i < n
           apart n p g (yes q) =

@@ -61,7 +61,7 @@ module _ (t : List ℕ) (ok : textRefusal t ≡ 0) (row col : ℕ) where
   stays-only (no-plain n) = on (firstBracket (rowAt t row) col) refl
     where
       on : (r : Found) → firstBracket (rowAt t row) col ≡ r → keyTo t row r ≡ None
-      on (At i) f = let p = plain-first t row col i f in absurd (n i (p .from) (p .in-row) (p .plain))
+      on (At i) f = let by-plain-first = plain-first t row col i f in absurd (n i (by-plain-first .from) (by-plain-first .in-row) (by-plain-first .plain))
       on Nothing f = refl
   stays-only (no-partner i f n) = ap (keyTo t row) (plain-found t row col i f) ∙ unique t ok .none-only (posAt row i) n
 
@@ -70,8 +70,8 @@ module _ (t : List ℕ) (ok : textRefusal t ≡ 0) (row col : ℕ) where
   answers f e = on (firstBracket (rowAt t row) col) e
     where
       on : (r : Found) → keyTo t row r ≡ Refused f → ⊥
-      on (At i) g = let r = refuses t .refused (posAt row i) f g in r .some (sym (r .number) ∙ ok)
-      on Nothing g = let z : _≡_ {A = ℕ} 0 1 = cc in omega arith
+      on (At i) g = let by-refuses = refuses t .refused (posAt row i) f g in by-refuses .some (sym (by-refuses .number) ∙ ok)
+      on Nothing g = let never : _≡_ {A = ℕ} 0 1 = cc in omega arith
 
   moves : keyFrom t row col ≡ There (posAt row col) → ⊥
   moves e = on (eq-or-lt-of-le (a .first .from))

@@ -50,11 +50,13 @@ module _ {k : Kind} {t : List ℕ} {i j : ℕ} where
       up : (m : ℕ) → i < m → m ≤ j → Dec (Above (openOf k) (closeOf k) t i m) → Above (openOf k) (closeOf k) t i m
       up m l h (yes a) = a
       up m l h (no a) =
-          let r = hit (openOf k) (closeOf k) t i (omega (arith, b .after, b .inside)) (differ k) (b .opens) in
-          let c = cross (closeOf k) (openOf k) t (opens k t i + 1) (closes k t i) (suc i) m l (omega (arith, b .inside)) (λ e. omega arith) (omega arith) in
-          let d = hit (closeOf k) (openOf k) t (c .at) (omega (arith, c .below, b .inside)) (λ e. differ k (sym e)) (c .is) in
-          let n = f .nearest (c .at) (balanced-of (c .from) (omega (arith, c .below, b .inside)) (b .opens) (c .is) (omega (arith, c .level))) in
-          absurd (omega (arith, c .below))
+          let by-hit = hit (openOf k) (closeOf k) t i (omega (arith, b .after, b .inside)) (differ k) (b .opens) in
+          let by-cross = cross (closeOf k) (openOf k) t (opens k t i + 1) (closes k t i) (suc i) m l (omega (arith, b .inside)) (λ e. omega arith)
+          (omega arith) in
+          let by-hit-t = hit (closeOf k) (openOf k) t (by-cross .at) (omega (arith, by-cross .below, b .inside)) (λ e. differ k (sym e)) (by-cross .is) in
+          let by-nearest = f .nearest (by-cross .at)
+          (balanced-of (by-cross .from) (omega (arith, by-cross .below, b .inside)) (b .opens) (by-cross .is) (omega (arith, by-cross .level))) in
+          absurd (omega (arith, by-cross .below))
 
   -- and a last one before the close a nearer open
   pub arch-of-backward : Backward k t i j → Arch k t i j
@@ -66,11 +68,11 @@ module _ {k : Kind} {t : List ℕ} {i j : ℕ} where
       up : (m : ℕ) → i < m → m ≤ j → Dec (Above (openOf k) (closeOf k) t i m) → Above (openOf k) (closeOf k) t i m
       up m l h (yes a) = a
       up m l h (no a) =
-          let e = balanced-level b in
-          let r = hit (closeOf k) (openOf k) t j (b .inside) (λ e. differ k (sym e)) (b .closes) in
-          let c = cross (openOf k) (closeOf k) t (closes k t i) (opens k t i) m j h (omega (arith, b .inside)) (λ e. omega arith) (omega arith) in
-          let n = f .nearest (c .at) (balanced-of (c .below) (b .inside) (c .is) (b .closes) (omega (arith, c .level))) in
-          absurd (omega (arith, c .from))
+          let by-balanced-level = balanced-level b in
+          let by-hit = hit (closeOf k) (openOf k) t j (b .inside) (λ e. differ k (sym e)) (b .closes) in
+          let by-cross = cross (openOf k) (closeOf k) t (closes k t i) (opens k t i) m j h (omega (arith, b .inside)) (λ e. omega arith) (omega arith) in
+          let by-nearest = f .nearest (by-cross .at) (balanced-of (by-cross .below) (b .inside) (by-cross .is) (b .closes) (omega (arith, by-cross .level))) in
+          absurd (omega (arith, by-cross .from))
 
   module _ (a : Arch k t i j) where
     pub forward-of-arch : Forward k t i j
@@ -103,8 +105,15 @@ module _ {k : Kind} {t : List ℕ} where
       go (yes p) d e = inl p
       go (no p) (yes q) e = inr q
       go (no p) (no q) (yes e) =
-          let g : (x : ℕ) → tally x t (suc j′) ≡ tally x t (suc j) = λ x. ap (λ (n : ℕ). tally x t (suc n)) e in
-          absurd (omega (arith, a .above i′ l (omega arith), balanced-level (a .balanced), balanced-level (b .balanced), g (openOf k), g (closeOf k)))
+          let tally-is : (x : ℕ) → tally x t (suc j′) ≡ tally x t (suc j) = λ x. ap (λ (n : ℕ). tally x t (suc n)) e in
+          absurd (omega (
+            arith,
+            a .above i′ l (omega arith),
+            balanced-level (a .balanced),
+            balanced-level (b .balanced),
+            tally-is (openOf k),
+            tally-is (closeOf k),
+          ))
       go (no p) (no q) (no e) = absurd (omega (arith, a .above i′ l (omega arith), balanced-level (a .balanced), b .above (suc j) (omega arith) (omega arith)))
 
   -- two pairs are the same, or stand apart, or one encloses the other
@@ -121,5 +130,5 @@ module _ {k : Kind} {t : List ℕ} where
       go (yes l) d = ⊎-elim before (λ m. around l m) (later a b l)
       go (no n) (yes l) = ⊎-elim behind (λ m. within l m) (later b a l)
       go (no n) (no m) =
-          let e : i ≡ i′ = omega arith in
-          same e (omega (arith, f .nearest j′ (rw e (g .balanced)), g .nearest j (rw (← e) (f .balanced))))
+          let i-is : i ≡ i′ = omega arith in
+          same i-is (omega (arith, f .nearest j′ (rw i-is (g .balanced)), g .nearest j (rw (← i-is) (f .balanced))))

@@ -16,10 +16,10 @@ use Rattle.bracket_laws.proofs.Pairs.{forward-back, backward-forward}
 
 -- a bracket is of one kind, and of one hand
 pub kind-open : (k l : Kind) → openOf k ≡ openOf l → k ≡ l
-kind-open k l e = let z : Open k ≡ Open l = sym (side-open k) ∙ ap sideOf e ∙ side-open l in cc
+kind-open k l e = let open-is : Open k ≡ Open l = sym (side-open k) ∙ ap sideOf e ∙ side-open l in cc
 
 kind-close : (k l : Kind) → closeOf k ≡ closeOf l → k ≡ l
-kind-close k l e = let z : Close k ≡ Close l = sym (side-close k) ∙ ap sideOf e ∙ side-close l in cc
+kind-close k l e = let close-is : Close k ≡ Close l = sym (side-close k) ∙ ap sideOf e ∙ side-close l in cc
 
 pub kind-once : (k l : Kind) {x : ℕ} → (x ≡ openOf k) ⊎ (x ≡ closeOf k) → (x ≡ openOf l) ⊎ (x ≡ closeOf l) → k ≡ l
 kind-once k l (inl e) (inl f) = kind-open k l (sym e ∙ f)

@@ -56,8 +56,13 @@ module _ (t : List ℕ) (row col : ℕ) where
   -- what the search in the row has found
   pub plain-first : (i : ℕ) → firstBracket (rowAt t row) col ≡ At i → FirstPlain t row col i
   plain-first i e =
-      let f = first-told (λ m. keyBracket (getD (rowAt t row) m 0)) col (rowLen t row) i e in
-      record { from = f .from; in-row = f .below; plain = plain-told _ (f .passes); first = λ m l h. no-plain-there m (f .none m l h) }
+      let by-first-told = first-told (λ m. keyBracket (getD (rowAt t row) m 0)) col (rowLen t row) i e in
+      record {
+        from = by-first-told .from;
+        in-row = by-first-told .below;
+        plain = plain-told _ (by-first-told .passes);
+        first = λ m l h. no-plain-there m (by-first-told .none m l h);
+      }
 
   pub plain-none : firstBracket (rowAt t row) col ≡ Nothing → (m : ℕ) → col ≤ m → m < rowLen t row → plainAt t row m → ⊥
   plain-none e m l h = no-plain-there m (first-none (λ i. keyBracket (getD (rowAt t row) i 0)) col (rowLen t row) e m l h)

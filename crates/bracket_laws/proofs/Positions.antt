@@ -33,8 +33,8 @@ module _ {t : List ℕ} {p : Position} (h : inText t p) where
   -- its offset has no other position
   pub pos-offset : posOf t (offsetOf t p) ≡ p
   pos-offset =
-      let b = row-there t (offsetOf t p) (omega (arith, offset-in)) in
-      pos-eq (same-row b at-pos) (same-col b at-pos)
+      let by-row-there = row-there t (offsetOf t p) (omega (arith, offset-in)) in
+      pos-eq (same-row by-row-there at-pos) (same-col by-row-there at-pos)
 
 -- a code point that is no separator has a position
 module _ (t : List ℕ) (j : ℕ) (h : j < length t) (n : getD t j 0 ≡ 10 → ⊥) where
@@ -43,8 +43,8 @@ module _ (t : List ℕ) (j : ℕ) (h : j < length t) (n : getD t j 0 ≡ 10 → 
 
   pub pos-in : inText t (posOf t j)
   pos-in =
-      let a = row-there t j (omega arith) in
-      record { in-row = a .in-row; in-col = on-char a h n }
+      let by-row-there = row-there t j (omega arith) in
+      record { in-row = by-row-there .in-row; in-col = on-char by-row-there h n }
 
 module _ {t : List ℕ} {p q : Position} (a : inText t p) (b : inText t q) where
   pub offset-once : offsetOf t p ≡ offsetOf t q → p ≡ q
@@ -57,5 +57,5 @@ module _ {t : List ℕ} {p q : Position} (a : inText t p) (b : inText t q) where
       on (yes e) d = inl e
       on (no e) (yes f) = absurd (omega (arith, rows-apart t (q .row) (p .row) f (a .in-row), b .in-col))
       on (no e) (no f) =
-          let r : p .row ≡ q .row = omega arith in
-          inr (r, omega (arith, ap (rowStart t) r))
+          let row-is : p .row ≡ q .row = omega arith in
+          inr (row-is, omega (arith, ap (rowStart t) row-is))

@@ -37,7 +37,7 @@ module _ {o c : ℕ} {t : List ℕ} {i e j d : ℕ} (a : Ahead o c t i e j d) wh
     -- one place on, where the depth is f
     next : (f : ℕ) → 1 ≤ f → f ≤ d + 1 → tally o t (suc j) + tally c t i + e ≡ tally c t (suc j) + tally o t i + f → Ahead o c t i e (j + 1) f
     next f p l q =
-        let n : (x : ℕ) → tally x t (j + 1) ≡ tally x t (suc j) = λ x. ap (tally x t) (add-one j) in
+        let tally-is : (x : ℕ) → tally x t (j + 1) ≡ tally x t (suc j) = λ x. ap (tally x t) (add-one j) in
         let no = closes-not o c t i e j (omega (arith, a .after)) (λ v. omega arith) in
         record {
           hands = a .hands;
@@ -45,23 +45,23 @@ module _ {o c : ℕ} {t : List ℕ} {i e j d : ℕ} (a : Ahead o c t i e j d) wh
           inside = omega arith;
           deep = p;
           bound = omega (arith, a .bound);
-          depth = omega (arith, n o, n c);
+          depth = omega (arith, tally-is o, tally-is c);
           same = a .same ∙ first-on (closesAt o c t i e) j (length t) h no;
         }
 
     pub ahead-close : getD t j 0 ≡ c → (d - 1 ≡ 0 → ⊥) → Ahead o c t i e (j + 1) (d - 1)
     ahead-close x n =
-        let r = hit c o t j h (λ f. a .hands .differ (sym f)) x in
+        let by-hit = hit c o t j h (λ f. a .hands .differ (sym f)) x in
         next (d - 1) (omega arith) (omega arith) (omega (arith, a .depth))
 
     pub ahead-open : getD t j 0 ≡ o → Ahead o c t i e (j + 1) (d + 1)
-    ahead-open x = let r = hit o c t j h (a .hands .differ) x in next (d + 1) (omega arith) (omega arith) (omega (arith, a .depth))
+    ahead-open x = let by-hit = hit o c t j h (a .hands .differ) x in next (d + 1) (omega arith) (omega arith) (omega (arith, a .depth))
 
     pub ahead-other : (getD t j 0 ≡ o → ⊥) → (getD t j 0 ≡ c → ⊥) → Ahead o c t i e (j + 1) d
-    ahead-other x y = let r = miss o c t j h x y in next d (a .deep) (omega arith) (omega (arith, a .depth))
+    ahead-other x y = let by-miss = miss o c t j h x y in next d (a .deep) (omega arith) (omega (arith, a .depth))
 
     pub ahead-found : getD t j 0 ≡ c → d - 1 ≡ 0 → closeFrom o c t i e ≡ At j
     ahead-found x z =
-        let r = hit c o t j h (λ f. a .hands .differ (sym f)) x in
+        let by-hit = hit c o t j h (λ f. a .hands .differ (sym f)) x in
         let so = closes-so o c t i e j (omega (arith, a .after)) x (omega (arith, a .depth, a .deep)) in
         a .same ∙ first-stop (closesAt o c t i e) j (length t) h so

@@ -33,7 +33,7 @@ module _ {o c : ℕ} {t : List ℕ} {j e i d : ℕ} (a : Behind o c t j e i d) w
 
   module _ (h : 0 < i) where
     seam : (x : ℕ) → tally x t (suc (i - 1)) ≡ tally x t i
-    seam x = let q : suc (i - 1) ≡ i = omega arith in ap (tally x t) q
+    seam x = let one-more-is : suc (i - 1) ≡ i = omega arith in ap (tally x t) one-more-is
 
     within : i - 1 < length t
     within = omega (arith, a .before, a .inside)
@@ -54,19 +54,19 @@ module _ {o c : ℕ} {t : List ℕ} {j e i d : ℕ} (a : Behind o c t j e i d) w
 
     pub behind-open : getD t (i - 1) 0 ≡ o → (d - 1 ≡ 0 → ⊥) → Behind o c t j e (i - 1) (d - 1)
     behind-open x n =
-        let r = hit o c t (i - 1) within (a .hands .differ) x in
+        let by-hit = hit o c t (i - 1) within (a .hands .differ) x in
         prev (d - 1) (omega arith) (omega arith) (omega (arith, a .depth, seam o, seam c))
 
     pub behind-close : getD t (i - 1) 0 ≡ c → Behind o c t j e (i - 1) (d + 1)
     behind-close x =
-        let r = hit c o t (i - 1) within (λ f. a .hands .differ (sym f)) x in
+        let by-hit = hit c o t (i - 1) within (λ f. a .hands .differ (sym f)) x in
         prev (d + 1) (omega arith) (omega arith) (omega (arith, a .depth, seam o, seam c))
 
     pub behind-other : (getD t (i - 1) 0 ≡ o → ⊥) → (getD t (i - 1) 0 ≡ c → ⊥) → Behind o c t j e (i - 1) d
-    behind-other x y = let r = miss o c t (i - 1) within x y in prev d (a .deep) (omega arith) (omega (arith, a .depth, seam o, seam c))
+    behind-other x y = let by-miss = miss o c t (i - 1) within x y in prev d (a .deep) (omega arith) (omega (arith, a .depth, seam o, seam c))
 
     pub behind-found : getD t (i - 1) 0 ≡ o → d - 1 ≡ 0 → openBelow o c t j e ≡ At (i - 1)
     behind-found x z =
-        let r = hit o c t (i - 1) within (a .hands .differ) x in
+        let by-hit = hit o c t (i - 1) within (a .hands .differ) x in
         let so = opens-so o c t j e (i - 1) (omega (arith, a .before)) x (omega (arith, a .depth, a .deep, seam o, seam c)) in
         a .same ∙ last-stop (opensAt o c t j e) i h so

@@ -26,14 +26,14 @@ module _ (o c : ℕ) (t : List ℕ) where
       where
         on : (b : Bool) → closesAt o c t i d j ≡ b → b ≡ false
         on true e =
-            let q : count o (stretch t i j) + d ≡ count c (stretch t i j) = eqb-true _ _ (both (eqb (getD t j 0) c) _ e .1) in
-            absurd (n (omega (arith, q, tally-stretch o t i j h, tally-stretch c t i j h)))
+            let sum-is : count o (stretch t i j) + d ≡ count c (stretch t i j) = eqb-true _ _ (both (eqb (getD t j 0) c) _ e .1) in
+            absurd (n (omega (arith, sum-is, tally-stretch o t i j h, tally-stretch c t i j h)))
         on false e = refl
 
     pub closes-so : getD t j 0 ≡ c → Closed → closesAt o c t i d j ≡ true
     closes-so q e =
-        let n : count o (stretch t i j) + d ≡ count c (stretch t i j) = omega (arith, tally-stretch o t i j h, tally-stretch c t i j h) in
-        rw (eq-eqb _ _ q, eq-eqb _ _ n)
+        let sum-is : count o (stretch t i j) + d ≡ count c (stretch t i j) = omega (arith, tally-stretch o t i j h, tally-stretch c t i j h) in
+        rw (eq-eqb _ _ q, eq-eqb _ _ sum-is)
 
   -- back from j, with d closed: at i none is
   module _ (j d i : ℕ) (h : i ≤ j) where
@@ -45,14 +45,14 @@ module _ (o c : ℕ) (t : List ℕ) where
       where
         on : (b : Bool) → opensAt o c t j d i ≡ b → b ≡ false
         on true e =
-            let q : count o (upTo t i j) ≡ count c (upTo t i j) + d = eqb-true _ _ (both (eqb (getD t i 0) o) _ e .1) in
-            absurd (n (omega (arith, q, tally-up-to o t i j h, tally-up-to c t i j h)))
+            let count-is : count o (upTo t i j) ≡ count c (upTo t i j) + d = eqb-true _ _ (both (eqb (getD t i 0) o) _ e .1) in
+            absurd (n (omega (arith, count-is, tally-up-to o t i j h, tally-up-to c t i j h)))
         on false e = refl
 
     pub opens-so : getD t i 0 ≡ o → Opened → opensAt o c t j d i ≡ true
     opens-so q e =
-        let n : count o (upTo t i j) ≡ count c (upTo t i j) + d = omega (arith, tally-up-to o t i j h, tally-up-to c t i j h) in
-        rw (eq-eqb _ _ q, eq-eqb _ _ n)
+        let count-is : count o (upTo t i j) ≡ count c (upTo t i j) + d = omega (arith, tally-up-to o t i j h, tally-up-to c t i j h) in
+        rw (eq-eqb _ _ q, eq-eqb _ _ count-is)
 
   module _ (u : Hands o c) where
     -- behind an open its partner is where that one alone is closed
@@ -61,12 +61,12 @@ module _ (o c : ℕ) (t : List ℕ) where
       where
         agree : (m : ℕ) → i + 1 ≤ m → m < length t → balances o c t i m ≡ closesAt o c t (i + 1) 1 m
         agree m l b =
-            let r = hit o c t i h (u .differ) e in
-            let n : (x : ℕ) → tally x t (i + 1) ≡ tally x t (suc i) = λ x. ap (tally x t) (add-one i) in
+            let by-hit = hit o c t i h (u .differ) e in
+            let tally-is : (x : ℕ) → tally x t (i + 1) ≡ tally x t (suc i) = λ x. ap (tally x t) (add-one i) in
             let opens : count o (stretch t i m) ≡ count o (stretch t (i + 1) m) + 1 =
-            omega (arith, r .0, n o, tally-stretch o t i m (omega arith), tally-stretch o t (i + 1) m (omega arith)) in
+            omega (arith, by-hit .0, tally-is o, tally-stretch o t i m (omega arith), tally-stretch o t (i + 1) m (omega arith)) in
             let closes : count c (stretch t i m) ≡ count c (stretch t (i + 1) m) =
-            omega (arith, r .1, n c, tally-stretch c t i m (omega arith), tally-stretch c t (i + 1) m (omega arith)) in
+            omega (arith, by-hit .1, tally-is c, tally-stretch c t i m (omega arith), tally-stretch c t (i + 1) m (omega arith)) in
             rw (eq-eqb (getD t i 0) o e, opens, closes)
 
     -- before a close its partner is where that one alone is opened
@@ -75,9 +75,9 @@ module _ (o c : ℕ) (t : List ℕ) where
       where
         agree : (m : ℕ) → m < j → balances o c t m j ≡ opensAt o c t j 1 m
         agree m l =
-            let r = hit c o t j h (λ f. u .differ (sym f)) e in
+            let by-hit = hit c o t j h (λ f. u .differ (sym f)) e in
             let opens : count o (stretch t m j) ≡ count o (upTo t m j) =
-            omega (arith, r .1, tally-stretch o t m j (omega arith), tally-up-to o t m j (omega arith)) in
+            omega (arith, by-hit .1, tally-stretch o t m j (omega arith), tally-up-to o t m j (omega arith)) in
             let closes : count c (stretch t m j) ≡ count c (upTo t m j) + 1 =
-            omega (arith, r .0, tally-stretch c t m j (omega arith), tally-up-to c t m j (omega arith)) in
+            omega (arith, by-hit .0, tally-stretch c t m j (omega arith), tally-up-to c t m j (omega arith)) in
             rw (eq-eqb (getD t j 0) c e, and-true, opens, closes)

@@ -23,5 +23,5 @@ placed-none t e = rw e
 -- an offset with the start of its row as `up` finds it
 pub stands-up : {t : List ℕ} {row at : ℕ} {l : Line} → Stands t row (rowStart t row) at → l ≡ lineAt t (row - 0) → Stands t row (l .start) at
 stands-up {t} {row} {at} {l} s e =
-    let z : row - 0 ≡ row = omega arith in
-    at-stands (stands-at s) (l .start) (ap (λ (x : Line). x .start) e ∙ ap (rowStart t) z)
+    let row-less-zero : row - 0 ≡ row = omega arith in
+    at-stands (stands-at s) (l .start) (ap (λ (x : Line). x .start) e ∙ ap (rowStart t) row-less-zero)

@@ -71,7 +71,7 @@ side-told x = go (eqb x 40) (eqb x 41) (eqb x 91) (eqb x 93) (eqb x 123) (eqb x 
 
 -- an open is no close
 pub hands-differ : (k l : Kind) → openOf k ≡ closeOf l → ⊥
-hands-differ k l e = let z : Open k ≡ Close l = sym (side-open k) ∙ ap sideOf e ∙ side-close l in let y : _≡_ {A = ℕ} 0 1 = cc in omega arith
+hands-differ k l e = let never : Open k ≡ Close l = sym (side-open k) ∙ ap sideOf e ∙ side-close l in let nonsense : _≡_ {A = ℕ} 0 1 = cc in omega arith
 
 -- the two brackets of a kind differ, and neither is a separator
 pub differ : (k : Kind) → openOf k ≡ closeOf k → ⊥
@@ -91,14 +91,14 @@ module _ (t : List ℕ) (i : ℕ) {l : Line} (s : Starts t l i) (k : Kind) {o c 
 
     pub open-asked : Goes t (l .row) (l .start) (i + 1) 1 × Hands o c
     open-asked =
-        let u : Hands o c = rw (p, q) (hands k) in (
+        let hands-here : Hands o c = rw (p, q) (hands k) in (
           record {
-            stands = step-char (s .stands) (s .inside) (λ n. u .open-char (sym opens ∙ n));
+            stands = step-char (s .stands) (s .inside) (λ n. hands-here .open-char (sym opens ∙ n));
             short = s .short;
             deep = omega arith;
             bound = omega arith;
           },
-          u,
+          hands-here,
         )
 
     pub open-answer : {r : Partner} → r ≡ placed t (closeFrom o c t (i + 1) 1) → r ≡ placed t (partnerOf t i)

@@ -80,7 +80,7 @@ module _ (t : List ℕ) (n col : ℕ) {l : Line} (h : n < rowCount t) (e : l ≡
 
     module _ (ok : textRefusal t ≡ 0) {at : ℕ} (s : f ≡ At at) where
       there : (col < rowLen t (l .row)) × (l .start + col ≡ at)
-      there = let c = column-told t (l .row) col at (sym g ∙ s) in (c .0, omega (arith, c .1, row-there .begins))
+      there = let by-column-told = column-told t (l .row) col at (sym g ∙ s) in (by-column-told .0, omega (arith, by-column-told .1, row-there .begins))
 
       pub place-starts : Starts t l at
       place-starts = subst (Starts t l) (there .1) (line-starts t ok row-there col (there .0))

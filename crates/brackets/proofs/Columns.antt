@@ -21,8 +21,8 @@ module _ {t : List ℕ} {row start i : ℕ} (s : Stands t row start i) (col left
   pub column-at : i < length t → (getD t i 0 ≡ 10 → ⊥) → left ≡ 0 → At i ≡ columnOf t row col
   unfolding columnOf
   column-at h n z =
-      let l : col < rowLen t row = omega (arith, on-char (stands-at s) h n, s .from) in
-      rw (lt-ltb _ _ l) (ap At (omega (arith, s .begins)))
+      let col-below : col < rowLen t row = omega (arith, on-char (stands-at s) h n, s .from) in
+      rw (lt-ltb _ _ col-below) (ap At (omega (arith, s .begins)))
 
   out : rowLen t row ≤ col → Nothing ≡ columnOf t row col
   unfolding columnOf

@@ -24,8 +24,8 @@ module _ {s u v room room′ : List ℕ} {n : ℕ} (h : FilledThree s u v room n
   -- a call that is refused for what was lent leaves all as it was
   pub joined-unfit : (n ≡ 0 → ⊥) → {m : Reply} {out : List ℕ} → AnsweredAll (s ∷ u ∷ v ∷ []) room out m n room′ out
   joined-unfit z =
-      let w : eqb (unfitAll (s ∷ u ∷ v ∷ []) room) 0 ≡ false = ne-eqb _ 0 (λ q. z (h .numbered ∙ q)) in
-      record { numbered = rw w (h .numbered); room-left = rw w (h .kept z); out-left = rw w }
+      let test-is : eqb (unfitAll (s ∷ u ∷ v ∷ []) room) 0 ≡ false = ne-eqb _ 0 (λ q. z (h .numbered ∙ q)) in
+      record { numbered = rw test-is (h .numbered); room-left = rw test-is (h .kept z); out-left = rw test-is }
 
   -- the first code points stand at the start of the room
   pub first-length : n ≡ 0 → length s / 4 ≡ length (take (length s / 4) room′)
@@ -37,9 +37,16 @@ module _ {s u v room room′ : List ℕ} {n : ℕ} (h : FilledThree s u v room n
       Replied (f (take (length s / 4) room′) (take (a - length s / 4) (drop (length s / 4) room′)) (take (b - a) (drop a room′))) out r out′ →
       AnsweredAll (s ∷ u ∷ v ∷ []) room out (f (points s) (points u) (points v)) r room′ out′
   joined-three f z {out} {out′} {r} a b ea eb p =
-      let t = h .fit z in
-      let x : a - length s / 4 ≡ length u / 4 = omega arith in
-      let y : b - a ≡ length v / 4 = omega arith in
-      let q : Replied (f (points s) (points u) (points v)) out r out′ = rw (x, y, ea, t .first, t .second, t .third) at p in
-      let w : eqb (unfitAll (s ∷ u ∷ v ∷ []) room) 0 ≡ true = eq-eqb _ 0 (sym (h .numbered) ∙ z) in
-      record { numbered = rw w (q .numbered); room-left = rw w (t .room-left); out-left = rw w (q .out-left) }
+      let by-fit = h .fit z in
+      let difference-is : a - length s / 4 ≡ length u / 4 = omega arith in
+      let quotient-is : b - a ≡ length v / 4 = omega arith in
+      let replied : Replied (f (points s) (points u) (points v)) out r out′ = rw (
+        difference-is,
+        quotient-is,
+        ea,
+        by-fit .first,
+        by-fit .second,
+        by-fit .third,
+      ) at p in
+      let test-is : eqb (unfitAll (s ∷ u ∷ v ∷ []) room) 0 ≡ true = eq-eqb _ 0 (sym (h .numbered) ∙ z) in
+      record { numbered = rw test-is (replied .numbered); room-left = rw test-is (by-fit .room-left); out-left = rw test-is (replied .out-left) }

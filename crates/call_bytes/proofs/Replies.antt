@@ -39,8 +39,12 @@ module _ {s room room′ : List ℕ} {n : ℕ} (h : Filled s room n room′) whe
   -- a call that is refused for what was lent leaves all as it was
   pub answered-unfit : (n ≡ 0 → ⊥) → {m : Reply} {out : List ℕ} → Answered s room out m n room′ out
   answered-unfit z =
-      let w : unfitOne s room ≡ 0 → ⊥ = λ q. z (h .numbered ∙ q) in
-      record { numbered = h .numbered ∙ sym (fits-not _ _ _ w); room-left = h .kept z ∙ sym (fits-not _ _ _ w); out-left = sym (fits-not _ _ _ w) }
+      let unfit-one-not : unfitOne s room ≡ 0 → ⊥ = λ q. z (h .numbered ∙ q) in
+      record {
+        numbered = h .numbered ∙ sym (fits-not _ _ _ unfit-one-not);
+        room-left = h .kept z ∙ sym (fits-not _ _ _ unfit-one-not);
+        out-left = sym (fits-not _ _ _ unfit-one-not);
+      }
 
   -- the code points stand at the start of the room
   pub front-count : n ≡ 0 → length s / 4 ≡ length (take (length s / 4) room′)
@@ -51,9 +55,13 @@ module _ {s room room′ : List ℕ} {n : ℕ} (h : Filled s room n room′) whe
       (f : List ℕ → Reply) → n ≡ 0 → {out out′ : List ℕ} {r : ℕ} → Replied (f (take (length s / 4) room′)) out r out′ →
       Answered s room out (f (points s)) r room′ out′
   answered-one f z {out} {out′} {r} p =
-      let e : unfitOne s room ≡ 0 = sym (h .numbered) ∙ z in
-      let q = subst (λ (t : List ℕ). Replied (f t) out r out′) (h .fit z .front) p in
-      record { numbered = q .numbered ∙ sym (fits _ _ _ e); room-left = h .fit z .room-left ∙ sym (fits _ _ _ e); out-left = q .out-left ∙ sym (fits _ _ _ e) }
+      let unfit-one-is : unfitOne s room ≡ 0 = sym (h .numbered) ∙ z in
+      let here = subst (λ (t : List ℕ). Replied (f t) out r out′) (h .fit z .front) p in
+      record {
+        numbered = here .numbered ∙ sym (fits _ _ _ unfit-one-is);
+        room-left = h .fit z .room-left ∙ sym (fits _ _ _ unfit-one-is);
+        out-left = here .out-left ∙ sym (fits _ _ _ unfit-one-is);
+      }
 
   -- other lent places: kept where what was lent is unfit, and else as the call f on code points leaves them
   pub kept-unfit : (n ≡ 0 → ⊥) → (lent after : List ℕ) → lent ≡ fitting (unfitOne s room) after lent

@@ -13,10 +13,10 @@ use Rattle.call_edits.specs.Bytes.{EditsFilled}
 module _ {s room room′ : List ℕ} {n : ℕ} (h : Filled s room n room′) {buf fold caret sizes : List ℕ} {p : Position} where
   pub filled-unfit : (n ≡ 0 → ⊥) → EditsFilled buf fold p s room caret sizes n buf fold room′ caret sizes
   filled-unfit z =
-      let w : unfitOne s room ≡ 0 → ⊥ = λ q. z (h .numbered ∙ q) in
+      let unfit-one-not : unfitOne s room ≡ 0 → ⊥ = λ q. z (h .numbered ∙ q) in
       record {
-        room-left = rw (ne-eqb (unfitOne s room) 0 w) (h .kept z);
-        edited = λ q. absurd (w q);
+        room-left = rw (ne-eqb (unfitOne s room) 0 unfit-one-not) (h .kept z);
+        edited = λ q. absurd (unfit-one-not q);
         unfit = λ q. record { numbered = h .numbered; text-kept = refl; folds-kept = refl; caret-kept = refl; sizes-kept = refl };
       }
 
@@ -24,9 +24,9 @@ module _ {s room room′ : List ℕ} {n : ℕ} (h : Filled s room n room′) {bu
       HostEdits buf fold p p (take (length s / 4) room′) caret sizes r buf′ fold′ caret′ sizes′ →
       EditsFilled buf fold p s room caret sizes r buf′ fold′ room′ caret′ sizes′
   filled-edits z {r} {buf′} {fold′} {caret′} {sizes′} e =
-      let w : unfitOne s room ≡ 0 = sym (h .numbered) ∙ z in
+      let unfit-one-is : unfitOne s room ≡ 0 = sym (h .numbered) ∙ z in
       record {
-        room-left = rw (eq-eqb (unfitOne s room) 0 w) (h .fit z .room-left);
+        room-left = rw (eq-eqb (unfitOne s room) 0 unfit-one-is) (h .fit z .room-left);
         edited = λ q. subst (λ (c : List ℕ). HostEdits buf fold p p c caret sizes r buf′ fold′ caret′ sizes′) (h .fit z .front) e;
-        unfit = λ q. absurd (q w);
+        unfit = λ q. absurd (q unfit-one-is);
       }

@@ -56,25 +56,25 @@ module _ (buf folds : List ℕ) (s : Sizes) (p q : Position) (c : List ℕ) (k :
     where
       go : Dec (refusalOf buf folds s p q c k ≡ 0) → Fits e
       go (yes z) =
-          let w = editable buf folds s p q c k z (checkOf buf folds s p q c (here k)) refl in
-          let d : e ≡ Done (leftOf buf folds s p q c k) = is ∙ rw (eq-eqb (refusalOf buf folds s p q c k) 0 z) in
-          let f = few-folds (take (3 * s .count) folds) (rowCount (take (s .len) buf)) (w .folds-good) in
-          let g = kept-shorter (mappedRow (p .row) (q .row) (rowCount c - 1)) (take (3 * s .count) folds) in
-          rw d (record { len-fits = omega (arith, w .new-brief); count-fits = omega (arith, f, g) })
+          let by-editable = editable buf folds s p q c k z (checkOf buf folds s p q c (here k)) refl in
+          let e-is : e ≡ Done (leftOf buf folds s p q c k) = is ∙ rw (eq-eqb (refusalOf buf folds s p q c k) 0 z) in
+          let by-few-folds = few-folds (take (3 * s .count) folds) (rowCount (take (s .len) buf)) (by-editable .folds-good) in
+          let by-kept-shorter = kept-shorter (mappedRow (p .row) (q .row) (rowCount c - 1)) (take (3 * s .count) folds) in
+          rw e-is (record { len-fits = omega (arith, by-editable .new-brief); count-fits = omega (arith, by-few-folds, by-kept-shorter) })
       go (no n) =
-          let d : e ≡ Refused (refusalOf buf folds s p q c k) = is ∙ rw (ne-eqb (refusalOf buf folds s p q c k) 0 n) in
-          rw d (record { len-fits = omega arith; count-fits = omega arith })
+          let e-is : e ≡ Refused (refusalOf buf folds s p q c k) = is ∙ rw (ne-eqb (refusalOf buf folds s p q c k) 0 n) in
+          rw e-is (record { len-fits = omega arith; count-fits = omega arith })
 
 module _ {buf folds : List ℕ} {s : Sizes} {p q : Position} {c : List ℕ} {k : Caret} {e : Edited} where
   pub host-edits : {caret sizes : List ℕ} {r : ℕ} {buf′ folds′ caret′ sizes′ : List ℕ} → EditsTo buf folds s p q c k e buf′ folds′ →
       k ≡ caretIn caret → s ≡ sizesIn sizes → Replied (caretReply e) caret r caret′ → Replied (sizesReply e) sizes r sizes′ →
       HostEdits buf folds p q c caret sizes r buf′ folds′ caret′ sizes′
   host-edits {caret} {sizes} {r} {buf′} {folds′} {caret′} {sizes′} w k-is s-is x y =
-      let v = subst (λ (j : Sizes). EditsTo buf folds j p q c (caretIn caret) e buf′ folds′) s-is
+      let carried = subst (λ (j : Sizes). EditsTo buf folds j p q c (caretIn caret) e buf′ folds′) s-is
       (subst (λ (j : Caret). EditsTo buf folds s p q c j e buf′ folds′) k-is w) in
       record {
-        caret-left = replied-of caretReply (v .answer) x;
-        sizes-left = replied-of sizesReply (v .answer) y;
-        text-left = v .text;
-        folds-left = v .folds;
+        caret-left = replied-of caretReply (carried .answer) x;
+        sizes-left = replied-of sizesReply (carried .answer) y;
+        text-left = carried .text;
+        folds-left = carried .folds;
       }

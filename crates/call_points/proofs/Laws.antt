@@ -20,8 +20,8 @@ length-points (a ∷ b ∷ c ∷ d ∷ s) = omega (arith, length-points s)
 -- four bytes on
 skip : (a b c d : ℕ) (s : List ℕ) (m n : ℕ) → m ≡ 4 + n → getD (a ∷ b ∷ c ∷ d ∷ s) m 0 ≡ getD s n 0
 skip a b c d s m n e =
-    let f : m ≡ suc (suc (suc (suc n))) = omega arith in
-    rw f
+    let m-is : m ≡ suc (suc (suc (suc n))) = omega arith in
+    rw m-is
 
 -- the code point at an index
 pub point-at :
@@ -47,8 +47,8 @@ pub fill-on :
     (p d room : List ℕ) (i : ℕ) → room ≡ take i p ++ drop i d → i < length p → i < length d →
     set room i (getD p i 0) ≡ take (i + 1) p ++ drop (i + 1) d
 fill-on p d room i e hp hd =
-    let l : length (take i p) ≡ i = length-take-le i p (omega arith) in
-    rw (e, add-one, drop-cons d i 0 hd, set-at (take i p) (getD d i 0) (drop (suc i) d) (getD p i 0) i l, take-suc p i 0 hp)
+    let size-is : length (take i p) ≡ i = length-take-le i p (omega arith) in
+    rw (e, add-one, drop-cons d i 0 hd, set-at (take i p) (getD d i 0) (drop (suc i) d) (getD p i 0) i size-is, take-suc p i 0 hp)
     (sym (append-snoc (take i p) (getD p i 0) (drop (suc i) d)))
 
 pub fill-length : (p d : List ℕ) (i : ℕ) → i ≤ length p → i ≤ length d → length (take i p ++ drop i d) ≡ length d
@@ -112,9 +112,9 @@ pub three-is : (s u v room room′ : List ℕ) → room′ ≡ points s ++ fille
 unfolding filledAll
 three-is s u v room room′ w h =
     let rest = filledTwo u v (drop (length s / 4) room) in
-    let e = part-rest s rest room′ w in
+    let by-part-rest = part-rest s rest room′ w in
     let last = drop (length u / 4 + length v / 4) (drop (length s / 4) room) in
-    let k : drop (length u / 4) (drop (length s / 4) room′) ≡ points v ++ last = rw e (part-rest u (points v ++ last) rest refl) in
+    let joined-is : drop (length u / 4) (drop (length s / 4) room′) ≡ points v ++ last = rw by-part-rest (part-rest u (points v ++ last) rest refl) in
     let ls = length-drop (length s / 4) room in
     let luv = length-drop (length u / 4 + length v / 4) (drop (length s / 4) room) in
     record {
@@ -124,6 +124,6 @@ three-is s u v room room′ w h =
           omega
           (arith, part-length s rest room′ w, part-length u (points v ++ last) rest refl, part-length v last (points v ++ last) refl, ls, luv);
       first = part-first s rest room′ w;
-      second = rw e (part-first u (points v ++ last) rest refl);
-      third = rw (sym (drop-drop (length u / 4) (length s / 4) room′), k) (part-first v last (points v ++ last) refl);
+      second = rw by-part-rest (part-first u (points v ++ last) rest refl);
+      third = rw (sym (drop-drop (length u / 4) (length s / 4) room′), joined-is) (part-first v last (points v ++ last) refl);
     }

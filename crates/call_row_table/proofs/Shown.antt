@@ -44,8 +44,8 @@ plain-fits : (buf folds : List ℕ) (s : Sizes) (p q : Position) (c : List ℕ) 
     (leftOf buf folds s p q c k .sizes .len ≤ 4294967295) × (leftOf buf folds s p q c k .sizes .count ≤ 4294967295)
 unfolding editedBy Edits.lenOf Edits.countOf
 plain-fits buf folds s p q c k z =
-    let f = Shown.host-fits buf folds s p q c k (the-variants.Done (leftOf buf folds s p q c k)) (rw (eq-eqb (refusalOf buf folds s p q c k) 0 z)) in
-    (f .len-fits, f .count-fits)
+    let by-host-fits = Shown.host-fits buf folds s p q c k (the-variants.Done (leftOf buf folds s p q c k)) (rw (eq-eqb (refusalOf buf folds s p q c k) 0 z)) in
+    (by-host-fits .len-fits, by-host-fits .count-fits)
 
 module _ (buf folds table : List ℕ) (s : Sizes) (content : ℕ) (p q : Position) (c : List ℕ) (k : Caret) (e : EditedRows) where
   pub host-fits : e ≡ answeredBy (refusalWith buf folds table s content p q c k) (keptOf buf folds s p q c k) → Fits e
@@ -54,25 +54,26 @@ module _ (buf folds table : List ℕ) (s : Sizes) (content : ℕ) (p q : Positio
     where
       go : Dec (refusalWith buf folds table s content p q c k ≡ 0) → Fits e
       go (yes z) =
-          let d : e ≡ Done (keptOf buf folds s p q c k) = is ∙ rw (eq-eqb (refusalWith buf folds table s content p q c k) 0 z) in
-          let f = plain-fits buf folds s p q c k (not-refused buf folds table s content p q c k z) in
-          rw d (record { len-fits = f .0; count-fits = f .1 })
+          let e-is : e ≡ Done (keptOf buf folds s p q c k) = is ∙ rw (eq-eqb (refusalWith buf folds table s content p q c k) 0 z) in
+          let by-plain-fits = plain-fits buf folds s p q c k (not-refused buf folds table s content p q c k z) in
+          rw e-is (record { len-fits = by-plain-fits .0; count-fits = by-plain-fits .1 })
       go (no n) =
-          let d : e ≡ Refused (refusalWith buf folds table s content p q c k) = is ∙ rw (ne-eqb (refusalWith buf folds table s content p q c k) 0 n) in
-          rw d (record { len-fits = omega arith; count-fits = omega arith })
+          let e-is : e ≡ Refused (refusalWith buf folds table s content p q c k) = is ∙ rw (ne-eqb (refusalWith buf folds table s content p q c k) 0 n) in
+          rw e-is (record { len-fits = omega arith; count-fits = omega arith })
 
 module _ {buf folds table : List ℕ} {s : Sizes} {content : ℕ} {p q : Position} {c : List ℕ} {k : Caret} {e : EditedRows} where
-  pub host-keeps : {caret sizes : List ℕ} {r : ℕ} {buf′ folds′ starts′ caret′ sizes′ : List ℕ} → KeepsTo buf folds table s content p q c k e buf′ folds′ starts′ →
+  pub host-keeps : {caret sizes : List ℕ} {r : ℕ} {buf′ folds′ starts′ caret′ sizes′ : List ℕ} →
+      KeepsTo buf folds table s content p q c k e buf′ folds′ starts′ →
       k ≡ caretIn caret → s ≡ sizesIn sizes → content ≡ getD sizes 2 0 → Replied (caretReply e) caret r caret′ → Replied (sizesReply e) sizes r sizes′ →
       HostKeeps buf folds table p q c caret sizes r buf′ folds′ starts′ caret′ sizes′
   host-keeps {caret} {sizes} {r} {buf′} {folds′} {starts′} {caret′} {sizes′} w k-is s-is n-is x y =
-      let u = subst (λ (j : Caret). KeepsTo buf folds table s content p q c j e buf′ folds′ starts′) k-is w in
-      let i = subst (λ (j : Sizes). KeepsTo buf folds table j content p q c (caretIn caret) e buf′ folds′ starts′) s-is u in
-      let v = subst (λ (j : ℕ). KeepsTo buf folds table (sizesIn sizes) j p q c (caretIn caret) e buf′ folds′ starts′) n-is i in
+      let here = subst (λ (j : Caret). KeepsTo buf folds table s content p q c j e buf′ folds′ starts′) k-is w in
+      let carried = subst (λ (j : Sizes). KeepsTo buf folds table j content p q c (caretIn caret) e buf′ folds′ starts′) s-is here in
+      let carried-on = subst (λ (j : ℕ). KeepsTo buf folds table (sizesIn sizes) j p q c (caretIn caret) e buf′ folds′ starts′) n-is carried in
       record {
-        caret-left = replied-of caretReply (v .answer) x;
-        sizes-left = replied-of sizesReply (v .answer) y;
-        text-left = v .text;
-        folds-left = v .folds;
-        starts-left = v .starts;
+        caret-left = replied-of caretReply (carried-on .answer) x;
+        sizes-left = replied-of sizesReply (carried-on .answer) y;
+        text-left = carried-on .text;
+        folds-left = carried-on .folds;
+        starts-left = carried-on .starts;
       }

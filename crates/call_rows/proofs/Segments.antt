@@ -18,8 +18,8 @@ module _ {a : Ambiguous} {mode width : ℕ} {row segments : List ℕ} where
       r ≡ toldSegments m → Segmented a mode width row segments r segments′
   unfolding segmentedUnder leftUnder
   segmented-by {m} {r} {segments′} e h w q =
-      let v = subst (λ (x : Wrap). Wraps a x width row segments m segments′) e w in
-      record { answers = rw (le-leb mode 2 h) (q ∙ ap toldSegments (v .answer)); leaves = rw (le-leb mode 2 h) (v .left) }
+      let here = subst (λ (x : Wrap). Wraps a x width row segments m segments′) e w in
+      record { answers = rw (le-leb mode 2 h) (q ∙ ap toldSegments (here .answer)); leaves = rw (le-leb mode 2 h) (here .left) }
 
   -- a number that stands for no mode
   pub segmented-none : 2 < mode → Segmented a mode width row segments (Refused 100) segments

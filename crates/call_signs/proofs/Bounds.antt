@@ -70,8 +70,8 @@ module _ (l room : List ℕ) (m : Plain) (left : List ℕ) (p : PlainMade l room
       go :
           (b : Bool) → eqb (plainRefusal l room) 0 ≡ b → (c : Bool) → eqb (listRefusal l) 0 ≡ c →
           n ≡ sizeOf (cond (eqb (plainRefusal l room) 0) (Made (length (plain l))) (Plain·Refused (plainRefusal l room))) → n ≤ 1024
-      go false b c d s = let z : n ≡ 0 = s ∙ rw b in omega arith
+      go false b c d s = let n-is : n ≡ 0 = s ∙ rw b in omega arith
       go true b true d s =
-          let z : n ≡ length (plain l) = s ∙ rw b in
+          let n-is : n ≡ length (plain l) = s ∙ rw b in
           omega (arith, short l (listRefusal l) refl (eqb-true (listRefusal l) 0 d), converted l .shorter)
       go true b false d s = absurd (true≢false (sym b ∙ rw d))

@@ -44,7 +44,7 @@ read-place l = go (eqb (listRefusal l) 0) refl
       where
         cut : (b : Bool) → leb (length l) 1024 ≡ b → length l ≤ 1024
         cut true e = leb-true (length l) 1024 e
-        cut false e = let w : _≡_ {A = ℕ} 7 0 = rw e at z in absurd (omega arith)
+        cut false e = let never : _≡_ {A = ℕ} 7 0 = rw e at z in absurd (omega arith)
 
     go : (b : Bool) → eqb (listRefusal l) 0 ≡ b → cond b (answered (vimReading l)) (refusedAt 7 0) .place ≤ 1024
     go true e = omega (arith, answered-place l (vimReading l) refl, short (eqb-true (listRefusal l) 0 e))
@@ -64,7 +64,9 @@ tested-place x l n e =
   where
     go :
         (a b d : Bool) →
-        placeOf (cond a (cond b (Is (inVim (kept (readOf l .spec)) x)) (cond d (Bad (readOf l .place)) (Tested·Refused (readOf l .refusal)))) (Tested·Refused (charRefusal x))) ≤ 1024
+        placeOf
+        (cond a (cond b (Is (inVim (kept (readOf l .spec)) x)) (cond d (Bad (readOf l .place)) (Tested·Refused (readOf l .refusal))))
+        (Tested·Refused (charRefusal x))) ≤ 1024
     go true true d = omega arith
     go true false true = read-place l
     go true false false = omega arith

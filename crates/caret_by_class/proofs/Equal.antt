@@ -45,23 +45,23 @@ module _ (t : List ℕ) (word : ℕ → Bool) (p : Position) (w : Inside t p) wh
 
   pub asked : (folds : List ℕ) → foldRefusal folds (rowCount t) ≡ 0 → Asked c folds p
   asked folds good =
-      let d = law true in
-      let e : rowStart t (p .row) + p .col ≡ startOf c (p .row) + p .col = omega (arith, starts) in
+      let by-law = law true in
+      let sum-is : rowStart t (p .row) + p .col ≡ startOf c (p .row) + p .col = omega (arith, starts) in
       record {
         classes = record { text = t; word = word; same = refl };
-        good = rw (d .rows) at good;
-        in-row = omega (arith, w .in-row, d .rows);
-        inside = omega (arith, starts, at-le there, d .long);
-        row-is = sym row-at ∙ d .row _ (at-le there) ∙ ap (rowOf c) e;
+        good = rw (by-law .rows) at good;
+        in-row = omega (arith, w .in-row, by-law .rows);
+        inside = omega (arith, starts, at-le there, by-law .long);
+        row-is = sym row-at ∙ by-law .row _ (at-le there) ∙ ap (rowOf c) sum-is;
       }
 
   -- a place of the slice as a row and a column
   position-same : (i : ℕ) → i ≤ length t → positionOf c i ≡ pos t i
   position-same i h =
-      let d = law true in
-      let r : rowOf c i ≡ Offsets.rowOf t i = sym (d .row i h) in
-      ap (λ (x : ℕ). position x (i - startOf c x)) r
-      ∙ ap (λ (x : ℕ). position (Offsets.rowOf t i) (i - x)) (start-place d (Offsets.rowOf t i) (row-there t i h .in-row))
+      let by-law = law true in
+      let row-is : rowOf c i ≡ Offsets.rowOf t i = sym (by-law .row i h) in
+      ap (λ (x : ℕ). position x (i - startOf c x)) row-is
+      ∙ ap (λ (x : ℕ). position (Offsets.rowOf t i) (i - x)) (start-place by-law (Offsets.rowOf t i) (row-there t i h .in-row))
 
   module _ (folds : List ℕ) (big : Bool) (m : Motion) (stop : Bool) (count : ℕ) where
     abbrev from : ℕ
@@ -71,21 +71,21 @@ module _ (t : List ℕ) (word : ℕ → Bool) (p : Position) (w : Inside t p) wh
     from-low = omega (arith, starts, at-le there)
 
     from-pos : pos t from ≡ position (p .row) (p .col)
-    from-pos = let e : from ≡ rowStart t (p .row) + p .col = omega (arith, starts) in ap (pos t) e ∙ at-pos there
+    from-pos = let from-is : from ≡ rowStart t (p .row) + p .col = omega (arith, starts) in ap (pos t) from-is ∙ at-pos there
 
     pub equal : positionOf c (motion c folds big m stop count from) ≡ wordMotion t folds (kindOf word big) big m stop count (position (p .row) (p .col))
     equal =
-        let s = motion-same (law big) folds m stop count from from-low in
-        position-same _ (s .1) ∙ sym (s .0) ∙ ap (wordMotion t folds (kindOf word big) big m stop count) from-pos
+        let by-motion-same = motion-same (law big) folds m stop count from from-low in
+        position-same _ (by-motion-same .1) ∙ sym (by-motion-same .0) ∙ ap (wordMotion t folds (kindOf word big) big m stop count) from-pos
 
     -- its numbers fit a u32
     pub fits : length t ≤ 1048576 → (q : Position) → q ≡ positionOf c (motion c folds big m stop count from) → (q .row < 2 ^ 32) × (q .col < 2 ^ 32)
     fits b q e =
-        let s = motion-same (law big) folds m stop count from from-low in
-        let i = motion c folds big m stop count from in
-        let r = ap (λ (x : Position). x .row) (e ∙ position-same i (s .1)) in
-        let col = ap (λ (x : Position). x .col) (e ∙ position-same i (s .1)) in
-        (omega (arith, r, row-there t i (s .1) .in-row, count-le t, b), omega (arith, col, s .1, b))
+        let by-motion-same = motion-same (law big) folds m stop count from from-low in
+        let motion-here = motion c folds big m stop count from in
+        let same-row = ap (λ (x : Position). x .row) (e ∙ position-same motion-here (by-motion-same .1)) in
+        let col = ap (λ (x : Position). x .col) (e ∙ position-same motion-here (by-motion-same .1)) in
+        (omega (arith, same-row, row-there t motion-here (by-motion-same .1) .in-row, count-le t, b), omega (arith, col, by-motion-same .1, b))
 
 -- the classes at the front of the slice
 pub front : (word : ℕ → Bool) (t room : List ℕ) (n : ℕ) → n ≡ length t + 1 → take n (holding (classesOf word t) room) ≡ classesOf word t

@@ -28,16 +28,16 @@ module _ (t folds list : List ℕ) (k : Caret) (room : List ℕ) where
   pub by-three : (f : ℕ) → f ≡ lowest three → (f ≡ 0 → ⊥) → classRefusal t folds list k room ≡ f
   unfolding four
   by-three f e n =
-      let m : lowest three ≡ 0 → ⊥ = λ z. n (e ∙ z) in
-      let a = lowest-kept three (parseOf list .refusal) m in
-      lowest-kept four (placesRefusal t room) (λ z. m (sym a ∙ z)) ∙ a ∙ sym e
+      let lowest-not : lowest three ≡ 0 → ⊥ = λ z. n (e ∙ z) in
+      let by-lowest-kept = lowest-kept three (parseOf list .refusal) lowest-not in
+      lowest-kept four (placesRefusal t room) (λ z. lowest-not (sym by-lowest-kept ∙ z)) ∙ by-lowest-kept ∙ sym e
 
   module _ (z : lowest three ≡ 0) where
     pub by-list : (parseOf list .refusal ≡ 0 → ⊥) → classRefusal t folds list k room ≡ parseOf list .refusal
     unfolding four
     by-list n =
-        let a = lowest-last three (parseOf list .refusal) z in
-        lowest-kept four (placesRefusal t room) (λ q. n (sym a ∙ q)) ∙ a
+        let by-lowest-last = lowest-last three (parseOf list .refusal) z in
+        lowest-kept four (placesRefusal t room) (λ q. n (sym by-lowest-last ∙ q)) ∙ by-lowest-last
 
     pub by-places : parseOf list .refusal ≡ 0 → classRefusal t folds list k room ≡ placesRefusal t room
     unfolding four
@@ -64,6 +64,6 @@ entered-three t own folds k e is same q =
 pub three-none : (t folds : List ℕ) (k : Caret) → lowest (textRefusal t ∷ caretRefusal t k ∷ foldRefusal folds (rowCount t) ∷ []) ≡ 0 →
     (textRefusal t ≡ 0) × Inside t k × (foldRefusal folds (rowCount t) ≡ 0)
 three-none t folds k z =
-    let a = lowest-none (textRefusal t) (caretRefusal t k ∷ foldRefusal folds (rowCount t) ∷ []) z in
-    let b = lowest-none (caretRefusal t k) (foldRefusal folds (rowCount t) ∷ []) (a .1) in
-    (a .0, inside-at t (here k) (b .0), lowest-none (foldRefusal folds (rowCount t)) [] (b .1) .0)
+    let by-lowest-none = lowest-none (textRefusal t) (caretRefusal t k ∷ foldRefusal folds (rowCount t) ∷ []) z in
+    let lowest-none-here = lowest-none (caretRefusal t k) (foldRefusal folds (rowCount t) ∷ []) (by-lowest-none .1) in
+    (by-lowest-none .0, inside-at t (here k) (lowest-none-here .0), lowest-none (foldRefusal folds (rowCount t)) [] (lowest-none-here .1) .0)

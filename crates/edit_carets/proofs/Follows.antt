@@ -19,14 +19,14 @@ use Rattle.edit_carets.specs.Carets.{clearedAt, caretAfter, correctedBy,
 -- rows and columns of what is moved
 module _ (k : Caret) (c : Change) (f : Fits k c) (row-k : k .row ≤ 4294967295) (col-k : k .col ≤ 4294967295) where
   fits-behind : (b : Bool) →
-      let y = cond b (position (c .end .row) (c .end .col + (k .col - c .to .col))) (position (c .end .row + (k .row - c .to .row)) (k .col)) in
-      (y .row ≤ 4294967295) × (y .col ≤ 4294967295)
+      let choice = cond b (position (c .end .row) (c .end .col + (k .col - c .to .col))) (position (c .end .row + (k .row - c .to .row)) (k .col)) in
+      (choice .row ≤ 4294967295) × (choice .col ≤ 4294967295)
   fits-behind true = (omega (arith, f .sums .row-fits), omega (arith, f .sums .col-fits))
   fits-behind false = (omega (arith, f .sums .row-fits), omega arith)
 
   fits-all : (a b : Bool) (z : Position) → (z .row ≤ 4294967295) × (z .col ≤ 4294967295) →
-      let y = cond a (here k) (cond b (c .from) z) in
-      (y .row ≤ 4294967295) × (y .col ≤ 4294967295)
+      let choice = cond a (here k) (cond b (c .from) z) in
+      (choice .row ≤ 4294967295) × (choice .col ≤ 4294967295)
   fits-all true b z h = (row-k, col-k)
   fits-all false true z h = (f .row-fits, f .col-fits)
   fits-all false false z h = h

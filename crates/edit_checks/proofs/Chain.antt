@@ -130,8 +130,8 @@ module _ (buf folds : List ℕ) (s : Sizes) (p q : Position) (c : List ℕ) (k :
 
               new-size : s .len - (r .to - r .from) + length c ≡ length (textAfter t p q c)
               new-size =
-                  let o = there .order in
-                  let w = there .within in
+                  let order-there = there .order in
+                  let within-there = there .within in
                   omega (arith, from-is, to-is, size, replaced-length t (offsetOf t p) (offsetOf t q) c (omega arith))
 
               module _ (n : ℕ) (n-is : n ≡ roomRefusal (length buf) (s .len - (r .to - r .from) + length c)) where

@@ -71,8 +71,8 @@ pub lowest-back : (l m : List ℕ) → lowest l ≡ 0 → lowest (l ++ m) ≡ lo
 unfolding lowest
 lowest-back [] m z = refl
 lowest-back (f ∷ l) m z =
-    let p = lowest-none f l z in
-    rw (eq-eqb f 0 (p .0)) (lowest-back l m (p .1))
+    let by-lowest-none = lowest-none f l z in
+    rw (eq-eqb f 0 (by-lowest-none .0)) (lowest-back l m (by-lowest-none .1))
 
 pub lowest-head : (f : ℕ) (l : List ℕ) → (f ≡ 0 → ⊥) → lowest (f ∷ l) ≡ f
 unfolding lowest

@@ -25,7 +25,7 @@ use Rattle.edit_checks.specs.Refusals.{isStretch, stretchRefusal}
 use Rattle.edit_checks.specs.Checks.{spotOf, refusedBy, checkedBy, stretchOf}
 
 apart : _≡_ {A = Bool} false true → ⊥
-apart e = let z : _≡_ {A = ℕ} 0 1 = ap (λ (b : Bool). cond b 1 0) e in omega arith
+apart e = let never : _≡_ {A = ℕ} 0 1 = ap (λ (b : Bool). cond b 1 0) e in omega arith
 
 module _ (t : List ℕ) (p : Position) where
   pub spot-row : rowCount t ≤ p .row → Out ≡ spotOf t p
@@ -56,7 +56,7 @@ module _ (t : List ℕ) (p : Position) where
   out-outside e = go (isInside t p) refl e
     where
       go : (b : Bool) → isInside t p ≡ b → cond b (In (lineAt t (p .row))) Out ≡ Out → isInside t p ≡ false
-      go true u v = let z : _≡_ {A = Spot} (In (lineAt t (p .row))) Out = v in cc
+      go true u v = let never : _≡_ {A = Spot} (In (lineAt t (p .row))) Out = v in cc
       go false u v = u
 
   pub in-inside : (l : Line) → spotOf t p ≡ In l → (isInside t p ≡ true) × (l ≡ lineAt t (p .row))
@@ -65,7 +65,7 @@ module _ (t : List ℕ) (p : Position) where
     where
       go : (b : Bool) → isInside t p ≡ b → cond b (In (lineAt t (p .row))) Out ≡ In l → (isInside t p ≡ true) × (l ≡ lineAt t (p .row))
       go true u v = (u, cc)
-      go false u v = let z : _≡_ {A = Spot} Out (In l) = v in (cc, cc)
+      go false u v = let never : _≡_ {A = Spot} Out (In l) = v in (cc, cc)
 
   -- its row, found, and how long that is
   pub in-line : (l : Line) → spotOf t p ≡ In l → IsLine t l
@@ -80,7 +80,8 @@ module _ (t : List ℕ) (p : Position) where
 
 module _ (t : List ℕ) (p q : Position) where
   -- an answer of the checks, by the number that refuses
-  pub checked-none : (f : ℕ) (r : Checked) → f ≡ 0 → r ≡ record { refusal = 0; from = offsetOf t p; to = offsetOf t q; rows = rowCount t } → r ≡ checkedBy f t p q
+  pub checked-none : (f : ℕ) (r : Checked) → f ≡ 0 → r ≡ record { refusal = 0; from = offsetOf t p; to = offsetOf t q; rows = rowCount t } →
+      r ≡ checkedBy f t p q
   unfolding checkedBy
   checked-none f r z e = rw (eq-eqb f 0 z) e
 
@@ -92,7 +93,8 @@ module _ (t : List ℕ) (p q : Position) where
   unfolding checkedBy
   checked-number f r e = go (eqb f 0) refl e
     where
-      go : (b : Bool) → eqb f 0 ≡ b → r ≡ cond b (record { refusal = 0; from = offsetOf t p; to = offsetOf t q; rows = rowCount t }) (refusedBy f) → r .refusal ≡ f
+      go : (b : Bool) → eqb f 0 ≡ b → r ≡ cond b (record { refusal = 0; from = offsetOf t p; to = offsetOf t q; rows = rowCount t }) (refusedBy f) →
+          r .refusal ≡ f
       go true u v = ap (λ (x : Checked). x .refusal) v ∙ sym (eqb-true f 0 u)
       go false u v = ap (λ (x : Checked). x .refusal) v
 
@@ -114,12 +116,13 @@ module _ (t : List ℕ) (p q : Position) where
   stretch-order a b true e = rw (a, b, e)
   stretch-order a b false e = rw (a, b, e)
 
-  pub stretch-none : (l m : Line) (rows : ℕ) → rows ≡ rowCount t → (isInside t p ≡ true) × (l ≡ lineAt t (p .row)) → (isInside t q ≡ true) × (m ≡ lineAt t (q .row)) →
+  pub stretch-none : (l m : Line) (rows : ℕ) → rows ≡ rowCount t → (isInside t p ≡ true) × (l ≡ lineAt t (p .row)) →
+      (isInside t q ≡ true) × (m ≡ lineAt t (q .row)) →
       isBefore q p ≡ false → record { refusal = 0; from = l .start + p .col; to = m .start + q .col; rows = rows } ≡ stretchOf t p q
   stretch-none l m rows r u v o =
-      let f = ap (λ (x : Line). x .start + p .col) (u .1) in
-      let g = ap (λ (x : Line). x .start + q .col) (v .1) in
-      checked-none (stretchRefusal t p q) _ (stretch-order (u .0) (v .0) false o) (λ i. record { refusal = 0; from = f i; to = g i; rows = r i })
+      let same-start = ap (λ (x : Line). x .start + p .col) (u .1) in
+      let same = ap (λ (x : Line). x .start + q .col) (v .1) in
+      checked-none (stretchRefusal t p q) _ (stretch-order (u .0) (v .0) false o) (λ i. record { refusal = 0; from = same-start i; to = same i; rows = r i })
 
   -- a stretch that is not refused
   pub record Stretches : Type 0 where
@@ -137,6 +140,11 @@ module _ (t : List ℕ) (p q : Position) where
       go true false o u v w h = absurd (omega (arith, h))
       go true true true u v w h = absurd (omega (arith, h))
       go true true false u v w h =
-          let x = inside-stays t p (is-inside t p u) in
-          let y = inside-stays t q (is-inside t q v) in
-          record { first = x; second = y; order = ltb-false _ _ (sym (before-offset y x) ∙ w); within = at-le y }
+          let by-inside-stays = inside-stays t p (is-inside t p u) in
+          let by-inside-stays-t = inside-stays t q (is-inside t q v) in
+          record {
+            first = by-inside-stays;
+            second = by-inside-stays-t;
+            order = ltb-false _ _ (sym (before-offset by-inside-stays-t by-inside-stays) ∙ w);
+            within = at-le by-inside-stays-t;
+          }

@@ -49,17 +49,17 @@ behind-row c x h = go (ℕ-discrete (x .row) (c .to .row))
 module _ (t c : List ℕ) (p q : Position) (first : StandsIn t p) (second : StandsIn t q) (order : offsetOf t p ≤ offsetOf t q) where
   pub rows-after : p .row ≤ q .row → rowCount (textAfter t p q c) ≡ rowCount t - (q .row - p .row) + (rowCount c - 1)
   rows-after h =
-      let a = offsetOf t p in
-      let b = offsetOf t q in
+      let offset = offsetOf t p in
+      let the-offset = offsetOf t q in
       let last : Position = position (rowCount t - 1) (rowLen t (rowCount t - 1)) in
-      let w : Stays t last (length t) = at-last t in
-      let k : Change = record { from = p; to = q; end = endOf p c } in
-      let s = stays-behind t c p q a b first second order w (at-le second) in
-      let n : length (textAfter t p q c) ≡ a + length c + (length t - b) = replaced-length t a b c (at-le first) in
-      let e = rw n at (at-last (textAfter t p q c)) in
-      let r : behind k last .row ≡ rowCount (textAfter t p q c) - 1 = same-row s e in
-      let d = behind-row k last (omega (arith, second .in-row)) in
-      omega (arith, r, d, end-rows p c, second .in-row, rows-pos (textAfter t p q c), rows-pos t)
+      let stays : Stays t last (length t) = at-last t in
+      let change : Change = record { from = p; to = q; end = endOf p c } in
+      let by-stays-behind = stays-behind t c p q offset the-offset first second order stays (at-le second) in
+      let size-is : length (textAfter t p q c) ≡ offset + length c + (length t - the-offset) = replaced-length t offset the-offset c (at-le first) in
+      let rewritten = rw size-is at (at-last (textAfter t p q c)) in
+      let behind-is : behind change last .row ≡ rowCount (textAfter t p q c) - 1 = same-row by-stays-behind rewritten in
+      let by-behind-row = behind-row change last (omega (arith, second .in-row)) in
+      omega (arith, behind-is, by-behind-row, end-rows p c, second .in-row, rows-pos (textAfter t p q c), rows-pos t)
 
 module _ (buf fold : List ℕ) (s : Sizes) (p q : Position) (c : List ℕ) (k : Caret) (z : refusalOf buf fold s p q c k ≡ 0) where
   abbrev t : List ℕ
@@ -74,24 +74,25 @@ module _ (buf fold : List ℕ) (s : Sizes) (p q : Position) (c : List ℕ) (k : 
   pub edit-sound : Sound buf fold s p q c k
   unfolding refilled
   edit-sound =
-      let e = editable buf fold s p q c k z (checkOf buf fold s p q c (here k)) refl in
-      let a = offsetOf t p in
-      let b = offsetOf t q in
+      let by-editable = editable buf fold s p q c k z (checkOf buf fold s p q c (here k)) refl in
+      let offset = offsetOf t p in
+      let the-offset = offsetOf t q in
       let old = take (3 * s .count) fold in
-      let f = mappedRow (p .row) (q .row) (rowCount c - 1) in
-      let rows = rows-after t c p q (e .first) (e .second) (e .order) (e .rows-order) in
-      let good = kept-good f (rowCount t) (rowCount new) (λ x y h l. map-up (p .row) (q .row) (rowCount c - 1) (e .rows-order) x y h)
-      (λ x h. map-inside (p .row) (q .row) (rowCount c - 1) (e .rows-order) (rowCount t) (rowCount new) (e .second .in-row) rows x h) old
-      (folds-good old (rowCount t) (e .folds-good)) in
-      let few = folds-few old (rowCount t) (e .folds-good) in
-      let three = kept-three f old in
-      let o = offsetAfter a b (length c) (offsetOf t (here k)) in
-      let there = pos-there new o (at-le (moved-after t c p q a b (e .first) (e .second) (e .order) (e .caret))) in
+      let mapped-row = mappedRow (p .row) (q .row) (rowCount c - 1) in
+      let rows = rows-after t c p q (by-editable .first) (by-editable .second) (by-editable .order) (by-editable .rows-order) in
+      let good = kept-good mapped-row (rowCount t) (rowCount new) (λ x y h l. map-up (p .row) (q .row) (rowCount c - 1) (by-editable .rows-order) x y h)
+      (λ x h. map-inside (p .row) (q .row) (rowCount c - 1) (by-editable .rows-order) (rowCount t) (rowCount new) (by-editable .second .in-row) rows x h) old
+      (folds-good old (rowCount t) (by-editable .folds-good)) in
+      let few = folds-few old (rowCount t) (by-editable .folds-good) in
+      let three = kept-three mapped-row old in
+      let offset-after = offsetAfter offset the-offset (length c) (offsetOf t (here k)) in
+      let there = pos-there new offset-after
+      (at-le (moved-after t c p q offset the-offset (by-editable .first) (by-editable .second) (by-editable .order) (by-editable .caret))) in
       record {
         accepted = record {
-          text-good = replaced-good t a b c (text-good buf fold s p q c k z) (points-good buf fold s p q c k z) (e .new-brief);
-          folds-good = folds-accepted kept (rowCount new) three (omega (arith, kept-most f old, few .1)) good;
-          inside = inside-taken new (posOf new o) (record { in-row = there .in-row; in-col = there .in-col });
+          text-good = replaced-good t offset the-offset c (text-good buf fold s p q c k z) (points-good buf fold s p q c k z) (by-editable .new-brief);
+          folds-good = folds-accepted kept (rowCount new) three (omega (arith, kept-most mapped-row old, few .1)) good;
+          inside = inside-taken new (posOf new offset-after) (record { in-row = there .in-row; in-col = there .in-col });
         };
         text-held =
             rw (append-assoc new (zeros (s .len - length new)) (drop (max (s .len) (length new)) buf))

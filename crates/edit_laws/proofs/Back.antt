@@ -35,8 +35,8 @@ after-back a n x = go (decLt x a)
     go : Dec (x < a) → offsetAfter a (a + n) 0 (offsetAfter a a n x) ≡ x
     go (yes h) = rw (lt-ltb x a h, lt-ltb x a h)
     go (no h) =
-        let e : x - (a - a) + n ≡ x + n = omega arith in
-        rw (le-ltb x a (omega arith), e, le-ltb (x + n) a (omega arith), le-ltb (x + n) (a + n) (omega arith)) (omega arith)
+        let difference-is : x - (a - a) + n ≡ x + n = omega arith in
+        rw (le-ltb x a (omega arith), difference-is, le-ltb (x + n) a (omega arith), le-ltb (x + n) (a + n) (omega arith)) (omega arith)
 
 module _ (t folds c : List ℕ) (p x : Position) (at : StandsIn t p) (caret : StandsIn t x) (good : foldRefusal folds (rowCount t) ≡ 0) where
   abbrev a : ℕ
@@ -53,22 +53,22 @@ module _ (t folds c : List ℕ) (p x : Position) (at : StandsIn t p) (caret : St
 
   back : textAfter new p (endOf p c) [] ≡ t
   back =
-      let n = length-take-le a t (at-le at) in
+      let by-length-take-le = length-take-le a t (at-le at) in
       let none : drop a (take a t) ≡ [] = drop-of-length-le (take a t) {i = a} (omega arith) in
       (λ i. replaced new (from-is i) (to-is i) []) ∙ ap (replaced new a (a + length c)) (sym none) ∙ replaced-back t a a c (omega arith) (at-le at)
 
   pub taken-back : TakenBack t folds p c x
   taken-back =
-      let w = moved-after t c p p a a at at (omega arith) caret in
-      let o = offsetAfter a a (length c) (offsetOf t x) in
-      let there : offsetOf new (posOf new o) ≡ o = sym (pos-there new o (at-le w) .offset) in
-      let k = rowCount c - 1 in
+      let by-moved-after = moved-after t c p p a a at at (omega arith) caret in
+      let offset-after = offsetAfter a a (length c) (offsetOf t x) in
+      let there : offsetOf new (posOf new offset-after) ≡ offset-after = sym (pos-there new offset-after (at-le by-moved-after) .offset) in
+      let difference = rowCount c - 1 in
       let none : rowCount [] - 1 ≡ 0 = omega (arith, ap length rows-nil) in
       record {
         text-back = back;
         folds-back =
-            (λ i. keptFolds (mappedRow (p .row) (end-rows p c i) (none i)) (keptFolds (mappedRow (p .row) (p .row) k) folds))
-            ∙ folds-taken-back (p .row) k folds (folds-few folds (rowCount t) good .0);
+            (λ i. keptFolds (mappedRow (p .row) (end-rows p c i) (none i)) (keptFolds (mappedRow (p .row) (p .row) difference) folds))
+            ∙ folds-taken-back (p .row) difference folds (folds-few folds (rowCount t) good .0);
         caret-back =
             (λ i. posOf (back i) (offsetAfter (from-is i) (to-is i) 0 (there i)))
             ∙ ap (posOf t) (after-back a (length c) (offsetOf t x))

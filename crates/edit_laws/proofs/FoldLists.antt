@@ -56,9 +56,9 @@ module _ (f : ℕ → ℕ) (rows rows′ : ℕ) (up : (x y : ℕ) → x ≤ y �
   kept-good (s ∷ []) b = refl
   kept-good (s ∷ e ∷ []) b = refl
   kept-good (s ∷ e ∷ closed ∷ folds) b =
-      let n = neither (badFold rows s e closed) (anyFold (badFold rows) folds) b in
-      let g = good-fold rows s e closed (n .0) in
-      go (isLost s e (f s) (f e)) (up s e (g .0) (g .1)) (inside e (g .1)) (g .2) (kept-good folds (n .1))
+      let by-neither = neither (badFold rows s e closed) (anyFold (badFold rows) folds) b in
+      let by-good-fold = good-fold rows s e closed (by-neither .0) in
+      go (isLost s e (f s) (f e)) (up s e (by-good-fold .0) (by-good-fold .1)) (inside e (by-good-fold .1)) (by-good-fold .2) (kept-good folds (by-neither .1))
     where
       go : (b : Bool) → f s ≤ f e → f e < rows′ → closed ≤ 1 → anyFold (badFold rows′) (keptFolds f folds) ≡ false →
           anyFold (badFold rows′) (cond b (keptFolds f folds) (f s ∷ f e ∷ closed ∷ keptFolds f folds)) ≡ false
@@ -69,5 +69,5 @@ module _ (f : ℕ → ℕ) (rows rows′ : ℕ) (up : (x y : ℕ) → x ≤ y �
 pub folds-accepted : (l : List ℕ) (rows : ℕ) → length l ≡ 3 * (length l / 3) → length l / 3 ≤ 256 → anyFold (badFold rows) l ≡ false → foldRefusal l rows ≡ 0
 unfolding foldRefusal
 folds-accepted l rows e h b =
-    let z : length l % 3 ≡ 0 = omega arith in
-    rw (eq-eqb (length l % 3) 0 z, le-ltb 256 (length l / 3) h, b)
+    let remainder-is : length l % 3 ≡ 0 = omega arith in
+    rw (eq-eqb (length l % 3) 0 remainder-is, le-ltb 256 (length l / 3) h, b)

@@ -70,8 +70,8 @@ module _ (r k : ℕ) where
       go : Dec (r < x) → mappedRow r (r + k) 0 (mappedRow r r k x) ≡ x
       go (no h) = rw (map-low r r k (omega arith) x (omega arith)) (map-low r (r + k) 0 (omega arith) x (omega arith))
       go (yes h) =
-          let e : mappedRow r r k x ≡ x + k = map-high r r k (omega arith) x h ∙ omega arith in
-          rw e (map-high r (r + k) 0 (omega arith) (x + k) (omega arith) ∙ omega arith)
+          let mapped-row-is : mappedRow r r k x ≡ x + k = map-high r r k (omega arith) x h ∙ omega arith in
+          rw mapped-row-is (map-high r (r + k) 0 (omega arith) (x + k) (omega arith) ∙ omega arith)
 
   -- no fold is lost on either way
   kept-there : (s e : ℕ) → isLost s e (mappedRow r r k s) (mappedRow r r k e) ≡ false

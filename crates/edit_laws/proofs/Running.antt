@@ -27,10 +27,10 @@ module _ (g : Page) (e : Step) where
 
   good-edited : refusalAt g e ≡ 0 → PageGood (edited g e)
   good-edited z =
-      let w = sound z in
-      subst (λ (t : List ℕ). Accepted t (foldsOf (edited g e)) (here (edited g e .caret))) (sym (w .text-held))
-      (subst (λ (f : List ℕ). Accepted (newText (g .buf) (g .sizes) (e .from) (e .to) (e .points)) f (here (edited g e .caret))) (sym (w .folds-held))
-      (w .accepted))
+      let by-sound = sound z in
+      subst (λ (t : List ℕ). Accepted t (foldsOf (edited g e)) (here (edited g e .caret))) (sym (by-sound .text-held))
+      (subst (λ (f : List ℕ). Accepted (newText (g .buf) (g .sizes) (e .from) (e .to) (e .points)) f (here (edited g e .caret))) (sym (by-sound .folds-held))
+      (by-sound .accepted))
 
   pub good-after : PageGood g → PageGood (pageAfter g e)
   good-after h = go (ℕ-discrete (refusalAt g e) 0)

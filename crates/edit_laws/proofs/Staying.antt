@@ -17,8 +17,8 @@ use Rattle.edit_laws.specs.Laws.{CharactersStay, FoldsInOrder}
 -- what stands at a place, as the first of the rest
 first-of : (l : List ℕ) (i : ℕ) → getD l i 0 ≡ getD (drop i l) 0 0
 first-of l i =
-    let z : i + 0 ≡ i = omega arith in
-    sym (rw z at (getD-drop i l 0 0))
+    let i-plus-zero : i + 0 ≡ i = omega arith in
+    sym (rw i-plus-zero at (getD-drop i l 0 0))
 
 module _ (t : List ℕ) (a b : ℕ) (c : List ℕ) (inside : a ≤ length t) (order : a ≤ b) where
   kept-before : (x : ℕ) → x < a → getD (replaced t a b c) (offsetAfter a b (length c) x) 0 ≡ getD t x 0
@@ -31,11 +31,11 @@ module _ (t : List ℕ) (a b : ℕ) (c : List ℕ) (inside : a ≤ length t) (or
   kept-behind : (x : ℕ) → b ≤ x → getD (replaced t a b c) (offsetAfter a b (length c) x) 0 ≡ getD t x 0
   unfolding offsetAfter
   kept-behind x h =
-      let e : x - (b - a) + length c ≡ a + length c + (x - b) = omega arith in
-      let y : b + (x - b) ≡ x = omega arith in
-      rw (le-ltb x a (omega arith), le-ltb x b h, e) (
+      let difference-is : x - (b - a) + length c ≡ a + length c + (x - b) = omega arith in
+      let sum-is : b + (x - b) ≡ x = omega arith in
+      rw (le-ltb x a (omega arith), le-ltb x b h, difference-is) (
       first-of (replaced t a b c) (a + length c + (x - b)) ∙ ap (λ (l : List ℕ). getD l 0 0) (replaced-behind t a b c inside (x - b))
-      ∙ sym (first-of t (b + (x - b))) ∙ ap (λ (i : ℕ). getD t i 0) y
+      ∙ sym (first-of t (b + (x - b))) ∙ ap (λ (i : ℕ). getD t i 0) sum-is
       )
 
 pub characters-stay : (t : List ℕ) (p q : Position) (c : List ℕ) → offsetOf t p ≤ length t → offsetOf t p ≤ offsetOf t q → CharactersStay t p q c

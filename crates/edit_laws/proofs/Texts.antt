@@ -19,16 +19,16 @@ module _ (f : ℕ → Bool) where
   unfolding any
   none-append [] y a b = b
   none-append (v ∷ x) y a b =
-      let n = neither (f v) (any f x) a in
-      rw (n .0) (none-append x y (n .1) b)
+      let by-neither = neither (f v) (any f x) a in
+      rw (by-neither .0) (none-append x y (by-neither .1) b)
 
   none-take : (i : ℕ) (x : List ℕ) → any f x ≡ false → any f (take i x) ≡ false
   unfolding any
   none-take zero x a = refl
   none-take (suc i) [] a = refl
   none-take (suc i) (v ∷ x) a =
-      let n = neither (f v) (any f x) a in
-      rw (n .0) (none-take i x (n .1))
+      let by-neither = neither (f v) (any f x) a in
+      rw (by-neither .0) (none-take i x (by-neither .1))
 
   none-drop : (i : ℕ) (x : List ℕ) → any f x ≡ false → any f (drop i x) ≡ false
   unfolding any
@@ -54,10 +54,10 @@ pub replaced-good : (t : List ℕ) (a b : ℕ) (c : List ℕ) → textRefusal t 
     textRefusal (replaced t a b c) ≡ 0
 unfolding textRefusal
 replaced-good t a b c x y h =
-    let u = good-parts t x in
-    let v = good-parts c y in
+    let by-good-parts = good-parts t x in
+    let by-good-parts-c = good-parts c y in
     rw (
       le-ltb 1048576 (length (replaced t a b c)) h,
-      none-replaced notScalar t a b c (u .0) (v .0),
-      none-replaced isBreak t a b c (u .1) (v .1),
+      none-replaced notScalar t a b c (by-good-parts .0) (by-good-parts-c .0),
+      none-replaced isBreak t a b c (by-good-parts .1) (by-good-parts-c .1),
     )

@@ -27,12 +27,14 @@ pub others-follow :
     (buf folds : List ℕ) (s : Sizes) (p q : Position) (c : List ℕ) (k o : Caret) → refusalOf buf folds s p q c k ≡ 0 →
     positionRefusal (take (s .len) buf) (here o) ≡ 0 → Follows buf s p q c o
 others-follow buf folds s p q c k o none inside =
-    let t = take (s .len) buf in
-    let e = editable buf folds s p q c k none (checkOf buf folds s p q c (here k)) refl in
-    let short : length t ≤ 1048576 = omega (arith, length-take-le (s .len) buf (e .fits), e .brief) in
-    let stands = inside-stays t (here o) (inside-at t (here o) inside) in
-    let fits = fits-caret t c p q o (e .first) (near t (here o) stands short) (e .first-near) (e .points-brief) in
+    let front = take (s .len) buf in
+    let by-editable = editable buf folds s p q c k none (checkOf buf folds s p q c (here k)) refl in
+    let short : length front ≤ 1048576 = omega (arith, length-take-le (s .len) buf (by-editable .fits), by-editable .brief) in
+    let stands = inside-stays front (here o) (inside-at front (here o) inside) in
+    let fits = fits-caret front c p q o (by-editable .first) (near front (here o) stands short) (by-editable .first-near) (by-editable .points-brief) in
     record {
       fits = fits;
-      goes = sym (follows o (record { from = p; to = q; end = endOf p c }) fits) ∙ ap To (corrected-after t c p q o (e .first) (e .second) (e .order) stands);
+      goes =
+          sym (follows o (record { from = p; to = q; end = endOf p c }) fits)
+          ∙ ap To (corrected-after front c p q o (by-editable .first) (by-editable .second) (by-editable .order) stands);
     }

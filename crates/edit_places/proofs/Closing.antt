@@ -26,7 +26,7 @@ module _ (e : List ℕ) (len a : ℕ) (s : List ℕ) (fits : len ≤ length e) (
       n ≡ len - kept → buf′ ≡ take a (take len e) ++ s ++ zeros n ++ drop len e
   unfolding replaced
   closed {kept} {n} u v kept-is h count =
-      let z : length (zeros n) ≡ n = length-zeros n in
+      let size-is : length (zeros n) ≡ n = length-zeros n in
       let to : kept + length (zeros n) ≡ a + length s + n = omega arith in
       let whole : a + length s + n ≡ len = omega arith in
       let front : take kept buf ≡ take a (take len e) ++ s =
@@ -41,8 +41,8 @@ module _ (e : List ℕ) (len a : ℕ) (fits : len ≤ length e) where
       kept ≡ len - (b - a) → n ≡ b - a → Deleted e len a b buf′
   unfolding replaced
   deleted b h k {buf} {buf′} {kept} {n} u v kept-is count =
-      let t = take len e in
-      let m : length (drop b t) ≡ len - b = length-slice b len e fits in
-      let whole : buf′ ≡ replaced t a b [] ++ zeros n ++ drop len e =
-      rw (append-nil (take a t)) (closed e len a (drop b t) fits (omega arith) u v (omega arith) (omega arith) (omega arith)) in
+      let front = take len e in
+      let size-is : length (drop b front) ≡ len - b = length-slice b len e fits in
+      let whole : buf′ ≡ replaced front a b [] ++ zeros n ++ drop len e =
+      rw (append-nil (take a front)) (closed e len a (drop b front) fits (omega arith) u v (omega arith) (omega arith) (omega arith)) in
       record { left = rw (sym count) whole; size = v .size ∙ u .size }

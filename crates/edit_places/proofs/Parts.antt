@@ -18,7 +18,7 @@ module _ (e : List ℕ) (a b : ℕ) (c : List ℕ) (fits : a ≤ length e) where
   pub replaced-front : (x : ℕ) → x ≤ a → take x (replaced e a b c) ≡ take x e
   unfolding replaced
   replaced-front x h =
-      let n = front-length in
+      let by-front-length = front-length in
       rw (append-assoc (take a e) c (drop b e)) (take-append-le x (take a e) (c ++ drop b e) (omega arith) ∙ take-take x a e h)
 
   pub replaced-rest : drop a (replaced e a b c) ≡ c ++ drop b e
@@ -49,23 +49,25 @@ module _ {e d buf : List ℕ} {at : ℕ} (u : Over e at d buf) (fits : at ≤ le
   pub over-read : (j : ℕ) → at + length d ≤ j → getD buf j 0 ≡ getD e j 0
   over-read j h =
       let i = j - (at + length d) in
-      let q : at + length d + i ≡ j = omega arith in
-      let z : j + 0 ≡ j = omega arith in
-      let rest : drop j buf ≡ drop j e = rw q at (over-behind i) in
-      rw z at (sym (getD-drop j buf 0 0)) ∙ ap (λ (l : List ℕ). getD l 0 0) rest ∙ rw z at (getD-drop j e 0 0)
+      let sum-is : at + length d + i ≡ j = omega arith in
+      let j-plus-zero : j + 0 ≡ j = omega arith in
+      let rest : drop j buf ≡ drop j e = rw sum-is at (over-behind i) in
+      rw j-plus-zero at (sym (getD-drop j buf 0 0)) ∙ ap (λ (l : List ℕ). getD l 0 0) rest ∙ rw j-plus-zero at (getD-drop j e 0 0)
 
   pub over-then : {v buf′ : List ℕ} {end : ℕ} → Over buf end v buf′ → end ≡ at + length d → Over e at (d ++ v) buf′
   unfolding replaced
   over-then {v} {buf′} {end} w q =
       let front : take (at + length d) buf ≡ take at e ++ d = rw (u .left) (replaced-through e at (at + length d) d fits) in
-      let n : at + length (d ++ v) ≡ at + length d + length v = omega (arith, length-append d v) in
+      let sum-is : at + length (d ++ v) ≡ at + length d + length v = omega (arith, length-append d v) in
       record {
-        left = w .left ∙ rw (q, front, over-behind (length v), n) (ap (λ (l : List ℕ). l ++ drop (at + length d + length v) e) (append-assoc (take at e) d v));
+        left =
+            w .left
+            ∙ rw (q, front, over-behind (length v), sum-is) (ap (λ (l : List ℕ). l ++ drop (at + length d + length v) e) (append-assoc (take at e) d v));
         size = w .size ∙ u .size;
       }
 
 pub over-none : (e : List ℕ) (at : ℕ) → Over e at [] e
 unfolding replaced
 over-none e at =
-    let z : at + 0 ≡ at = omega arith in
-    record { left = rw (z, append-nil (take at e)) (sym (take-append-drop at e)); size = refl }
+    let at-plus-zero : at + 0 ≡ at = omega arith in
+    record { left = rw (at-plus-zero, append-nil (take at e)) (sym (take-append-drop at e)); size = refl }

@@ -35,20 +35,20 @@ module _ {e s buf : List ℕ} {at k : ℕ} (u : Up e at s k buf) where
   pub up-all : length s ≤ k → Over e at s buf
   unfolding replaced
   up-all h =
-      let q : k ≡ length s = omega (arith, u .some) in
-      record { left = rw (q, take-all (length s) s (omega arith)) at (u .left); size = u .size }
+      let k-is : k ≡ length s = omega (arith, u .some) in
+      record { left = rw (k-is, take-all (length s) s (omega arith)) at (u .left); size = u .size }
 
   -- what lies behind is as it was
   pub up-read : (j : ℕ) → at + k ≤ j → getD buf j 0 ≡ getD e j 0
   unfolding replaced
   up-read j h =
-      let p = take at e ++ take k s in
-      let n : length p ≡ at + k = length-paste-head e at s k (omega (arith, u .fits)) (u .some) in
-      let w : j ≡ length p + (j - (at + k)) = omega arith in
-      let x : j ≡ (at + k) + (j - (at + k)) = omega arith in
+      let joined = take at e ++ take k s in
+      let size-is : length joined ≡ at + k = length-paste-head e at s k (omega (arith, u .fits)) (u .some) in
+      let j-is : j ≡ length joined + (j - (at + k)) = omega arith in
+      let sum-is : j ≡ (at + k) + (j - (at + k)) = omega arith in
       rw (u .left) (
-      ap (λ (i : ℕ). getD (p ++ drop (at + k) e) i 0) w ∙ getD-append-add p (drop (at + k) e) (j - (at + k)) 0
-      ∙ getD-drop (at + k) e (j - (at + k)) 0 ∙ ap (λ (i : ℕ). getD e i 0) (sym x)
+      ap (λ (i : ℕ). getD (joined ++ drop (at + k) e) i 0) j-is ∙ getD-append-add joined (drop (at + k) e) (j - (at + k)) 0
+      ∙ getD-drop (at + k) e (j - (at + k)) 0 ∙ ap (λ (i : ℕ). getD e i 0) (sym sum-is)
       )
 
 -- s stands in e from place at on, but for its first k
@@ -71,23 +71,30 @@ down-none e at s k q h =
 set-below : (e s r : List ℕ) (at j : ℕ) → j < length s → at + length s ≤ length e →
     set (take (at + suc j) e ++ drop (suc j) s ++ r) (at + j) (getD s j 0) ≡ take (at + j) e ++ drop j s ++ r
 set-below e s r at j h k =
-    let p = take (at + j) e in
-    let x = getD e (at + j) 0 in
-    let v = getD s j 0 in
-    let q = drop (suc j) s in
-    rw (add-suc at j, take-suc e (at + j) 0 (omega arith), drop-cons s j 0 h, append-snoc p x q, append-assoc p (x ∷ q) r, append-assoc p (v ∷ q) r)
-    (set-at p x (q ++ r) v (at + j) (length-take-le (at + j) e (omega arith)))
+    let front = take (at + j) e in
+    let value = getD e (at + j) 0 in
+    let value-there = getD s j 0 in
+    let rest = drop (suc j) s in
+    rw (
+      add-suc at j,
+      take-suc e (at + j) 0 (omega arith),
+      drop-cons s j 0 h,
+      append-snoc front value rest,
+      append-assoc front (value ∷ rest) r,
+      append-assoc front (value-there ∷ rest) r,
+    )
+    (set-at front value (rest ++ r) value-there (at + j) (length-take-le (at + j) e (omega arith)))
 
 module _ {e s buf : List ℕ} {at k : ℕ} (d : Down e at s k buf) where
   pub down-next : {v : ℕ} → 0 < k → v ≡ getD s (k - 1) 0 → Down e at s (k - 1) (set buf (at + (k - 1)) v)
   down-next {v} h q =
-      let n : k ≡ suc (k - 1) = omega arith in
+      let k-is : k ≡ suc (k - 1) = omega arith in
       record {
         some = omega (arith, d .some);
         fits = d .fits;
         left =
             rw (d .left, q) (
-            ap (λ (i : ℕ). set (take (at + i) e ++ drop i s ++ drop (at + length s) e) (at + (k - 1)) (getD s (k - 1) 0)) n
+            ap (λ (i : ℕ). set (take (at + i) e ++ drop i s ++ drop (at + length s) e) (at + (k - 1)) (getD s (k - 1) 0)) k-is
             ∙ set-below e s (drop (at + length s) e) at (k - 1) (omega (arith, d .some)) (d .fits)
             );
         size = length-set buf (at + (k - 1)) v ∙ d .size;
@@ -96,13 +103,13 @@ module _ {e s buf : List ℕ} {at k : ℕ} (d : Down e at s k buf) where
   pub down-all : k ≤ 0 → Over e at s buf
   unfolding replaced
   down-all h =
-      let q : k ≡ 0 = omega arith in
-      record { left = rw (q, add-zero at) at (d .left); size = d .size }
+      let k-is : k ≡ 0 = omega arith in
+      record { left = rw (k-is, add-zero at) at (d .left); size = d .size }
 
   -- what lies before is as it was
   pub down-read : (j : ℕ) → j < at + k → getD buf j 0 ≡ getD e j 0
   down-read j h =
-      let n = length-take-le (at + k) e (omega (arith, d .some, d .fits)) in
+      let by-length-take-le = length-take-le (at + k) e (omega (arith, d .some, d .fits)) in
       rw (d .left, append-assoc (take (at + k) e) (drop k s) (drop (at + length s) e)) (
       List·getD-append (take (at + k) e) (drop k s ++ drop (at + length s) e) 0 j (omega arith) ∙ getD-take (at + k) e j 0 h
       )

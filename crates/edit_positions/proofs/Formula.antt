@@ -52,8 +52,8 @@ module _ (c : Change) (x : Position) where
 module _ (t : List ℕ) (s : ℕ) (is : s + 1 ≡ rowCount t) where
   last : Stands t s (rowStart t s) (length t)
   last =
-      let e : rowCount t - 1 ≡ s = omega arith in
-      rw e at (last-stands t)
+      let row-count-less-one : rowCount t - 1 ≡ s = omega arith in
+      rw row-count-less-one at (last-stands t)
 
   pub end-stands : Stands t s (rowStart t s) (length t)
   end-stands = last
@@ -64,19 +64,19 @@ module _ (t : List ℕ) (s : ℕ) (is : s + 1 ≡ rowCount t) where
   -- its last row begins before it
   pub end-from : (l : Line) → l ≡ lineAt t (s - 0) → l .start ≤ length t
   end-from l e =
-      let z : s - 0 ≡ s = omega arith in
-      omega (arith, last .from, rw z at (ap (λ (y : Line). y .start) e))
+      let s-less-zero : s - 0 ≡ s = omega arith in
+      omega (arith, last .from, rw s-less-zero at (ap (λ (y : Line). y .start) e))
 
   pub end-row : (p : Position) → s ≡ 0 → position (p .row) (p .col + length t) ≡ endOf p t
   unfolding beyond
   end-row p z =
-      let b : rowStart t s ≡ 0 = rw z (start-zero t) in
-      let e : posOf t (length t) ≡ position 0 (length t) = end-is ∙ position-eq z (omega arith) in
-      sym (ap (beyond p) e ∙ position-eq (omega arith) (omega arith))
+      let row-start-is : rowStart t s ≡ 0 = rw z (start-zero t) in
+      let pos-is : posOf t (length t) ≡ position 0 (length t) = end-is ∙ position-eq z (omega arith) in
+      sym (ap (beyond p) pos-is ∙ position-eq (omega arith) (omega arith))
 
   pub end-below : (p : Position) (l : Line) → (s ≡ 0 → ⊥) → l ≡ lineAt t (s - 0) → position (p .row + s) (length t - l .start) ≡ endOf p t
   unfolding beyond
   end-below p l n e =
-      let z : s - 0 ≡ s = omega arith in
-      let b : l .start ≡ rowStart t s = rw z at (ap (λ (y : Line). y .start) e) in
-      sym (ap (beyond p) end-is ∙ rw (ne-eqb s 0 n, b))
+      let s-less-zero : s - 0 ≡ s = omega arith in
+      let start-is : l .start ≡ rowStart t s = rw s-less-zero at (ap (λ (y : Line). y .start) e) in
+      sym (ap (beyond p) end-is ∙ rw (ne-eqb s 0 n, start-is))

@@ -34,7 +34,8 @@ before-offset {t} {x} {y} {o} {b} s u = go (ℕ-discrete (x .row) (y .row)) (dec
     go : Dec (x .row ≡ y .row) → Dec (x .row < y .row) → Dec (x .col < y .col) →
         cond (eqb (x .row) (y .row)) (ltb (x .col) (y .col)) (ltb (x .row) (y .row)) ≡ ltb o b
     go (yes e) d (yes h) = rw (eq-eqb _ _ e, lt-ltb _ _ h) (sym (lt-ltb o b (omega (arith, ap (startIn (rows t)) e, s .offset, u .offset))))
-    go (yes e) d (no h) = rw (eq-eqb _ _ e, le-ltb (x .col) (y .col) (omega arith)) (sym (le-ltb o b (omega (arith, ap (startIn (rows t)) e, s .offset, u .offset))))
+    go (yes e) d (no h) =
+        rw (eq-eqb _ _ e, le-ltb (x .col) (y .col) (omega arith)) (sym (le-ltb o b (omega (arith, ap (startIn (rows t)) e, s .offset, u .offset))))
     go (no n) (yes h) d = rw (ne-eqb _ _ n, lt-ltb _ _ h) (sym (lt-ltb o b (apart s u h)))
     go (no n) (no h) d = rw (ne-eqb _ _ n, le-ltb (x .row) (y .row) (omega arith)) (sym (le-ltb o b (omega (arith, apart u s (omega arith)))))
 
@@ -45,11 +46,11 @@ behind-beyond c y = go (ℕ-discrete (y .row) 0)
   where
     go : Dec (y .row ≡ 0) → behind c (beyond (c .to) y) ≡ beyond (c .end) y
     go (yes z) =
-        let e : c .to .row + y .row ≡ c .to .row = omega arith in
-        rw (eq-eqb _ _ e, eq-eqb _ _ z) (position-eq (omega arith) (omega arith))
+        let sum-is : c .to .row + y .row ≡ c .to .row = omega arith in
+        rw (eq-eqb _ _ sum-is, eq-eqb _ _ z) (position-eq (omega arith) (omega arith))
     go (no n) =
-        let m : c .to .row + y .row ≡ c .to .row → ⊥ = λ z. n (omega arith) in
-        rw (ne-eqb _ _ m, ne-eqb _ _ n) (position-eq (omega arith) refl)
+        let sum-not : c .to .row + y .row ≡ c .to .row → ⊥ = λ z. n (omega arith) in
+        rw (ne-eqb _ _ sum-not, ne-eqb _ _ n) (position-eq (omega arith) refl)
 
 -- what stands from a up to b, from p up to q, gives way to c
 module _ (t c : List ℕ) (p q : Position) (a b : ℕ) (from : Stays t p a) (to : Stays t q b) (order : a ≤ b) where
@@ -70,9 +71,9 @@ module _ (t c : List ℕ) (p q : Position) (a b : ℕ) (from : Stays t p a) (to 
   -- where c ends
   pub stays-end : Stays new (endOf p c) (a + length c)
   stays-end =
-      let w = c ++ drop b t in
-      let n = length-append c (drop b t) in
-      let in-w = pos-of (stays-kept c w (length c) (omega arith) (omega arith) (λ i h. sym (List·getD-append c (drop b t) 0 i h))) in
+      let joined = c ++ drop b t in
+      let by-length-append = length-append c (drop b t) in
+      let in-w = pos-of (stays-kept c joined (length c) (omega arith) (omega arith) (λ i h. sym (List·getD-append c (drop b t) 0 i h))) in
       stays-is (ap (λ (l : List ℕ). beyond p (posOf l (length c))) (replaced-rest t a b c (at-le from)) ∙ ap (beyond p) in-w)
       (stays-beyond new p a (stays-before from (omega arith)) (length c) (omega (arith, new-length)))
 
@@ -83,16 +84,16 @@ module _ (t c : List ℕ) (p q : Position) (a b : ℕ) (from : Stays t p a) (to 
 
     is-beyond : x ≡ beyond q y
     is-beyond =
-        let e : b + (o - b) ≡ o = omega arith in
-        pos-one s (rw e at (stays-beyond t q b to (o - b) (omega (arith, at-le s))))
+        let sum-is : b + (o - b) ≡ o = omega arith in
+        pos-one s (rw sum-is at (stays-beyond t q b to (o - b) (omega (arith, at-le s))))
 
     pub stays-behind : Stays new (behind (record { from = p; to = q; end = endOf p c }) x) (a + length c + (o - b))
     stays-behind =
-        let z : a + length c + 0 ≡ a + length c = omega arith in
-        let j : b + 0 ≡ b = omega arith in
-        let rest : drop (a + length c) new ≡ drop b t = rw (z, j) at (replaced-behind t a b c (at-le from) 0) in
-        let k : Change = record { from = p; to = q; end = endOf p c } in
-        stays-is (ap (λ (l : List ℕ). beyond (endOf p c) (posOf l (o - b))) rest ∙ sym (ap (behind k) is-beyond ∙ behind-beyond k y))
+        let sum-is : a + length c + 0 ≡ a + length c = omega arith in
+        let b-plus-zero : b + 0 ≡ b = omega arith in
+        let rest : drop (a + length c) new ≡ drop b t = rw (sum-is, b-plus-zero) at (replaced-behind t a b c (at-le from) 0) in
+        let change : Change = record { from = p; to = q; end = endOf p c } in
+        stays-is (ap (λ (l : List ℕ). beyond (endOf p c) (posOf l (o - b))) rest ∙ sym (ap (behind change) is-beyond ∙ behind-beyond change y))
         (stays-beyond new (endOf p c) (a + length c) stays-end (o - b) (omega (arith, new-length, at-le s)))
 
   pub moved-after : {x : Position} {o : ℕ} → Stays t x o →
@@ -106,5 +107,5 @@ module _ (t c : List ℕ) (p q : Position) (a b : ℕ) (from : Stays t p a) (to 
       go (yes h) d = rw (lt-ltb _ _ h) (stays-before s (omega arith))
       go (no h) (yes l) = rw (le-ltb o a (omega arith), lt-ltb _ _ l) (stays-before from (omega arith))
       go (no h) (no l) =
-          let e : a + length c + (o - b) ≡ o - (b - a) + length c = omega arith in
-          rw (le-ltb o a (omega arith), le-ltb o b (omega arith), ← e) (stays-behind s (omega arith))
+          let sum-is : a + length c + (o - b) ≡ o - (b - a) + length c = omega arith in
+          rw (le-ltb o a (omega arith), le-ltb o b (omega arith), ← sum-is) (stays-behind s (omega arith))

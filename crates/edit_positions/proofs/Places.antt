@@ -76,8 +76,8 @@ beyond-first p = position-eq (add-zero (p .row)) (add-zero (p .col))
 beyond-nl : (p y : Position) → position (beyond p y .row + 1) 0 ≡ beyond p (position (y .row + 1) 0)
 unfolding beyond
 beyond-nl p y =
-    let e : p .row + y .row + 1 ≡ p .row + (y .row + 1) = omega arith in
-    rw (ne-eqb (y .row + 1) 0 (λ z. omega (arith, z)), e)
+    let sum-is : p .row + y .row + 1 ≡ p .row + (y .row + 1) = omega arith in
+    rw (ne-eqb (y .row + 1) 0 (λ z. omega (arith, z)), sum-is)
 
 beyond-char : (p y : Position) → position (beyond p y .row) (beyond p y .col + 1) ≡ beyond p (position (y .row) (y .col + 1))
 unfolding beyond
@@ -90,8 +90,8 @@ beyond-char p y = position-eq refl (go (eqb (y .row) 0))
 module _ (t : List ℕ) (p : Position) (at : ℕ) (a : Stays t p at) where
   pub stays-beyond : (i : ℕ) → at + i ≤ length t → Stays t (beyond p (posOf (drop at t) i)) (at + i)
   stays-beyond zero h =
-      let q = pos-of {x = position 0 0} (at-first (drop at t)) in
-      rw (add-zero at) (stays-is (sym (ap (beyond p) q ∙ beyond-first p)) a)
+      let by-pos-of = pos-of {x = position 0 0} (at-first (drop at t)) in
+      rw (add-zero at) (stays-is (sym (ap (beyond p) by-pos-of ∙ beyond-first p)) a)
   stays-beyond (suc i) h = go (ℕ-discrete (getD t (at + i) 0) 10) (stays-beyond i (omega arith))
     where
       u : List ℕ
@@ -108,8 +108,8 @@ module _ (t : List ℕ) (p : Position) (at : ℕ) (a : Stays t p at) where
 
       on : (x : Position) → Stays t x (at + i + 1) → x ≡ beyond p (posOf u (suc i)) → Stays t (beyond p (posOf u (suc i))) (at + suc i)
       on x s e =
-          let q : at + i + 1 ≡ at + suc i = omega arith in
-          rw (← q) (stays-is e s)
+          let sum-is : at + i + 1 ≡ at + suc i = omega arith in
+          rw (← sum-is) (stays-is e s)
 
       go : Dec (getD t (at + i) 0 ≡ 10) → Stays t (beyond p (posOf u i)) (at + i) → Stays t (beyond p (posOf u (suc i))) (at + suc i)
       go (yes e) s = on (position (beyond p (posOf u i) .row + 1) 0) (after-nl s (omega arith) e)

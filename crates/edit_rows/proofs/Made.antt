@@ -27,7 +27,8 @@ use Rattle.edit_rows.proofs.Refills.{refilled-holds, refilled-room}
 use Rattle.edit_rows.proofs.Tables.{first-there, second-there}
 
 module _ {buf fold table : List ℕ} {s : Sizes} {at : Checked} {p q : Position} {c : List ℕ} {k : Caret} {rows : Rows} {left : Left} {buf′ folds′ : List ℕ}
-    (e : Editable buf fold s at p q c k) (d : Tabled (take (s .len) buf) table (newText buf s p q c) rows) (m : MakesTo buf fold s p q c k left buf′ folds′) where
+    (e : Editable buf fold s at p q c k) (d : Tabled (take (s .len) buf) table (newText buf s p q c) rows)
+    (m : MakesTo buf fold s p q c k left buf′ folds′) where
   abbrev t : List ℕ
   t = take (s .len) buf
 
@@ -49,12 +50,12 @@ module _ {buf fold table : List ℕ} {s : Sizes} {at : Checked} {p q : Position}
       Refilled table (rows .before) (keptStarts (take (rows .before) table) (p .row) (q .row) (at .from) (at .to) c) starts′ →
       MakesRows buf fold table s p q c k (record { left = left; content = content }) buf′ folds′ starts′
   made-rows {content} {starts′} count f =
-      let n : content ≡ contentRows (newText buf s p q c) = count ∙ ap contentRows new-held in
+      let content-is : content ≡ contentRows (newText buf s p q c) = count ∙ ap contentRows new-held in
       let held : take (rows .before) table ≡ rowStarts t = rw (d .before-is) (d .held) in
       let new : keptStarts (take (rows .before) table) (p .row) (q .row) (at .from) (at .to) c ≡ rowStarts (newText buf s p q c) =
       rw held (starts-replaced t (first-there e) (second-there e) (e .stretch-order) c) ∙ (λ i. rowStarts (replaced t (e .from-is i) (e .to-is i) c)) in
       record {
-        answer = λ i. record { left = m .answer i; content = n i };
+        answer = λ i. record { left = m .answer i; content = content-is i };
         text = m .text;
         folds = m .folds;
         starts = f .left ∙ (λ i. refilled table (d .before-is i) (new i));
@@ -65,8 +66,8 @@ module _ (buf fold table : List ℕ) (s : Sizes) (content : ℕ) (p q : Position
   refused : {g : ℕ} → refusalWith buf fold table s content p q c k ≡ g → (g ≡ 0 → ⊥) → KeepsTo buf fold table s content p q c k (Refused g) buf fold table
   unfolding answeredBy keptBy
   refused {g} number n =
-      let m = ne-eqb g 0 n in
-      record { answer = rw (number, m); text = rw (number, m); folds = rw (number, m); starts = rw (number, m) }
+      let by-ne-eqb = ne-eqb g 0 n in
+      record { answer = rw (number, by-ne-eqb); text = rw (number, by-ne-eqb); folds = rw (number, by-ne-eqb); starts = rw (number, by-ne-eqb) }
 
   number-edit : (refusalOf buf fold s p q c k ≡ 0 → ⊥) → refusalWith buf fold table s content p q c k ≡ refusalOf buf fold s p q c k
   unfolding refusalWith

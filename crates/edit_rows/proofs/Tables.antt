@@ -47,8 +47,8 @@ table-good need t table content z = go (ltb (length table) need) (isTable t tabl
 
 pub tabled : {t table new : List ℕ} {content : ℕ} {r : Rows} → RowsChecked t table content new r → r .refusal ≡ 0 → Tabled t table new r
 tabled {t} {table} {new} {content} {r} k z =
-    let g = table-good (max (rowCount t) (rowCount new)) t table content (sym (k .refusal-is) ∙ z) in
-    record { held = g .1; room = g .0; before-is = k .before-is; after-is = k .after-is }
+    let by-table-good = table-good (max (rowCount t) (rowCount new)) t table content (sym (k .refusal-is) ∙ z) in
+    record { held = by-table-good .1; room = by-table-good .0; before-is = k .before-is; after-is = k .after-is }
 
 -- the rows of the text after the edit
 pub rows-after : {buf : List ℕ} {len : ℕ} {p q : Position} → Stretch buf len p q → (c : List ℕ) →
@@ -80,7 +80,7 @@ module _ {buf folds : List ℕ} {s : Sizes} {at : Checked} {p q : Position} {c :
 
   pub keepable : {table : List ℕ} {r : Rows} → Tabled t table (newText buf s p q c) r → Keepable table (r .before) (p .row) (q .row) (at .from) (at .to) c
   keepable {table} {r} d =
-      let n : length t ≡ s .len = length-take-le (s .len) buf (e .fits) in
+      let size-is : length t ≡ s .len = length-take-le (s .len) buf (e .fits) in
       let some = rows-pos c in
       let room = d .room in
       rw (d .before-is) (

@@ -27,9 +27,9 @@ module _ (t : List ℕ) {r start at : ℕ} (s : Stands t r start at) where
 
   rows-before : rowCount (take at t) ≡ r + 1
   rows-before =
-      let z : at - 0 ≡ at = omega arith in
+      let at-less-zero : at - 0 ≡ at = omega arith in
       let some = rows-pos (take at t) in
-      let on = pass-on t (first-line t) (rowCount (take at t) - 1) at (omega arith) (s .within) (rw z (omega arith)) in
+      let on = pass-on t (first-line t) (rowCount (take at t) - 1) at (omega arith) (s .within) (rw at-less-zero (omega arith)) in
       let same : 0 + (rowCount (take at t) - 1) ≡ r = same-row (stands-at on) (stands-at s) in
       omega arith
 
@@ -38,9 +38,9 @@ module _ (t : List ℕ) {r start at : ℕ} (s : Stands t r start at) where
 
   cut : rowStarts t ≡ rowStarts (take at t) ++ startsFrom at (drop at t)
   cut =
-      let n : 0 + length (take at t) ≡ at = omega (arith, front-size) in
+      let sum-is : 0 + length (take at t) ≡ at = omega (arith, front-size) in
       ap (λ (l : List ℕ). rowStarts l) (sym (take-append-drop at t))
-      ∙ ap (λ (l : List ℕ). 0 ∷ l) (starts-append 0 (take at t) (drop at t) ∙ ap (λ (i : ℕ). startsFrom 0 (take at t) ++ startsFrom i (drop at t)) n)
+      ∙ ap (λ (l : List ℕ). 0 ∷ l) (starts-append 0 (take at t) (drop at t) ∙ ap (λ (i : ℕ). startsFrom 0 (take at t) ++ startsFrom i (drop at t)) sum-is)
 
   pub starts-before : take (r + 1) (rowStarts t) ≡ rowStarts (take at t)
   starts-before = ap (take (r + 1)) cut ∙ take-at (rowStarts (take at t)) (startsFrom at (drop at t)) (r + 1) cut-size
@@ -53,18 +53,18 @@ module _ (t : List ℕ) {r q a b from to : ℕ} (first : Stands t r from a) (sec
   later-moved : startsFrom (a + length c) (drop b t) ≡ map (movedStart (b - a) (length c)) (drop (q + 1) (rowStarts t))
   later-moved =
       let moves : (j : ℕ) → movedStart (b - a) (length c) (b + j) ≡ a + length c + j = λ j. omega arith in
-      let m = starts-moved (movedStart (b - a) (length c)) b (a + length c) moves 0 (drop b t) in
-      rw (add-zero (a + length c), add-zero b, ← starts-behind t second) at m
+      let by-starts-moved = starts-moved (movedStart (b - a) (length c)) b (a + length c) moves 0 (drop b t) in
+      rw (add-zero (a + length c), add-zero b, ← starts-behind t second) at by-starts-moved
 
   pub starts-replaced : keptStarts (rowStarts t) r q a b c ≡ rowStarts (replaced t a b c)
   unfolding replaced keptStarts
   starts-replaced =
-      let n : length (take a t) ≡ a = length-take-le a t (first .within) in
-      let m : 0 + length (take a t ++ c) ≡ a + length c = omega (arith, length-append (take a t) c) in
-      let k : 0 + length (take a t) ≡ a = omega arith in
+      let size-is : length (take a t) ≡ a = length-take-le a t (first .within) in
+      let sum-is : 0 + length (take a t ++ c) ≡ a + length c = omega (arith, length-append (take a t) c) in
+      let a-is : 0 + length (take a t) ≡ a = omega arith in
       let whole : startsFrom 0 (take a t ++ c ++ drop b t) ≡ startsFrom 0 (take a t) ++ startsFrom a c ++ startsFrom (a + length c) (drop b t) =
       starts-append 0 (take a t ++ c) (drop b t)
-      ∙ rw (m, starts-append 0 (take a t) c, k) in
+      ∙ rw (sum-is, starts-append 0 (take a t) c, a-is) in
       sym (ap (λ (l : List ℕ). 0 ∷ l) whole ∙ rw (starts-before t first, ← later-moved))
 
   rows-ordered : r ≤ q
@@ -78,14 +78,14 @@ module _ (t : List ℕ) {r q a b from to : ℕ} (first : Stands t r from a) (sec
   pub rows-replaced : rowCount (replaced t a b c) ≡ rowCount t - (q - r) + (rowCount c - 1)
   unfolding keptStarts
   rows-replaced =
-      let f = movedStart (b - a) (length c) in
-      let n = length-take-le (r + 1) (rowStarts t) (omega (arith, rows-length t, first .in-row)) in
-      let m = map-size f (drop (q + 1) (rowStarts t)) in
+      let moved-start = movedStart (b - a) (length c) in
+      let by-length-take-le = length-take-le (r + 1) (rowStarts t) (omega (arith, rows-length t, first .in-row)) in
+      let by-map-size = map-size moved-start (drop (q + 1) (rowStarts t)) in
       omega (
         arith,
         ap length starts-replaced,
         rows-length (replaced t a b c),
-        length-append (take (r + 1) (rowStarts t) ++ startsFrom a c) (map f (drop (q + 1) (rowStarts t))),
+        length-append (take (r + 1) (rowStarts t) ++ startsFrom a c) (map moved-start (drop (q + 1) (rowStarts t))),
         length-append (take (r + 1) (rowStarts t)) (startsFrom a c),
         starts-length a c,
         length-drop (q + 1) (rowStarts t),
@@ -101,7 +101,8 @@ starts-move t starts {q} {to} {a} {b} {n} s order held small =
     record {
       room =
           λ i low high.
-          let e : getD starts i 0 ≡ rowStart t i = sym (getD-take (rowCount t) starts i 0 high) ∙ ap (λ (l : List ℕ). getD l i 0) held ∙ rows-read t i high in
+          let value-is : getD starts i 0 ≡ rowStart t i = sym (getD-take (rowCount t) starts i 0 high) ∙ ap (λ (l : List ℕ). getD l i 0) held
+          ∙ rows-read t i high in
           let far = rows-apart t q i (omega arith) high in
           (omega (arith, s .begins, s .in-col), omega (arith, at-le (at-start t i high)));
     }

@@ -37,9 +37,9 @@ module _ {e buf : List ℕ} {at n : ℕ} {s : List ℕ} (o : Over e at s buf) (e
 refilled-alike : (e d : List ℕ) (n : ℕ) (new : List ℕ) → drop n d ≡ drop n e → refilled d n new ≡ refilled e n new
 unfolding refilled
 refilled-alike e d n new same =
-    let q : max n (length new) ≡ n + (length new - n) = omega arith in
+    let most-is : max n (length new) ≡ n + (length new - n) = omega arith in
     let rest : drop (max n (length new)) d ≡ drop (max n (length new)) e =
-    rw q (sym (drop-drop (length new - n) n d) ∙ ap (drop (length new - n)) same ∙ drop-drop (length new - n) n e) in
+    rw most-is (sym (drop-drop (length new - n) n d) ∙ ap (drop (length new - n)) same ∙ drop-drop (length new - n) n e) in
     rw rest
 
 -- starts moved first, and then given way
@@ -57,15 +57,16 @@ module _ (e : List ℕ) (rows r q a b : ℕ) (c : List ℕ) (rows-order : r ≤ 
       Refilled e rows (keptStarts l r q a b c) buf′
   unfolding replaced keptStarts
   kept-starts {buf} {buf′} o f =
-      let n = later-size in
+      let by-later-size = later-size in
       let end : q + 1 + length later ≡ rows = omega arith in
-      let m : length (take (q + 1) l) ≡ q + 1 = length-take-le (q + 1) l (omega (arith, length-take-le rows e fits)) in
+      let size-is : length (take (q + 1) l) ≡ q + 1 = length-take-le (q + 1) l (omega (arith, length-take-le rows e fits)) in
       let part : take rows buf ≡ take (q + 1) l ++ later = over-part o end fits in
       let head : take (r + 1) (take rows buf) ≡ take (r + 1) l =
       rw part (take-append-le (r + 1) (take (q + 1) l) later (omega arith) ∙ take-take (r + 1) (q + 1) l (omega arith)) in
-      let tail : drop (q + 1) (take rows buf) ≡ later = rw part (drop-at (take (q + 1) l) later (q + 1) m) in
+      let tail : drop (q + 1) (take rows buf) ≡ later = rw part (drop-at (take (q + 1) l) later (q + 1) size-is) in
       let new : replaced (take rows buf) (r + 1) (q + 1) (startsFrom a c) ≡ keptStarts l r q a b c = rw (head, tail) in
       record {
-        left = f .left ∙ refilled-alike e buf rows (replaced (take rows buf) (r + 1) (q + 1) (startsFrom a c)) (over-rest o end fits) ∙ ap (refilled e rows) new;
+        left =
+            f .left ∙ refilled-alike e buf rows (replaced (take rows buf) (r + 1) (q + 1) (startsFrom a c)) (over-rest o end fits) ∙ ap (refilled e rows) new;
         size = f .size ∙ o .size;
       }

@@ -58,8 +58,8 @@ room-none room n z = go (ltb room n || ltb 1048576 n) refl z
     go : (b : Bool) → (ltb room n || ltb 1048576 n) ≡ b → _≡_ {A = ℕ} (cond b 12 0) 0 → (n ≤ room) × (n ≤ 1048576)
     go true e h = absurd (omega (arith, h))
     go false e h =
-        let x = neither (ltb room n) (ltb 1048576 n) e in
-        (ltb-false _ _ (x .0), ltb-false _ _ (x .1))
+        let by-neither = neither (ltb room n) (ltb 1048576 n) e in
+        (ltb-false _ _ (by-neither .0), ltb-false _ _ (by-neither .1))
 
 module _ (buf folds : List ℕ) (s : Sizes) (p q : Position) (c : List ℕ) (k : Caret) (z : editRefusal buf folds s p q c (here k) ≡ 0) where
   abbrev t : List ℕ
@@ -101,41 +101,45 @@ module _ (buf folds : List ℕ) (s : Sizes) (p q : Position) (c : List ℕ) (k :
 
   pub editable : (at : Checked) → at ≡ checkOf buf folds s p q c (here k) → Editable buf folds s at p q c k
   editable at e =
-      let h = held-none buf (s .len) (texts .0) in
-      let n = length-take-le (s .len) buf (h .0) in
-      let w = stretches t p q (four .0) in
-      let f = folds-none folds (s .count) (rowCount t) (three .0) in
-      let r = room-none (length buf) (length (textAfter t p q c)) five in
-      let x = checked-at t p q (editRefusal buf folds s p q c (here k)) at e z in
-      let a : at .from ≡ offsetOf t p = ap (λ (y : Checked). y .from) x in
-      let b : at .to ≡ offsetOf t q = ap (λ (y : Checked). y .to) x in
-      let g : length c ≤ 1048576 = accepted-short c points-good in
-      let i = inside-stays t (here k) (inside-at t (here k) (two .0)) in
-      let o = w .order in
-      let v = w .within in
+      let by-held-none = held-none buf (s .len) (texts .0) in
+      let by-length-take-le = length-take-le (s .len) buf (by-held-none .0) in
+      let by-stretches = stretches t p q (four .0) in
+      let by-folds-none = folds-none folds (s .count) (rowCount t) (three .0) in
+      let by-room-none = room-none (length buf) (length (textAfter t p q c)) five in
+      let by-checked-at = checked-at t p q (editRefusal buf folds s p q c (here k)) at e z in
+      let offset-is : at .from ≡ offsetOf t p = ap (λ (y : Checked). y .from) by-checked-at in
+      let same-to : at .to ≡ offsetOf t q = ap (λ (y : Checked). y .to) by-checked-at in
+      let size-at-most : length c ≤ 1048576 = accepted-short c points-good in
+      let by-inside-stays = inside-stays t (here k) (inside-at t (here k) (two .0)) in
+      let its-order = by-stretches .order in
+      let within = by-stretches .within in
       let new-size : s .len - (at .to - at .from) + length c ≡ length (textAfter t p q c) =
-      omega (arith, a, b, n, replaced-length t (offsetOf t p) (offsetOf t q) c (omega arith)) in
+      omega (arith, offset-is, same-to, by-length-take-le, replaced-length t (offsetOf t p) (offsetOf t q) c (omega arith)) in
       record {
-        fits = h .0;
-        brief = omega (arith, n, accepted-short t (h .1));
-        points-brief = g;
-        from-is = a;
-        to-is = b;
-        rows-is = ap (λ (y : Checked). y .rows) x;
-        order = w .order;
-        first = w .first;
-        second = w .second;
-        caret = i;
-        room = r .0;
-        new-brief = r .1;
-        folds-fit = omega (arith, f .0);
-        first-near = near t p (w .first) (omega (arith, accepted-short t (h .1)));
-        second-row = near t q (w .second) (omega (arith, accepted-short t (h .1))) .row-near;
-        rows-order = rows-in-order t p q (w .first) (w .second) (w .order);
-        stretch-order = omega (arith, a, b, w .order);
-        stretch-within = omega (arith, b, w .within, n);
-        new-fits = omega (arith, new-size, r .0);
-        raises = folds-raise folds (rowCount t) (s .count) (rowCount c - 1) (rows-pos t) (f .1) (omega (arith, f .0)) (omega (arith, count-le t, count-le c, g, accepted-short t (h .1)));
-        follows = fits-caret t c p q k (w .first) (near t (here k) i (omega (arith, accepted-short t (h .1)))) (near t p (w .first) (omega (arith, accepted-short t (h .1)))) g;
-        folds-good = f .1;
+        fits = by-held-none .0;
+        brief = omega (arith, by-length-take-le, accepted-short t (by-held-none .1));
+        points-brief = size-at-most;
+        from-is = offset-is;
+        to-is = same-to;
+        rows-is = ap (λ (y : Checked). y .rows) by-checked-at;
+        order = by-stretches .order;
+        first = by-stretches .first;
+        second = by-stretches .second;
+        caret = by-inside-stays;
+        room = by-room-none .0;
+        new-brief = by-room-none .1;
+        folds-fit = omega (arith, by-folds-none .0);
+        first-near = near t p (by-stretches .first) (omega (arith, accepted-short t (by-held-none .1)));
+        second-row = near t q (by-stretches .second) (omega (arith, accepted-short t (by-held-none .1))) .row-near;
+        rows-order = rows-in-order t p q (by-stretches .first) (by-stretches .second) (by-stretches .order);
+        stretch-order = omega (arith, offset-is, same-to, by-stretches .order);
+        stretch-within = omega (arith, same-to, by-stretches .within, by-length-take-le);
+        new-fits = omega (arith, new-size, by-room-none .0);
+        raises =
+            folds-raise folds (rowCount t) (s .count) (rowCount c - 1) (rows-pos t) (by-folds-none .1) (omega (arith, by-folds-none .0))
+            (omega (arith, count-le t, count-le c, size-at-most, accepted-short t (by-held-none .1)));
+        follows =
+            fits-caret t c p q k (by-stretches .first) (near t (here k) by-inside-stays (omega (arith, accepted-short t (by-held-none .1))))
+            (near t p (by-stretches .first) (omega (arith, accepted-short t (by-held-none .1)))) size-at-most;
+        folds-good = by-folds-none .1;
       }

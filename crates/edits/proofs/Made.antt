@@ -36,9 +36,16 @@ module _ {buf folds : List ℕ} {s : Sizes} {at : Checked} {p q : Position} {c :
 
   new-size : s .len - (at .to - at .from) + length c ≡ length (newText buf s p q c)
   new-size =
-      let n = length-take-le (s .len) buf (e .fits) in
-      let o = e .order in
-      omega (arith, e .from-is, e .to-is, n, at-le (e .second), replaced-length t (offsetOf t p) (offsetOf t q) c (omega (arith, at-le (e .first))))
+      let by-length-take-le = length-take-le (s .len) buf (e .fits) in
+      let order = e .order in
+      omega (
+        arith,
+        e .from-is,
+        e .to-is,
+        by-length-take-le,
+        at-le (e .second),
+        replaced-length t (offsetOf t p) (offsetOf t q) c (omega (arith, at-le (e .first))),
+      )
 
   module _ {end : Position} (end-is : end ≡ endOf p c) where
     added-is : end .row - p .row ≡ rowCount c - 1
@@ -58,19 +65,20 @@ module _ {buf folds : List ℕ} {s : Sizes} {at : Checked} {p q : Position} {c :
         MakesTo buf folds s p q c k
         (record { sizes = record { len = len; count = n }; caret = caret; change = record { from = p; to = q; end = end } }) buf′ folds′
     made {len} {n} {caret} {buf′} {folds′} len-is text-is folds-are caret-is =
-        let f : keptFolds (mappedRow (p .row) (q .row) (end .row - p .row)) (take (3 * s .count) folds) ≡ newFolds folds s p q c =
+        let kept-folds-is : keptFolds (mappedRow (p .row) (q .row) (end .row - p .row)) (take (3 * s .count) folds) ≡ newFolds folds s p q c =
         ap (λ (x : ℕ). keptFolds (mappedRow (p .row) (q .row) x) (take (3 * s .count) folds)) added-is in
-        let u : len ≡ length (newText buf s p q c) = len-is ∙ new-size in
-        let v : n ≡ length (newFolds folds s p q c) / 3 = omega (arith, folds-are .count, ap length f) in
-        let w : caret ≡ caretAfter t p q c k =
+        let size-is : len ≡ length (newText buf s p q c) = len-is ∙ new-size in
+        let n-is : n ≡ length (newFolds folds s p q c) / 3 = omega (arith, folds-are .count, ap length kept-folds-is) in
+        let caret-after-is : caret ≡ caretAfter t p q c k =
         caret-is ∙ ap (λ (x : Position). correctedBy k (record { from = p; to = q; end = x })) end-is
         ∙ corrected-after t c p q k (e .first) (e .second) (e .order) (e .caret) in
-        let x : replaced t (at .from) (at .to) c ≡ newText buf s p q c = λ i. replaced t (e .from-is i) (e .to-is i) c in
+        let replaced-is : replaced t (at .from) (at .to) c ≡ newText buf s p q c = λ i. replaced t (e .from-is i) (e .to-is i) c in
         record {
           answer =
-              λ i. record { sizes = record { len = u i; count = v i }; caret = w i; change = record { from = p; to = q; end = end-is i } };
-          text = text-is .left ∙ ap (refilled buf (s .len)) x;
-          folds = folds-are .folds .left ∙ ap (refilled folds (3 * s .count)) f;
+              λ i.
+              record { sizes = record { len = size-is i; count = n-is i }; caret = caret-after-is i; change = record { from = p; to = q; end = end-is i } };
+          text = text-is .left ∙ ap (refilled buf (s .len)) replaced-is;
+          folds = folds-are .folds .left ∙ ap (refilled folds (3 * s .count)) kept-folds-is;
         }
 
 -- the answer, by the number that refuses
@@ -81,12 +89,16 @@ module _ (buf folds : List ℕ) (s : Sizes) (p q : Position) (c : List ℕ) (k :
   pub edit-refused : (at .refusal ≡ 0 → ⊥) → EditsTo buf folds s p q c k (Refused (at .refusal)) buf folds
   unfolding editedBy keptBy
   edit-refused n =
-      let m = ne-eqb (at .refusal) 0 n in
-      record { answer = rw (← number-is, m); text = rw (← number-is, m); folds = rw (← number-is, m) }
+      let by-ne-eqb = ne-eqb (at .refusal) 0 n in
+      record { answer = rw (← number-is, by-ne-eqb); text = rw (← number-is, by-ne-eqb); folds = rw (← number-is, by-ne-eqb) }
 
   pub edit-done : at .refusal ≡ 0 → {r : Left} {buf′ folds′ : List ℕ} → MakesTo buf folds s p q c k r buf′ folds′ →
       EditsTo buf folds s p q c k (Done r) buf′ folds′
   unfolding editedBy keptBy
   edit-done z m =
-      let y = eq-eqb (at .refusal) 0 z in
-      record { answer = rw (← number-is, y) (ap Done (m .answer)); text = rw (← number-is, y) (m .text); folds = rw (← number-is, y) (m .folds) }
+      let by-eq-eqb = eq-eqb (at .refusal) 0 z in
+      record {
+        answer = rw (← number-is, by-eq-eqb) (ap Done (m .answer));
+        text = rw (← number-is, by-eq-eqb) (m .text);
+        folds = rw (← number-is, by-eq-eqb) (m .folds);
+      }

@@ -30,7 +30,7 @@ use Rattle.edits.proofs.Small.{folds-small}
 
 pub near : (t : List ℕ) (x : Position) → StandsIn t x → length t ≤ 1048576 → Near x
 near t x a h =
-    let r = start-ge t (x .row) (a .in-row) in
+    let by-start-ge = start-ge t (x .row) (a .in-row) in
     record { row-near = omega (arith, at-le a); col-near = omega (arith, at-le a) }
 
 pub rows-in-order : (t : List ℕ) (p q : Position) → StandsIn t p → StandsIn t q → offsetOf t p ≤ offsetOf t q → p .row ≤ q .row
@@ -56,11 +56,11 @@ end-col p c = go (eqb (posOf c (length c) .row) 0) (omega (arith, pos-there c (l
 pub folds-raise : (buf : List ℕ) (rows n k : ℕ) → 0 < rows → foldRefusal (take (3 * n) buf) rows ≡ 0 → 3 * n ≤ length buf → rows + k ≤ 4294967295 →
     Raises buf (3 * n) k
 folds-raise buf rows n k pos good fits sum =
-    let l = length-take-le (3 * n) buf fits in
+    let by-length-take-le = length-take-le (3 * n) buf fits in
     record {
       room =
           λ i h.
-          omega (arith, folds-small rows pos (take (3 * n) buf) (folds-good (take (3 * n) buf) rows good) n l i h, getD-take (3 * n) buf i 0 h);
+          omega (arith, folds-small rows pos (take (3 * n) buf) (folds-good (take (3 * n) buf) rows good) n by-length-take-le i h, getD-take (3 * n) buf i 0 h);
     }
 
 pub fits-caret : (t c : List ℕ) (p q : Position) (k : Caret) → StandsIn t p → Near (here k) → Near p → length c ≤ 1048576 →

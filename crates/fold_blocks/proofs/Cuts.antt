@@ -16,7 +16,7 @@ abbrev pub blockAt : List ℕ → ℕ → List ℕ
 blockAt f at = take (at + 512 - at) (drop at f)
 
 pub block-at : (f : List ℕ) (at : ℕ) → blockAt f at ≡ take 512 (drop at f)
-block-at f at = let e : at + 512 - at ≡ 512 = omega arith in rw e
+block-at f at = let sum-is : at + 512 - at ≡ 512 = omega arith in rw sum-is
 
 pub length-block-at : (f : List ℕ) (at : ℕ) → at + 512 ≤ length f → length (blockAt f at) ≡ 512
 length-block-at f at h = omega (arith, length-take (at + 512 - at) (drop at f), length-drop at f)

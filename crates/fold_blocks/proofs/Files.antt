@@ -72,4 +72,4 @@ blocks-none n h = rw (eq-eqb n 0 h)
 
 pub blocks-few : (n : ℕ) → n ≤ 280 → (1 ≤ blocksFor n) × (blocksFor n ≤ 5)
 blocks-few zero h = (omega (arith, blocks-none 0 refl), omega (arith, blocks-none 0 refl))
-blocks-few (suc m) h = let e = blocks-some (suc m) (omega arith) in (omega arith, omega arith)
+blocks-few (suc m) h = let by-blocks-some = blocks-some (suc m) (omega arith) in (omega arith, omega arith)

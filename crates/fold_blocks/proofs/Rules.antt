@@ -22,13 +22,13 @@ pub record Keeps (many n k : ℕ) (b : List ℕ) : Type 0 where
   pub total : totalOf b ≡ n
 
 pub or-parts : (a b : Bool) → (a || b) ≡ false → (a ≡ false) × (b ≡ false)
-or-parts true b e = let z : _≡_ {A = ℕ} 0 1 = cc in absurd (omega arith)
+or-parts true b e = let never : _≡_ {A = ℕ} 0 1 = cc in absurd (omega arith)
 or-parts false b e = (refl, e)
 
 -- a test that holds only under another
 under : (a b : Bool) → (a && b) ≡ false → a ≡ true → b ≡ false
 under true b e t = e
-under false b e t = let z : _≡_ {A = ℕ} 0 1 = cc in absurd (omega arith)
+under false b e t = let never : _≡_ {A = ℕ} 0 1 = cc in absurd (omega arith)
 
 under-false : (a b : Bool) → (a ≡ true → b ≡ false) → (a && b) ≡ false
 under-false true b h = h refl
@@ -38,18 +38,18 @@ module _ (many n k : ℕ) (b : List ℕ) where
   pub keeps : breaks many n k b ≡ false → Keeps many n k b
   unfolding breaks
   keeps e =
-      let p = or-parts _ _ e in
-      let q = or-parts _ _ (p .1) in
-      let r = or-parts _ _ (q .1) in
-      let s = or-parts _ _ (r .1) in
-      let u = or-parts _ _ (s .1) in
+      let by-or-parts = or-parts _ _ e in
+      let or-parts-here = or-parts _ _ (by-or-parts .1) in
+      let or-parts-so = or-parts _ _ (or-parts-here .1) in
+      let by-or-parts-2 = or-parts _ _ (or-parts-so .1) in
+      let by-or-parts-3 = or-parts _ _ (by-or-parts-2 .1) in
       record {
-        number = eqb-true _ _ (not-false _ (p .0));
-        few = ltb-false _ _ (q .0);
-        full = λ h. eqb-true _ _ (not-false _ (under _ _ (r .0) (lt-ltb (k + 1) many h)));
-        some = λ h. let x = eqb-false _ _ (under _ _ (s .0) (lt-ltb 1 many h)) in some-of _ x;
-        unused = u .0;
-        total = eqb-true _ _ (not-false _ (u .1));
+        number = eqb-true _ _ (not-false _ (by-or-parts .0));
+        few = ltb-false _ _ (or-parts-here .0);
+        full = λ h. eqb-true _ _ (not-false _ (under _ _ (or-parts-so .0) (lt-ltb (k + 1) many h)));
+        some = λ h. let by-eqb-false = eqb-false _ _ (under _ _ (by-or-parts-2 .0) (lt-ltb 1 many h)) in some-of _ by-eqb-false;
+        unused = by-or-parts-3 .0;
+        total = eqb-true _ _ (not-false _ (by-or-parts-3 .1));
       }
     where
       some-of : (m : ℕ) → (m ≡ 0 → ⊥) → 0 < m
@@ -71,7 +71,7 @@ module _ (many n k : ℕ) (b : List ℕ) where
 -- the first block, and those behind it
 pub broken-first : (many n k : ℕ) (b : List ℕ) (l : List (List ℕ)) → broken many n k (b ∷ l) ≡ false → Keeps many n k b × (broken many n (k + 1) l ≡ false)
 unfolding broken
-broken-first many n k b l e = let p = or-parts (breaks many n k b) _ e in (keeps many n k b (p .0), p .1)
+broken-first many n k b l e = let by-or-parts = or-parts (breaks many n k b) _ e in (keeps many n k b (by-or-parts .0), by-or-parts .1)
 
 pub length-entries-in : (n : ℕ) (b : List ℕ) → length (entriesIn n b) ≡ 3 * n
 unfolding entriesIn
@@ -83,12 +83,12 @@ pub listed-most : (many n k : ℕ) (l : List (List ℕ)) → broken many n k l �
 unfolding listed
 listed-most many n k [] e = omega arith
 listed-most many n k (b ∷ l) e =
-    let w = broken-first many n k b l e in
+    let by-broken-first = broken-first many n k b l e in
     let first = entriesIn (countOf b) (drop 4 b) in
     omega (
       arith,
       length-append first (listed l),
       length-entries-in (countOf b) (drop 4 b),
-      w .0 .few,
-      listed-most many n (k + 1) l (w .1),
+      by-broken-first .0 .few,
+      listed-most many n (k + 1) l (by-broken-first .1),
     )

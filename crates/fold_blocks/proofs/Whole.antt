@@ -22,9 +22,9 @@ pub record Whole (f : List ℕ) : Type 0 where
 pub uncut-false : (f : List ℕ) → isUncut f ≡ false → (length f % 512 ≡ 0) × (0 < length f) × (length f ≤ 2560)
 unfolding isUncut
 uncut-false f e =
-    let p = or-parts _ _ e in
-    let q = or-parts _ _ (p .1) in
-    (eqb-true _ _ (not-false _ (p .0)), some-of (length f) (eqb-false _ _ (q .0)), ltb-false _ _ (q .1))
+    let by-or-parts = or-parts _ _ e in
+    let or-parts-here = or-parts _ _ (by-or-parts .1) in
+    (eqb-true _ _ (not-false _ (by-or-parts .0)), some-of (length f) (eqb-false _ _ (or-parts-here .0)), ltb-false _ _ (or-parts-here .1))
   where
     some-of : (m : ℕ) → (m ≡ 0 → ⊥) → 0 < m
     some-of zero h = absurd (h refl)
@@ -39,8 +39,8 @@ layout-whole f e = go (isUncut f) (any isTorn (blocksOf f)) (isBroken f) refl re
     go false true c p q r h = absurd (omega arith)
     go false false true p q r h = absurd (omega arith)
     go false false false p q r h =
-        let u = uncut-false f p in
-        record { blocks = u .0; some = u .1; short = u .2; sums = q; laid = r }
+        let by-uncut-false = uncut-false f p in
+        record { blocks = by-uncut-false .0; some = by-uncut-false .1; short = by-uncut-false .2; sums = q; laid = r }
 
 pub length-cut : (n : ℕ) (f : List ℕ) → length (cut n f) ≡ n
 unfolding cut

@@ -51,7 +51,7 @@ written-accepted t folds room n e = go (eqb (writeRefusal t folds room) 0) refl 
         let third = lowest-none (roomRefusal (length (fileOf folds)) room) _ (second .1) in
         let same : length (fileOf folds) ≡ n = cc in
         record { text = first .0; taken = second .0; fits = room-none _ _ (third .0); size = sym same }
-    go false p q = let z : _≡_ {A = ℕ} 0 1 = cc in absurd (omega arith)
+    go false p q = let never : _≡_ {A = ℕ} 0 1 = cc in absurd (omega arith)
 
 pub record ReadAccepted (t f : List ℕ) (room n : ℕ) : Type 0 where
   pub text : textRefusal t ≡ 0
@@ -73,7 +73,7 @@ loaded-accepted t f room n e = go (eqb (readRefusal t f room) 0) refl e
         let fourth = lowest-none (roomRefusal (length (foldsIn f)) room) _ (third .1) in
         let same : countIn (foldsIn f) ≡ n = cc in
         record { text = first .0; whole = second .0; taken = third .0; fits = room-none _ _ (fourth .0); size = sym same }
-    go false p q = let z : _≡_ {A = ℕ} 0 1 = cc in absurd (omega arith)
+    go false p q = let never : _≡_ {A = ℕ} 0 1 = cc in absurd (omega arith)
 
 -- folds that a text takes fit their entries
 small-of : (folds : List ℕ) (rows : ℕ) → rows ≤ 4294967296 → length folds % 3 ≡ 0 → anyFold (badFold rows) folds ≡ false → Small folds
@@ -82,14 +82,18 @@ small-of [] rows h m e = omega arith
 small-of (s ∷ []) rows h m e = absurd (omega arith)
 small-of (s ∷ f ∷ []) rows h m e = absurd (omega arith)
 small-of (s ∷ f ∷ c ∷ l) rows h m e =
-    let p = or-parts (badFold rows s f c) (anyFold (badFold rows) l) e in
-    let q = or-parts (ltb f s) _ (p .0) in
-    let r = or-parts (leb rows f) _ (q .1) in
-    let end = leb-false rows f (r .0) in
-    (omega (arith, ltb-false f s (q .0), end), omega (arith, end), omega (arith, ltb-false 1 c (r .1)), small-of l rows h (omega arith) (p .1))
+    let by-or-parts = or-parts (badFold rows s f c) (anyFold (badFold rows) l) e in
+    let or-parts-here = or-parts (ltb f s) _ (by-or-parts .0) in
+    let or-parts-so = or-parts (leb rows f) _ (or-parts-here .1) in
+    let end = leb-false rows f (or-parts-so .0) in (
+      omega (arith, ltb-false f s (or-parts-here .0), end),
+      omega (arith, end),
+      omega (arith, ltb-false 1 c (or-parts-so .1)),
+      small-of l rows h (omega arith) (by-or-parts .1),
+    )
   where
     or-parts : (a b : Bool) → (a || b) ≡ false → (a ≡ false) × (b ≡ false)
-    or-parts true b e = let z : _≡_ {A = ℕ} 0 1 = cc in absurd (omega arith)
+    or-parts true b e = let never : _≡_ {A = ℕ} 0 1 = cc in absurd (omega arith)
     or-parts false b e = (refl, e)
 
 pub taken-small : (t folds : List ℕ) → textRefusal t ≡ 0 → foldRefusal folds (rowCount t) ≡ 0 → Small folds
@@ -99,11 +103,11 @@ taken-small t folds g e =
 -- what is answered fits a u32
 pub written-most : (t folds : List ℕ) (room n : ℕ) → written t folds room ≡ Bytes n → n ≤ 2560
 written-most t folds room n e =
-    let w = written-accepted t folds room n e in
-    let few = folds-few folds (rowCount t) (w .taken) in
-    omega (arith, w .size, length-file folds, blocks-few (length folds / 3) (omega (arith, few)))
+    let by-written-accepted = written-accepted t folds room n e in
+    let few = folds-few folds (rowCount t) (by-written-accepted .taken) in
+    omega (arith, by-written-accepted .size, length-file folds, blocks-few (length folds / 3) (omega (arith, few)))
 
 pub loaded-most : (t f : List ℕ) (room n : ℕ) → loaded t f room ≡ Folds n → n ≤ 256
 loaded-most t f room n e =
-    let w = loaded-accepted t f room n e in
-    omega (arith, w .size, folds-few (foldsIn f) (rowCount t) (w .taken))
+    let by-loaded-accepted = loaded-accepted t f room n e in
+    omega (arith, by-loaded-accepted .size, folds-few (foldsIn f) (rowCount t) (by-loaded-accepted .taken))

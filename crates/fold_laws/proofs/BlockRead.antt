@@ -34,23 +34,23 @@ module _ (many n k : ℕ) (b : List ℕ) (size : length b ≡ 512) (w : Bytes b)
   body-back : body n k folds ≡ take 510 b
   unfolding body folds
   body-back =
-      let c = countOf b in
-      let rest = drop (4 + 9 * c) (take 508 b) in
-      let left : length rest ≡ 504 - 9 * c = omega (arith, length-drop (4 + 9 * c) (take 508 b), length-take-le 508 b (omega arith), r .few) in
+      let the-count = countOf b in
+      let rest = drop (4 + 9 * the-count) (take 508 b) in
+      let left : length rest ≡ 504 - 9 * the-count = omega (arith, length-drop (4 + 9 * the-count) (take 508 b), length-take-le 508 b (omega arith), r .few) in
       let number : two k ≡ take 2 b = ap two (sym (r .number)) ∙ two-back b 0 w (omega arith) in
-      let count : two (countIn (entriesIn c (drop 4 b))) ≡ take 2 (drop 2 b) = ap two counted ∙ two-back b 2 w (omega arith) in
-      let listing : entries (entriesIn c (drop 4 b)) ≡ take (9 * c) (drop 4 b) =
-      entries-of c (drop 4 b) (bytes-drop 4 b w) (omega (arith, length-drop 4 b, r .few)) in
-      let zeros : replicate (504 - 9 * countIn (entriesIn c (drop 4 b))) 0 ≡ rest =
+      let count : two (countIn (entriesIn the-count (drop 4 b))) ≡ take 2 (drop 2 b) = ap two counted ∙ two-back b 2 w (omega arith) in
+      let listing : entries (entriesIn the-count (drop 4 b)) ≡ take (9 * the-count) (drop 4 b) =
+      entries-of the-count (drop 4 b) (bytes-drop 4 b w) (omega (arith, length-drop 4 b, r .few)) in
+      let zeros : replicate (504 - 9 * countIn (entriesIn the-count (drop 4 b))) 0 ≡ rest =
       ap (λ (m : ℕ). replicate (504 - 9 * m) 0) counted ∙ ap (λ (m : ℕ). replicate m 0) (sym left) ∙ sym (zeros-of rest (r .unused)) in
       let total : two n ≡ take 2 (drop 508 b) = ap two (sym (r .total)) ∙ two-back b 508 w (omega arith) in
-      let first : two k ++ two (countIn (entriesIn c (drop 4 b))) ≡ take 4 b = (λ i. number i ++ count i) ∙ sym (take-add 2 2 b) in
-      let second : two k ++ two (countIn (entriesIn c (drop 4 b))) ++ entries (entriesIn c (drop 4 b)) ≡ take (4 + 9 * c) (take 508 b) =
-      (λ i. first i ++ listing i) ∙ sym (take-add 4 (9 * c) b) ∙ sym (take-take (4 + 9 * c) 508 b (omega (arith, r .few))) in
+      let first : two k ++ two (countIn (entriesIn the-count (drop 4 b))) ≡ take 4 b = (λ i. number i ++ count i) ∙ sym (take-add 2 2 b) in
+      let second : two k ++ two (countIn (entriesIn the-count (drop 4 b))) ++ entries (entriesIn the-count (drop 4 b)) ≡ take (4 + 9 * the-count) (take 508 b) =
+      (λ i. first i ++ listing i) ∙ sym (take-add 4 (9 * the-count) b) ∙ sym (take-take (4 + 9 * the-count) 508 b (omega (arith, r .few))) in
       let third :
-      two k ++ two (countIn (entriesIn c (drop 4 b))) ++ entries (entriesIn c (drop 4 b))
-      ++ replicate (504 - 9 * countIn (entriesIn c (drop 4 b))) 0 ≡ take 508 b =
-      (λ i. second i ++ zeros i) ∙ take-append-drop (4 + 9 * c) (take 508 b) in
+      two k ++ two (countIn (entriesIn the-count (drop 4 b))) ++ entries (entriesIn the-count (drop 4 b))
+      ++ replicate (504 - 9 * countIn (entriesIn the-count (drop 4 b))) 0 ≡ take 508 b =
+      (λ i. second i ++ zeros i) ∙ take-append-drop (4 + 9 * the-count) (take 508 b) in
       (λ i. third i ++ total i) ∙ sym (take-add 508 2 b)
 
   pub block-back : isTorn b ≡ false → block n k (entriesIn (countOf b) (drop 4 b)) ≡ b

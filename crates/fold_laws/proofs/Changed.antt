@@ -74,7 +74,7 @@ unfolding any
 any-first p b l e = go (p b) refl e
   where
     go : (c : Bool) → p b ≡ c → (c || any p l) ≡ false → (p b ≡ false) × (any p l ≡ false)
-    go true q h = let z : _≡_ {A = ℕ} 0 1 = cc in absurd (omega arith)
+    go true q h = let never : _≡_ {A = ℕ} 0 1 = cc in absurd (omega arith)
     go false q h = (q, h)
 
 torn-one :
@@ -93,15 +93,15 @@ torn-one (suc m) f i v size h small w new e =
         (isTorn (take 512 (set f i v)) || any isTorn (cut m (drop 512 (set f i v)))) ≡ true
     go (yes l) first ih =
         let size-b = length-take-le 512 f (omega arith) in
-        let t = torn-block (take 512 f) i v size-b l small (bytes-take 512 f w) (λ z. new (z ∙ getD-take 512 f i 0 l)) first in
-        rw (take-set-lt 512 f i v l, t)
+        let by-torn-block = torn-block (take 512 f) i v size-b l small (bytes-take 512 f w) (λ z. new (z ∙ getD-take 512 f i 0 l)) first in
+        rw (take-set-lt 512 f i v l, by-torn-block)
     go (no l) first ih =
         let j = i - 512 in
         let at : i ≡ 512 + j = omega arith in
         let there : getD (drop 512 f) j 0 ≡ getD f i 0 = getD-drop 512 f j 0 ∙ ap (λ (x : ℕ). getD f x 0) (sym at) in
-        let t = ih j (omega (arith, length-drop 512 f)) (omega (arith, length-drop 512 f)) (λ z. new (z ∙ there)) in
+        let by-ih = ih j (omega (arith, length-drop 512 f)) (omega (arith, length-drop 512 f)) (λ z. new (z ∙ there)) in
         let moved : drop 512 (set f i v) ≡ set (drop 512 f) j v = ap (λ (x : ℕ). drop 512 (set f x v)) at ∙ drop-set-add 512 f j v in
-        rw (moved, t, or-true)
+        rw (moved, by-ih, or-true)
 
 -- a file that is whole is refused with 19 once one byte is changed
 pub changed-torn :

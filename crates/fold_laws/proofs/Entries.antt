@@ -15,12 +15,12 @@ use Rattle.fold_laws.proofs.Numbers.{Bytes, Small}
 -- the four bytes of a number, by their values, and back
 digits :
     (a b c d : ℕ) → a < 256 → b < 256 → c < 256 → d < 256 →
-    let s = a + 256 * b + 65536 * c + 16777216 * d in (s % 256 ≡ a) × (s / 256 % 256 ≡ b) × (s / 65536 % 256 ≡ c) × (s / 16777216 % 256 ≡ d)
+    let sum = a + 256 * b + 65536 * c + 16777216 * d in (sum % 256 ≡ a) × (sum / 256 % 256 ≡ b) × (sum / 65536 % 256 ≡ c) × (sum / 16777216 % 256 ≡ d)
 digits a b c d h i j k =
-    let s = a + 256 * b + 65536 * c + 16777216 * d in
-    let first : s / 256 ≡ b + 256 * c + 65536 * d = omega arith in
-    let second : s / 65536 ≡ c + 256 * d = omega arith in
-    let third : s / 16777216 ≡ d = omega arith in
+    let sum = a + 256 * b + 65536 * c + 16777216 * d in
+    let first : sum / 256 ≡ b + 256 * c + 65536 * d = omega arith in
+    let second : sum / 65536 ≡ c + 256 * d = omega arith in
+    let third : sum / 16777216 ≡ d = omega arith in
     (omega arith, omega (arith, first), omega (arith, second), omega (arith, third))
 
 digits-back : (s : ℕ) → s < 4294967296 → s % 256 + 256 * (s / 256 % 256) + 65536 * (s / 65536 % 256) + 16777216 * (s / 16777216 % 256) ≡ s
@@ -46,10 +46,22 @@ entries-of (suc n) (s0 ∷ s1 ∷ s2 ∷ s3 ∷ e0 ∷ e1 ∷ e2 ∷ e3 ∷ c �
     let b6 = b5 .1 in
     let b7 = b6 .1 in
     let b8 = b7 .1 in
-    let p = digits s0 s1 s2 s3 (b .0) (b1 .0) (b2 .0) (b3 .0) in
-    let q = digits e0 e1 e2 e3 (b4 .0) (b5 .0) (b6 .0) (b7 .0) in
-    let r : c % 256 ≡ c = omega (arith, b8 .0) in
-    rw (nine, p .0, p .1, p .2, p .3, q .0, q .1, q .2, q .3, r, entries-of n l (b8 .1) (omega arith))
+    let by-digits = digits s0 s1 s2 s3 (b .0) (b1 .0) (b2 .0) (b3 .0) in
+    let by-digits-e0 = digits e0 e1 e2 e3 (b4 .0) (b5 .0) (b6 .0) (b7 .0) in
+    let remainder-is : c % 256 ≡ c = omega (arith, b8 .0) in
+    rw (
+      nine,
+      by-digits .0,
+      by-digits .1,
+      by-digits .2,
+      by-digits .3,
+      by-digits-e0 .0,
+      by-digits-e0 .1,
+      by-digits-e0 .2,
+      by-digits-e0 .3,
+      remainder-is,
+      entries-of n l (b8 .1) (omega arith),
+    )
 entries-of (suc n) [] b h = absurd (omega arith)
 entries-of (suc n) (a ∷ []) b h = absurd (omega arith)
 entries-of (suc n) (a ∷ a1 ∷ []) b h = absurd (omega arith)
@@ -68,8 +80,8 @@ entries-back (s ∷ []) rest n h e = absurd h
 entries-back (s ∷ f ∷ []) rest n h e = absurd h
 entries-back (s ∷ f ∷ c ∷ l) rest n h e =
     let more : n ≡ suc (length l / 3) = omega arith in
-    let r : c % 256 ≡ c = omega (arith, h .2) in
-    rw (more, digits-back s (h .0), digits-back f (h .1), r, entries-back l rest (length l / 3) (h .3) refl)
+    let remainder-is : c % 256 ≡ c = omega (arith, h .2) in
+    rw (more, digits-back s (h .0), digits-back f (h .1), remainder-is, entries-back l rest (length l / 3) (h .3) refl)
 
 -- bytes of which none is used are zeros, and zeros are unused
 pub zeros-of : (l : List ℕ) → any isUsed l ≡ false → l ≡ replicate (length l) 0
@@ -78,9 +90,10 @@ zeros-of [] e = refl
 zeros-of (x ∷ l) e = go (eqb x 0) refl e (λ q. zeros-of l q)
   where
     go :
-        (b : Bool) → eqb x 0 ≡ b → (not b || any isUsed l) ≡ false → (any isUsed l ≡ false → l ≡ replicate (length l) 0) → (x ∷ l) ≡ replicate (length (x ∷ l)) 0
-    go true p q ih = let z : x ≡ 0 = eqb-true _ _ p in λ i. z i ∷ ih q i
-    go false p q ih = let z : _≡_ {A = ℕ} 0 1 = cc in absurd (omega arith)
+        (b : Bool) → eqb x 0 ≡ b → (not b || any isUsed l) ≡ false → (any isUsed l ≡ false → l ≡ replicate (length l) 0) →
+        (x ∷ l) ≡ replicate (length (x ∷ l)) 0
+    go true p q ih = let x-is : x ≡ 0 = eqb-true _ _ p in λ i. x-is i ∷ ih q i
+    go false p q ih = let never : _≡_ {A = ℕ} 0 1 = cc in absurd (omega arith)
 
 pub zeros-unused : (n : ℕ) → any isUsed (replicate n 0) ≡ false
 unfolding any

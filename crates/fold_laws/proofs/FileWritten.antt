@@ -36,18 +36,18 @@ module _ (l : List ℕ) (h : countIn l ≤ 280) where
   file-taken =
       let few = blocks-few (countIn l) h in
       let size = length-file l in
-      let m = blocksFor (countIn l) in
+      let the-blocks = blocksFor (countIn l) in
       let whole : length (fileOf l) % 512 ≡ 0 = omega arith in
-      let counted : countAll (blocksOf (fileOf l)) ≡ countIn l = ap countAll file-cut ∙ written-count (countIn l) 0 m l (fits .0) in
+      let counted : countAll (blocksOf (fileOf l)) ≡ countIn l = ap countAll file-cut ∙ written-count (countIn l) 0 the-blocks l (fits .0) in
       rw (
         eq-eqb (length (fileOf l) % 512) 0 whole,
         ne-eqb (length (fileOf l)) 0 (λ z. omega arith),
         le-ltb 2560 (length (fileOf l)) (omega arith),
         counted,
         file-blocks,
-        ap (cut m) file-is,
-        written-whole (countIn l) 0 m l,
-        written-kept m (countIn l) 0 m l (omega arith) (omega arith) (omega arith) (fits .0) (λ x y. fits .1 x),
+        ap (cut the-blocks) file-is,
+        written-whole (countIn l) 0 the-blocks l,
+        written-kept the-blocks (countIn l) 0 the-blocks l (omega arith) (omega arith) (omega arith) (fits .0) (λ x y. fits .1 x),
       )
 
   pub file-listed : Small l → foldsIn (fileOf l) ≡ l

@@ -34,7 +34,7 @@ unfolding any
 any-first p b l e = go (p b) refl e
   where
     go : (c : Bool) → p b ≡ c → (c || any p l) ≡ false → (p b ≡ false) × (any p l ≡ false)
-    go true q h = let z : _≡_ {A = ℕ} 0 1 = cc in absurd (omega arith)
+    go true q h = let never : _≡_ {A = ℕ} 0 1 = cc in absurd (omega arith)
     go false q h = (q, h)
 
 pub read-back :
@@ -44,22 +44,22 @@ unfolding cut blocks listed
 read-back many n k zero [] size w e r t = refl
 read-back many n k zero (x ∷ f) size w e r t = absurd (omega arith)
 read-back many n k (suc zero) f size w e r t =
-    let b = take 512 f in
-    let all : b ≡ f = take-all 512 f (omega arith) in
-    let rule = broken-first many n k b [] r .0 in
-    let part = entriesIn (countOf b) (drop 4 b) in
-    let one : take 168 (part ++ []) ≡ part = first-last part (omega (arith, length-entries-in (countOf b) (drop 4 b), rule .few)) in
-    let same = block-back many n k b (first-size f 0 size) (bytes-take 512 f w) rule (any-first isTorn b [] t .0) in
+    let front = take 512 f in
+    let all : front ≡ f = take-all 512 f (omega arith) in
+    let rule = broken-first many n k front [] r .0 in
+    let part = entriesIn (countOf front) (drop 4 front) in
+    let one : take 168 (part ++ []) ≡ part = first-last part (omega (arith, length-entries-in (countOf front) (drop 4 front), rule .few)) in
+    let same = block-back many n k front (first-size f 0 size) (bytes-take 512 f w) rule (any-first isTorn front [] t .0) in
     rw (one, append-nil (block n k part)) (same ∙ all)
 read-back many n k (suc (suc left)) f size w e r t =
-    let b = take 512 f in
+    let front = take 512 f in
     let rest = drop 512 f in
-    let rules = broken-first many n k b (cut (suc left) rest) r in
-    let sums = any-first isTorn b (cut (suc left) rest) t in
-    let part = entriesIn (countOf b) (drop 4 b) in
-    let full : countOf b ≡ 56 = rules .0 .full (omega arith) in
-    let parts = first-full part (listed (cut (suc left) rest)) (omega (arith, length-entries-in (countOf b) (drop 4 b))) in
-    let same = block-back many n k b (first-size f (suc left) size) (bytes-take 512 f w) (rules .0) (sums .0) in
+    let rules = broken-first many n k front (cut (suc left) rest) r in
+    let sums = any-first isTorn front (cut (suc left) rest) t in
+    let part = entriesIn (countOf front) (drop 4 front) in
+    let full : countOf front ≡ 56 = rules .0 .full (omega arith) in
+    let parts = first-full part (listed (cut (suc left) rest)) (omega (arith, length-entries-in (countOf front) (drop 4 front))) in
+    let same = block-back many n k front (first-size f (suc left) size) (bytes-take 512 f w) (rules .0) (sums .0) in
     let behind =
     read-back many n (k + 1) (suc left) rest (omega (arith, length-drop 512 f)) (bytes-drop 512 f w) (omega arith) (rules .1) (sums .1) in
     rw (parts .0, parts .1, same, behind) (take-append-drop 512 f)

@@ -73,19 +73,19 @@ pub written-kept :
 unfolding broken
 written-kept many n k zero l e m t h g = rw (cut-none n k l)
 written-kept many n k (suc left) l e m t h g =
-    let p = take 168 l in
+    let front = take 168 l in
     let few = take-most l in
-    let b = block n k p in
-    let count : countOf b ≡ countIn p = block-count n k p few in
-    let w : Keeps many n k b =
+    let block-here = block n k front in
+    let count : countOf block-here ≡ countIn front = block-count n k front few in
+    let keeps : Keeps many n k block-here =
     record {
-      number = block-number n k p few (omega arith);
+      number = block-number n k front few (omega arith);
       few = omega (arith, count);
       full = λ x. omega (arith, count, length-take 168 l, g (omega arith) (omega arith));
       some = λ x. omega (arith, count, length-take 168 l, g x (omega arith));
-      unused = block-unused n k p few;
-      total = block-total n k p few t;
+      unused = block-unused n k front few;
+      total = block-total n k front few t;
     } in
-    rw (cut-blocks n k left l, kept many n k b w)
+    rw (cut-blocks n k left l, kept many n k block-here keeps)
     (written-kept many n (k + 1) left (drop 168 l) (omega arith) m t (omega (arith, length-drop 168 l))
     (λ x y. omega (arith, length-drop 168 l, g x (omega arith))))

@@ -13,14 +13,14 @@ use Rattle.fold_blocks.specs.Layout.{isUsed, breaks}
 
 -- the part from m to n, cut off at either end first
 drop-take : (m n : ℕ) (l : List ℕ) → drop m (take n l) ≡ take (n - m) (drop m l)
-drop-take zero n l = let e : n - 0 ≡ n = omega arith in rw e
-drop-take (suc m) zero l = let e : 0 - suc m ≡ 0 = omega arith in rw e
+drop-take zero n l = let n-less-zero : n - 0 ≡ n = omega arith in rw n-less-zero
+drop-take (suc m) zero l = let difference-is : 0 - suc m ≡ 0 = omega arith in rw difference-is
 drop-take (suc m) (suc n) [] = take-none (suc n - suc m)
   where
     take-none : (i : ℕ) → _≡_ {A = List ℕ} [] (take i [])
     take-none zero = refl
     take-none (suc i) = refl
-drop-take (suc m) (suc n) (x ∷ l) = let e : suc n - suc m ≡ n - m = omega arith in rw e (drop-take m n l)
+drop-take (suc m) (suc n) (x ∷ l) = let difference-is : suc n - suc m ≡ n - m = omega arith in rw difference-is (drop-take m n l)
 
 module _ (many n k : ℕ) (b : List ℕ) where
   pub breaks-number : (x : ℕ) → x ≡ numberOf b → (x ≡ k → ⊥) → true ≡ breaks many n k b

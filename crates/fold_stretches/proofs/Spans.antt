@@ -16,10 +16,10 @@ module _ (rows content row : ℕ) where
   pub no-span : {folds : List ℕ} {w : Stretch} → NoFold folds w → (leb (w .lo) row && ltb row (w .hi)) ≡ true →
       closedFoldAt folds rows content row ≡ NoSpan
   no-span {folds} {w} b h =
-      let k = both (leb (w .lo) row) (ltb row (w .hi)) h in
-      let l = leb-true (w .lo) row (k .0) in
-      let m = ltb-true row (w .hi) (k .1) in
-      rw (b .shown row l (omega arith), b .shown (row + 1) (omega arith) (omega arith))
+      let by-both = both (leb (w .lo) row) (ltb row (w .hi)) h in
+      let by-leb-true = leb-true (w .lo) row (by-both .0) in
+      let by-ltb-true = ltb-true row (w .hi) (by-both .1) in
+      rw (b .shown row by-leb-true (omega arith), b .shown (row + 1) (omega arith) (omega arith))
 
   -- nor is there one where there are no folds
   pub none-span : closedFoldAt [] rows content row ≡ NoSpan

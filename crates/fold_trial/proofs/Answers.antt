@@ -29,11 +29,11 @@ module _ (t folds out : List ℕ) (size : length out ≡ 8450) where
           cond b (Bytes (length (fileOf folds))) (Refused (writeRefusal t folds (length out))) ≡ Bytes n →
           out′ ≡ cond b (fileOf folds ++ drop (length (fileOf folds)) out) out → Prints (fileShown t folds) n out′
       go true p f k =
-          let m : length (fileOf folds) ≡ n = cc in
-          let w : n ≤ length out′ = omega (arith, ap length k, length-append (fileOf folds) (drop (length (fileOf folds)) out)) in
-          let front : take n out′ ≡ fileOf folds = ap (take n) k ∙ take-at (fileOf folds) (drop (length (fileOf folds)) out) n m in
-          record { front = front ∙ rw (← size, p); within = w; counts = sym (length-take-le n out′ w) }
-      go false p f k = let z : _≡_ {A = ℕ} 0 1 = cc in absurd (omega arith)
+          let size-is : length (fileOf folds) ≡ n = cc in
+          let n-at-most : n ≤ length out′ = omega (arith, ap length k, length-append (fileOf folds) (drop (length (fileOf folds)) out)) in
+          let front : take n out′ ≡ fileOf folds = ap (take n) k ∙ take-at (fileOf folds) (drop (length (fileOf folds)) out) n size-is in
+          record { front = front ∙ rw (← size, p); within = n-at-most; counts = sym (length-take-le n out′ n-at-most) }
+      go false p f k = let never : _≡_ {A = ℕ} 0 1 = cc in absurd (omega arith)
 
   pub stored-kept : (f : ℕ) → written t folds (length out) ≡ Refused f → writtenIn t folds out ≡ out
   unfolding written writtenIn
@@ -42,7 +42,7 @@ module _ (t folds out : List ℕ) (size : length out ≡ 8450) where
       go :
           (b : Bool) → cond b (Bytes (length (fileOf folds))) (Refused (writeRefusal t folds (length out))) ≡ Refused f →
           cond b (fileOf folds ++ drop (length (fileOf folds)) out) out ≡ out
-      go true q = let z : _≡_ {A = ℕ} 0 1 = cc in absurd (omega arith)
+      go true q = let never : _≡_ {A = ℕ} 0 1 = cc in absurd (omega arith)
       go false q = refl
 
   pub stored-refused : (f : ℕ) → written t folds (length out) ≡ Refused f → fileShown t folds ≡ refusalRow f
@@ -54,28 +54,28 @@ module _ (t f folds : List ℕ) (size : length folds ≡ 768) where
   pub loaded-front : (n : ℕ) (folds′ : List ℕ) → loaded t f (length folds) ≡ Folds n → folds′ ≡ loadedIn t f folds → take (3 * n) folds′ ≡ foldsIn f
   unfolding loaded loadedIn
   loaded-front n folds′ e l =
-      let a = loaded-accepted t f (length folds) n e in
-      let m : length (foldsIn f) ≡ 3 * n = omega (arith, a .size, folds-whole (foldsIn f) (rowCount t) (a .taken)) in
-      go (eqb (readRefusal t f (length folds)) 0) e l m
+      let by-loaded-accepted = loaded-accepted t f (length folds) n e in
+      let size-is : length (foldsIn f) ≡ 3 * n = omega (arith, by-loaded-accepted .size, folds-whole (foldsIn f) (rowCount t) (by-loaded-accepted .taken)) in
+      go (eqb (readRefusal t f (length folds)) 0) e l size-is
     where
       go :
           (b : Bool) → cond b (Folds (length (foldsIn f) / 3)) (Loaded·Refused (readRefusal t f (length folds))) ≡ Folds n →
           folds′ ≡ cond b (foldsIn f ++ drop (length (foldsIn f)) folds) folds → length (foldsIn f) ≡ 3 * n → take (3 * n) folds′ ≡ foldsIn f
       go true q k m = ap (take (3 * n)) k ∙ take-at (foldsIn f) (drop (length (foldsIn f)) folds) (3 * n) m
-      go false q k m = let z : _≡_ {A = ℕ} 0 1 = cc in absurd (omega arith)
+      go false q k m = let never : _≡_ {A = ℕ} 0 1 = cc in absurd (omega arith)
 
   -- that many numbers are shown
   pub loaded-counts :
       (n : ℕ) (folds′ : List ℕ) → loaded t f (length folds) ≡ Folds n → folds′ ≡ loadedIn t f folds → 3 * n ≡ length (take (3 * n) folds′)
   loaded-counts n folds′ e l =
-      let a = loaded-accepted t f (length folds) n e in
-      omega (arith, ap length (loaded-front n folds′ e l), a .size, folds-whole (foldsIn f) (rowCount t) (a .taken))
+      let by-loaded-accepted = loaded-accepted t f (length folds) n e in
+      omega (arith, ap length (loaded-front n folds′ e l), by-loaded-accepted .size, folds-whole (foldsIn f) (rowCount t) (by-loaded-accepted .taken))
 
   pub loaded-few : (n : ℕ) → loaded t f (length folds) ≡ Folds n → 3 * n ≤ 768
-  loaded-few n e = let a = loaded-accepted t f (length folds) n e in omega (arith, a .size, a .fits)
+  loaded-few n e = let by-loaded-accepted = loaded-accepted t f (length folds) n e in omega (arith, by-loaded-accepted .size, by-loaded-accepted .fits)
 
   pub loaded-within : (n : ℕ) → loaded t f (length folds) ≡ Folds n → length (foldsIn f) ≤ 768
-  loaded-within n e = let a = loaded-accepted t f (length folds) n e in omega (arith, a .fits)
+  loaded-within n e = let by-loaded-accepted = loaded-accepted t f (length folds) n e in omega (arith, by-loaded-accepted .fits)
 
   pub loaded-shown : (n : ℕ) → loaded t f (length folds) ≡ Folds n → foldsShown t f ≡ foldRow (foldsIn f)
   unfolding byLoaded

@@ -49,5 +49,5 @@ unread-fits = omega arith
 -- what was written is what is printed
 pub prints : {out s out′ : List ℕ} {r : ℕ} → length s ≤ 8450 → length out ≡ 8450 → Wrote out 0 s r out′ → Prints s r out′
 prints {out} {s} {out′} {r} h e w =
-    let k : r ≤ length out′ = omega (arith, w .size, w .next) in
-    record { front = taken-front w (omega arith); within = k; counts = sym (length-take-le r out′ k) }
+    let r-at-most : r ≤ length out′ = omega (arith, w .size, w .next) in
+    record { front = taken-front w (omega arith); within = r-at-most; counts = sym (length-take-le r out′ r-at-most) }

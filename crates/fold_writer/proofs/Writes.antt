@@ -17,15 +17,15 @@ use Rattle.fold_writer.specs.Writing.{Ends}
 pub wrote-zero :
     {out o : List ℕ} {at : ℕ} (i : ℕ) → Wrote out at (replicate i 0) (at + i) o → Wrote out at (replicate (i + 1) 0) (at + (i + 1)) (set o (at + i) 0)
 wrote-zero {out} {o} {at} i w =
-    let z : ℕ = 0 in
-    let b : Wrote o (at + i) (z ∷ []) (at + (i + 1)) (set o (at + i) 0) =
+    let value : ℕ = 0 in
+    let wrote : Wrote o (at + i) (value ∷ []) (at + (i + 1)) (set o (at + i) 0) =
     record { next = omega arith; left = refl; size = length-set o (at + i) 0 } in
-    rw (replicate-append-replicate {A = ℕ} i 1 0) at (wrote-then w b)
+    rw (replicate-append-replicate {A = ℕ} i 1 0) at (wrote-then w wrote)
 
 pub wrote-zeros : {out o : List ℕ} {at : ℕ} (i n : ℕ) → i ≤ n → n ≤ i → Wrote out at (replicate i 0) (at + i) o → Wrote out at (replicate n 0) (at + i) o
 wrote-zeros {out} {o} {at} i n h k w =
-    let e : i ≡ n = omega arith in
-    subst (λ (m : ℕ). Wrote out at (replicate m 0) (at + i) o) e w
+    let i-is : i ≡ n = omega arith in
+    subst (λ (m : ℕ). Wrote out at (replicate m 0) (at + i) o) i-is w
 
 -- what was written stands there
 pub wrote-part : {out o s : List ℕ} {at r : ℕ} → Wrote out at s r o → at + length s ≤ length out → take (r - at) (drop at o) ≡ s
@@ -55,7 +55,7 @@ module _ (l : List ℕ) (from to : ℕ) (w : Ends from (length l) to) where
       go (yes h) =
           take-all (to - from) (drop from l) (omega (arith, length-drop from l, w .all h, w .after))
           ∙ sym (take-all 168 (drop from l) (omega (arith, length-drop from l, w .all h, w .after)))
-      go (no h) = let e : to - from ≡ 168 = omega (arith, w .most) in rw e
+      go (no h) = let difference-is : to - from ≡ 168 = omega (arith, w .most) in rw difference-is
 
   pub ends-rest : drop to l ≡ drop 168 (drop from l)
   ends-rest = go (decLt to (from + 168))
@@ -63,4 +63,4 @@ module _ (l : List ℕ) (from to : ℕ) (w : Ends from (length l) to) where
       go : Dec (to < from + 168) → drop to l ≡ drop 168 (drop from l)
       go (yes h) =
           drop-of-length-le l {i = to} (omega (arith, w .all h)) ∙ sym (drop-of-length-le (drop from l) {i = 168} (omega (arith, length-drop from l, w .all h)))
-      go (no h) = let e : to ≡ from + 168 = omega (arith, w .most) in rw (e, drop-drop 168 from l)
+      go (no h) = let to-is : to ≡ from + 168 = omega (arith, w .most) in rw (to-is, drop-drop 168 from l)

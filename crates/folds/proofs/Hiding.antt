@@ -73,9 +73,9 @@ or-right false b e = e
 -- a fold that hides a row hides all of its rows
 fold-hides : (row s e k : ℕ) → foldHides row s e k ≡ true → (s < row) × (row ≤ e) × ((x : ℕ) → s < x → x ≤ e → foldHides x s e k ≡ true)
 fold-hides row s e k h =
-    let p = both (eqb k 1) (ltb s row && leb row e) h in
-    let q = both (ltb s row) (leb row e) (p .1) in
-    (ltb-true _ _ (q .0), leb-true _ _ (q .1), λ x l m. rw (p .0, lt-ltb s x l, le-leb x e m))
+    let by-both = both (eqb k 1) (ltb s row && leb row e) h in
+    let both-here = both (ltb s row) (leb row e) (by-both .1) in
+    (ltb-true _ _ (both-here .0), leb-true _ _ (both-here .1), λ x l m. rw (by-both .0, lt-ltb s x l, le-leb x e m))
 
 pub cover-covers : (folds : List ℕ) (row : ℕ) → Covers folds row (coverOf folds row)
 unfolding anyFold coverOf
@@ -86,10 +86,10 @@ cover-covers (s ∷ e ∷ k ∷ folds) row = go (foldHides row s e k) refl (cove
   where
     go : (b : Bool) → foldHides row s e k ≡ b → (r : Span) → Covers folds row r → Covers (s ∷ e ∷ k ∷ folds) row (cond b (Of s e) r)
     go true h r ih =
-        let f = fold-hides row s e k h in (
-          f .0,
-          f .1,
-          (λ x l m. rw (f .2 x l m)),
+        let by-fold-hides = fold-hides row s e k h in (
+          by-fold-hides .0,
+          by-fold-hides .1,
+          (λ x l m. rw (by-fold-hides .2 x l m)),
           λ rows g. leb-false rows e (or-left _ (ltb 1 k) (or-right (ltb e s) _ (or-left _ (anyFold (badFold rows) folds) g))),
         )
     go false h NoSpan ih = rw (h, ih)

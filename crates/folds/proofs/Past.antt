@@ -90,22 +90,22 @@ prev-here folds (suc q) v h =
 -- where the row seen lies
 pub visible-within : (folds : List ℕ) (r n x : ℕ) → visibleFrom folds r n ≡ Row x → (r ≤ x) × (x < r + n)
 unfolding visibleFrom
-visible-within folds r zero x e = let z : _≡_ {A = ℕ} 0 1 = cc in absurd (omega arith)
+visible-within folds r zero x e = let never : _≡_ {A = ℕ} 0 1 = cc in absurd (omega arith)
 visible-within folds r (suc n) x e = go (hidden folds r) e (λ h. visible-within folds (r + 1) n x h)
   where
     go : (b : Bool) → cond b (visibleFrom folds (r + 1) n) (Row r) ≡ Row x → (visibleFrom folds (r + 1) n ≡ Row x → (r + 1 ≤ x) × (x < r + 1 + n)) →
         (r ≤ x) × (x < r + suc n)
     go true h ih = omega (arith, ih h)
-    go false h ih = let z : r ≡ x = cc in omega arith
+    go false h ih = let r-is : r ≡ x = cc in omega arith
 
 pub prev-within : (folds : List ℕ) (r x : ℕ) → prevVisible folds r ≡ Row x → x < r
 unfolding prevVisible
-prev-within folds zero x e = let z : _≡_ {A = ℕ} 0 1 = cc in absurd (omega arith)
+prev-within folds zero x e = let never : _≡_ {A = ℕ} 0 1 = cc in absurd (omega arith)
 prev-within folds (suc r) x e = go (hidden folds r) e (λ h. prev-within folds r x h)
   where
     go : (b : Bool) → cond b (prevVisible folds r) (Row r) ≡ Row x → (prevVisible folds r ≡ Row x → x < r) → x < suc r
     go true h ih = omega (arith, ih h)
-    go false h ih = let z : r ≡ x = cc in omega arith
+    go false h ih = let r-is : r ≡ x = cc in omega arith
 
 -- no fold hides it
 pub prev-shown : (folds : List ℕ) (r x : ℕ) → prevVisible folds r ≡ Row x → hidden folds x ≡ false
@@ -116,4 +116,4 @@ prev-shown folds (suc r) x e = go (hidden folds r) refl e (λ h. prev-shown fold
     go : (b : Bool) → hidden folds r ≡ b → cond b (prevVisible folds r) (Row r) ≡ Row x → (prevVisible folds r ≡ Row x → hidden folds x ≡ false) →
         hidden folds x ≡ false
     go true q h ih = ih h
-    go false q h ih = let z : r ≡ x = cc in rw z at q
+    go false q h ih = let r-is : r ≡ x = cc in rw r-is at q

@@ -43,8 +43,8 @@ pub lowest-back : (l r : List ℕ) → lowest l ≡ 0 → lowest (l ++ r) ≡ lo
 unfolding lowest
 lowest-back [] r z = refl
 lowest-back (f ∷ rest) r z =
-    let p = lowest-none f rest z in
-    rw (eq-eqb f 0 (p .0)) (lowest-back rest r (p .1))
+    let by-lowest-none = lowest-none f rest z in
+    rw (eq-eqb f 0 (by-lowest-none .0)) (lowest-back rest r (by-lowest-none .1))
 
 last : (d : ℕ) → cond (eqb d 0) 0 d ≡ d
 last d = go (ℕ-discrete d 0)
@@ -69,9 +69,9 @@ module _ (a b c : ℕ) where
 
   pub late-none : lowest (a ∷ b ∷ c ∷ []) ≡ 0 → (a ≡ 0) × (b ≡ 0) × (c ≡ 0)
   late-none z =
-      let p = lowest-none a (b ∷ c ∷ []) z in
-      let q = lowest-none b (c ∷ []) (p .1) in
-      (p .0, q .0, lowest-none c [] (q .1) .0)
+      let by-lowest-none = lowest-none a (b ∷ c ∷ []) z in
+      let by-lowest-none-b = lowest-none b (c ∷ []) (by-lowest-none .1) in
+      (by-lowest-none .0, by-lowest-none-b .0, lowest-none c [] (by-lowest-none-b .1) .0)
 
 module _ (t starts : List ℕ) (content : ℕ) (jumps : List ℕ) (places : ℕ) {g : ℕ} (table : g ≡ tableRefusal (rowCount t) t starts content) where
   pub late-table : (g ≡ 0 → ⊥) → g ≡ lateRefusal t starts content jumps places
@@ -79,7 +79,9 @@ module _ (t starts : List ℕ) (content : ℕ) (jumps : List ℕ) (places : ℕ)
 
   module _ (none : g ≡ 0) {h : ℕ} (kinds : h ≡ kindRefusal jumps) where
     pub late-kind : (h ≡ 0 → ⊥) → h ≡ lateRefusal t starts content jumps places
-    late-kind n = kinds ∙ late-second (tableRefusal (rowCount t) t starts content) (kindRefusal jumps) (answerRefusal jumps places) (sym table ∙ none) (λ z. n (kinds ∙ z))
+    late-kind n =
+        kinds
+        ∙ late-second (tableRefusal (rowCount t) t starts content) (kindRefusal jumps) (answerRefusal jumps places) (sym table ∙ none) (λ z. n (kinds ∙ z))
 
     pub late-answer : h ≡ 0 → {n : ℕ} → n ≡ answerRefusal jumps places → n ≡ lateRefusal t starts content jumps places
     late-answer z e =
@@ -96,8 +98,10 @@ answers-room jumps places z = go (ltb places (length jumps)) refl z
 pub late-accepted : (t starts : List ℕ) (content : ℕ) (jumps answers : List ℕ) → textRefusal t ≡ 0 → lateRefusal t starts content jumps (length answers) ≡ 0 →
     IsTable t starts × Course jumps answers
 late-accepted t starts content jumps answers clear z =
-    let n = late-none (tableRefusal (rowCount t) t starts content) (kindRefusal jumps) (answerRefusal jumps (length answers)) z in
-    (table-held t starts (rowCount t) content clear refl (n .0) .table, record { kinds = n .1; room = answers-room jumps (length answers) (n .2) })
+    let by-late-none = late-none (tableRefusal (rowCount t) t starts content) (kindRefusal jumps) (answerRefusal jumps (length answers)) z in (
+      table-held t starts (rowCount t) content clear refl (by-late-none .0) .table,
+      record { kinds = by-late-none .1; room = answers-room jumps (length answers) (by-late-none .2) },
+    )
 
 module _ (t starts : List ℕ) (content : ℕ) (folds list : List ℕ) (k : Caret) (jumps answers : List ℕ) where
   module _ {f : ℕ} (n : f ≡ 0 → ⊥) where
@@ -156,8 +160,8 @@ none-places t folds list (x ∷ jumps) answers k e = absurd (omega (arith, e))
 pub over-first : {e s buf : List ℕ} (n : ℕ) → Over e 0 s buf → length s ≡ n → buf ≡ s ++ drop n e
 unfolding replaced
 over-first {e} {s} {buf} n o q =
-    let z : 0 + length s ≡ n = omega (arith, q) in
-    rw z at (o .left)
+    let sum-is : 0 + length s ≡ n = omega (arith, q) in
+    rw sum-is at (o .left)
 
 pub over-as : {e s s′ buf : List ℕ} → s ≡ s′ → Over e 0 s buf → Over e 0 s′ buf
 over-as {e} {s} {s′} {buf} q o = subst (λ (l : List ℕ). Over e 0 l buf) q o

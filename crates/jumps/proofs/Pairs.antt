@@ -14,9 +14,9 @@ module _ (jumps : List ℕ) (i : ℕ) where
   -- the pair at i, and what stands after it
   pub pair-at : i + 1 < length jumps → drop i jumps ≡ getD jumps i 0 ∷ getD jumps (i + 1) 0 ∷ drop (i + 2) jumps
   pair-at h =
-      let e : i + 1 + 1 ≡ i + 2 = omega arith in
+      let sum-is : i + 1 + 1 ≡ i + 2 = omega arith in
       drop-at jumps i (omega arith) ∙ ap (λ (l : List ℕ). getD jumps i 0 ∷ l) (drop-at jumps (i + 1) h)
-      ∙ ap (λ (n : ℕ). getD jumps i 0 ∷ getD jumps (i + 1) 0 ∷ drop n jumps) e
+      ∙ ap (λ (n : ℕ). getD jumps i 0 ∷ getD jumps (i + 1) 0 ∷ drop n jumps) sum-is
 
   pub none-left : length jumps ≤ i → drop i jumps ≡ []
   none-left h = drop-of-length-le jumps h

@@ -23,8 +23,8 @@ module _ (l : List ℕ) (i x y : ℕ) (r : List ℕ) (e : drop i l ≡ x ∷ y �
 
   first-read : x ≡ getD l i 0
   first-read =
-      let z : i + 0 ≡ i = omega arith in
-      ap (λ (q : List ℕ). getD q 0 0) (sym e) ∙ rw z at (getD-drop i l 0 0)
+      let i-plus-zero : i + 0 ≡ i = omega arith in
+      ap (λ (q : List ℕ). getD q 0 0) (sym e) ∙ rw i-plus-zero at (getD-drop i l 0 0)
 
   second-read : y ≡ getD l (i + 1) 0
   second-read = ap (λ (q : List ℕ). getD q 1 0) (sym e) ∙ getD-drop i l 1 0
@@ -88,10 +88,10 @@ module _ {t folds : List ℕ} {class : ℕ → ℕ} {jumps answers : List ℕ} {
         let more = two-inside all i _ _ _ places in
         let one = up-next (at .written) (omega arith) (first-read all i _ _ _ places) in
         let two = up-next one (omega arith) (second-read all i _ _ _ places) in
-        let n : i + 1 + 1 ≡ i + 2 = omega arith in
-        let a : 0 + i ≡ i = omega arith in
-        let b : 0 + (i + 1) ≡ i + 1 = omega arith in
-        let wrote : Up answers 0 all (i + 2) (twoPlaces buf i next) = rw (a, b, n) at two in
+        let sum-is : i + 1 + 1 ≡ i + 2 = omega arith in
+        let zero-plus-i : 0 + i ≡ i = omega arith in
+        let i-plus-one-is : 0 + (i + 1) ≡ i + 1 = omega arith in
+        let wrote : Up answers 0 all (i + 2) (twoPlaces buf i next) = rw (zero-plus-i, i-plus-one-is, sum-is) at two in
         record {
           written = rw e wrote;
           rest = two-rest all i _ _ _ places;

@@ -84,8 +84,8 @@ module _ (t folds list : List ℕ) (clear : textRefusal t ≡ 0) (good : foldRef
         go (no n) (yes e) c = rw e (ap (caretAfter k) (word-single Back count))
         go (no n) (no m) (yes e) = rw e (ap (caretAfter k) (word-single End count))
         go (no n) (no m) (no l) =
-            let e : kind ≡ 3 = omega (arith, h, n, m, l) in
-            rw e key-single
+            let kind-is : kind ≡ 3 = omega (arith, h, n, m, l) in
+            rw kind-is key-single
 
   -- where a jump leads to is in the text
   partner-in : (p : Position) → Positions.Inside t p → (x : Partner) → keyFrom t (p .row) (p .col) ≡ x → Positions.Inside t (onPartner p x)
@@ -98,9 +98,9 @@ module _ (t folds list : List ℕ) (clear : textRefusal t ≡ 0) (good : foldRef
   word-in : (m : Motion) (count : ℕ) (p : Position) → Positions.Inside t p →
       Positions.Inside t (wordMotion t folds (kindOf (inList list) false) false m false count p)
   word-in m count p i =
-      let j : In t (wordMotion t folds (kindOf (inList list) false) false m false count p) =
+      let inside : In t (wordMotion t folds (kindOf (inList list) false) false m false count p) =
       word-motion-in t folds (kindOf (inList list) false) false m false count p (record { in-row = i .in-row; in-col = i .in-col }) in
-      record { in-row = j .in-row; in-col = j .in-col }
+      record { in-row = inside .in-row; in-col = inside .in-col }
 
   leapt-in : (kind count : ℕ) (p : Position) → Positions.Inside t p → Positions.Inside t (leapt t folds (kindOf (inList list) false) kind count p)
   unfolding leapt
@@ -118,10 +118,11 @@ module _ (t folds list : List ℕ) (clear : textRefusal t ≡ 0) (good : foldRef
   places-in-turn [] k i z = refl
   places-in-turn (kind ∷ []) k i z = refl
   places-in-turn (kind ∷ count ∷ jumps) k i z =
-      let h = kinds-first kind count jumps z in
-      let q = leapt t folds (kindOf (inList list) false) kind count (here k) in
-      rw (single k i kind count (h .0))
-      (ap (λ (l : List ℕ). q .row ∷ q .col ∷ l) (places-in-turn jumps (put k q) (leapt-in kind count (here k) i) (h .1)))
+      let by-kinds-first = kinds-first kind count jumps z in
+      let leapt-here = leapt t folds (kindOf (inList list) false) kind count (here k) in
+      rw (single k i kind count (by-kinds-first .0))
+      (ap (λ (l : List ℕ). leapt-here .row ∷ leapt-here .col ∷ l)
+      (places-in-turn jumps (put k leapt-here) (leapt-in kind count (here k) i) (by-kinds-first .1)))
 
   caret-from : (jumps : List ℕ) (k : Caret) (p : Position) → Positions.Inside t p → kindRefusal jumps ≡ 0 →
       caretAtEnd t folds list jumps (put k p) ≡ put k (leapEnd t folds (kindOf (inList list) false) jumps p)
@@ -129,8 +130,9 @@ module _ (t folds list : List ℕ) (clear : textRefusal t ≡ 0) (good : foldRef
   caret-from [] k p i z = refl
   caret-from (kind ∷ []) k p i z = refl
   caret-from (kind ∷ count ∷ jumps) k p i z =
-      let h = kinds-first kind count jumps z in
-      rw (single (put k p) i kind count (h .0)) (caret-from jumps k (leapt t folds (kindOf (inList list) false) kind count p) (leapt-in kind count p i) (h .1))
+      let by-kinds-first = kinds-first kind count jumps z in
+      rw (single (put k p) i kind count (by-kinds-first .0))
+      (caret-from jumps k (leapt t folds (kindOf (inList list) false) kind count p) (leapt-in kind count p i) (by-kinds-first .1))
 
   pub caret-in-turn : (jumps : List ℕ) (k : Caret) → Positions.Inside t (here k) → kindRefusal jumps ≡ 0 → (length jumps ≡ 0 → ⊥) →
       caretAtEnd t folds list jumps k ≡ put k (leapEnd t folds (kindOf (inList list) false) jumps (here k))
@@ -138,6 +140,6 @@ module _ (t folds list : List ℕ) (clear : textRefusal t ≡ 0) (good : foldRef
   caret-in-turn [] k i z n = absurd (n refl)
   caret-in-turn (kind ∷ []) k i z n = absurd (kinds-one kind z)
   caret-in-turn (kind ∷ count ∷ jumps) k i z n =
-      let h = kinds-first kind count jumps z in
-      rw (single k i kind count (h .0))
-      (caret-from jumps k (leapt t folds (kindOf (inList list) false) kind count (here k)) (leapt-in kind count (here k) i) (h .1))
+      let by-kinds-first = kinds-first kind count jumps z in
+      rw (single k i kind count (by-kinds-first .0))
+      (caret-from jumps k (leapt t folds (kindOf (inList list) false) kind count (here k)) (leapt-in kind count (here k) i) (by-kinds-first .1))

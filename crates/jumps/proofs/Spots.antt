@@ -66,8 +66,8 @@ pub word-rounds : (t folds : List ℕ) (class : ℕ → ℕ) (m : Motion) (count
     counted (roundOf t folds class false m false) (max count 1) p ≡ wordMotion t folds class false m false count p
 unfolding counted wordMotion
 word-rounds t folds class m count p =
-    let e : max count 1 ≡ suc (max count 1 - 1) = omega arith in
-    ap (λ (n : ℕ). counted (roundOf t folds class false m false) n p) e
+    let most-is : max count 1 ≡ suc (max count 1 - 1) = omega arith in
+    ap (λ (n : ℕ). counted (roundOf t folds class false m false) n p) most-is
 
 -- the same by numbers that are those
 pub rounds-leapt : (t folds : List ℕ) (class : ℕ → ℕ) (kind count : ℕ) (p : Position) {big : Bool} {m : Motion} {n : ℕ} →

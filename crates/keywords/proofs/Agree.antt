@@ -23,14 +23,14 @@ parsed-number (suc n) ts = refl
 
 lowest-none : (a b : ℕ) → lowest a b ≡ 0 → (a ≡ 0) × (b ≡ 0)
 lowest-none zero b e = (refl, e)
-lowest-none (suc a) b e = let z : suc a ≡ 0 = rw (ne-eqb (suc a) 0 (λ w. omega arith)) at e in absurd (omega arith)
+lowest-none (suc a) b e = let one-more-is : suc a ≡ 0 = rw (ne-eqb (suc a) 0 (λ w. omega arith)) at e in absurd (omega arith)
 
 few : (n : ℕ) → tableRefusal n ≡ 0 → n ≤ 128
 few n e = go (leb n 128) refl
   where
     go : (b : Bool) → leb n 128 ≡ b → n ≤ 128
     go true w = leb-true n 128 w
-    go false w = let z : _≡_ {A = ℕ} 8 0 = rw w at e in absurd (omega arith)
+    go false w = let never : _≡_ {A = ℕ} 8 0 = rw w at e in absurd (omega arith)
 
 -- p is what `parse` answered, and it accepted the list
 module _ (list : List ℕ) (p : Parsed) (w : p ≡ parseOf list) (e : p .refusal ≡ 0) where
@@ -52,11 +52,11 @@ module _ (list : List ℕ) (p : Parsed) (w : p ≡ parseOf list) (e : p .refusal
 
 pub agree : Agree
 agree list c e s =
-    let r = none list (parseOf list) refl e in
-    let t = parse-table list (parseOf list) refl e in
+    let by-none = none list (parseOf list) refl e in
+    let by-parse-table = parse-table list (parseOf list) refl e in
     record {
       read = parse-kept list (parseOf list) refl e;
-      table = rw (t, s, r .1, table-kept (tokens list));
-      direct = rw (s, r .0);
+      table = rw (by-parse-table, s, by-none .1, table-kept (tokens list));
+      direct = rw (s, by-none .0);
       lent = parse-flat list (parseOf list) refl e c;
     }

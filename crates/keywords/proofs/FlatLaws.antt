@@ -36,13 +36,19 @@ pub flat-push :
     (ts : List Token) (bs : List ℕ) (i x y : ℕ) → i < length ts → i < 128 → bs ≡ padded (flat (take i ts)) → x ≡ lowOf (getD ts i noToken) →
     y ≡ highOf (getD ts i noToken) → set (set bs (i + i) x) (i + i + 1) y ≡ padded (flat (take (i + 1) ts))
 flat-push ts bs i x y h k e p q =
-    let f = flat (take i ts) in
-    let t = getD ts i noToken in
-    let a : length f ≡ i + i = omega (arith, flat-length (take i ts), length-take-le i ts (omega arith)) in
-    let b : length (f ++ (lowOf t ∷ [])) ≡ i + i + 1 = omega (arith, length-append f (lowOf t ∷ [])) in
-    let d : take (i + 1) ts ≡ take i ts ++ (t ∷ []) = rw (add-one i) (take-suc ts i noToken h) in
-    rw (e, p, q, padded-push f (i + i) (lowOf t) a (omega arith), padded-push (f ++ (lowOf t ∷ [])) (i + i + 1) (highOf t) b (omega arith))
-    (ap padded (sym (ap flat d ∙ flat-snoc (take i ts) t)))
+    let flat-here = flat (take i ts) in
+    let value = getD ts i noToken in
+    let size-is : length flat-here ≡ i + i = omega (arith, flat-length (take i ts), length-take-le i ts (omega arith)) in
+    let sum-is : length (flat-here ++ (lowOf value ∷ [])) ≡ i + i + 1 = omega (arith, length-append flat-here (lowOf value ∷ [])) in
+    let front-is : take (i + 1) ts ≡ take i ts ++ (value ∷ []) = rw (add-one i) (take-suc ts i noToken h) in
+    rw (
+      e,
+      p,
+      q,
+      padded-push flat-here (i + i) (lowOf value) size-is (omega arith),
+      padded-push (flat-here ++ (lowOf value ∷ [])) (i + i + 1) (highOf value) sum-is (omega arith),
+    )
+    (ap padded (sym (ap flat front-is ∙ flat-snoc (take i ts) value)))
 
 -- the first bounds of a table are its tokens'
 pub flat-front : (ts : List Token) → take (length ts + length ts) (padded (flat ts)) ≡ flat ts
@@ -53,8 +59,8 @@ two-at :
     (bs : List ℕ) (n i : ℕ) → i < n → n + n ≤ length bs →
     drop (i + i) (take (n + n) bs) ≡ getD bs (i + i) 0 ∷ getD bs (i + i + 1) 0 ∷ drop (i + 1 + (i + 1)) (take (n + n) bs)
 two-at bs n i h l =
-    let m : i + i + 1 + 1 ≡ i + 1 + (i + 1) = omega arith in
-    rw (drop-at-take bs (n + n) (i + i) 0 (omega arith) l, drop-at-take bs (n + n) (i + i + 1) 0 (omega arith) l, m)
+    let sum-is : i + i + 1 + 1 ≡ i + 1 + (i + 1) = omega arith in
+    rw (drop-at-take bs (n + n) (i + i) 0 (omega arith) l, drop-at-take bs (n + n) (i + i + 1) 0 (omega arith) l, sum-is)
 
 module _ (bs : List ℕ) (n i c : ℕ) where
   pub within-hit :

@@ -38,8 +38,8 @@ module _ {l : List ℕ} {spec : KeywordSpec} {i : ℕ} (g : Reading l spec i) wh
   pub reading-end : length l < i → (spec ≡ table (tokens l)) × (length (tokens l) ≤ 128)
   unfolding tokensIn
   reading-end h =
-      let a : tokens l ≡ g .ts = g .rest ∙ ap (λ (ps : List (List ℕ)). g .ts ++ tokensIn ps) (split-from-end 44 l i h) ∙ append-nil (g .ts) in
-      (g .is ∙ ap table (sym a), omega (arith, ap length a, g .few))
+      let tokens-is : tokens l ≡ g .ts = g .rest ∙ ap (λ (ps : List (List ℕ)). g .ts ++ tokensIn ps) (split-from-end 44 l i h) ∙ append-nil (g .ts) in
+      (g .is ∙ ap table (sym tokens-is), omega (arith, ap length tokens-is, g .few))
 
   module _ (h : i ≤ length l) (s : Step) (w : s ≡ stepOf l i) where
     pub reading-skip : s .token .kind ≡ 0 → Reading l spec (s .next)
@@ -51,10 +51,10 @@ module _ {l : List ℕ} {spec : KeywordSpec} {i : ℕ} (g : Reading l spec i) wh
 
     pub reading-keep : (s .token .kind ≡ 0 → ⊥) → (spec .len ≡ 128 → ⊥) → (r : KeywordSpec) → r ≡ pushed spec (s .token) → Reading l r (s .next)
     reading-keep z n r p =
-        let b : length (g .ts) < 128 = omega (arith, g .few, reading-length) in
+        let size-below : length (g .ts) < 128 = omega (arith, g .few, reading-length) in
         record {
           ts = g .ts ++ (s .token ∷ []);
-          is = p ∙ ap (λ (x : KeywordSpec). pushed x (s .token)) (g .is) ∙ table-push (g .ts) (s .token) b;
+          is = p ∙ ap (λ (x : KeywordSpec). pushed x (s .token)) (g .is) ∙ table-push (g .ts) (s .token) size-below;
           few = omega (arith, length-append (g .ts) (s .token ∷ []));
           rest = kept-rest z ∙ sym (append-assoc (g .ts) (s .token ∷ []) (tokensIn (splitFrom 44 l (s .next))));
         }

@@ -38,7 +38,7 @@ snoc-other [] x e = rw e
 snoc-other (y ∷ p) x e = ap (keepLast y) (snoc-other p x e) ∙ keep-some y p x
 
 take-last : (p : List ℕ) (e : ℕ) → 0 < e → e ≤ length p → take e p ≡ take (e - 1) p ++ (getD p (e - 1) 0 ∷ [])
-take-last p e h k = let s : e ≡ suc (e - 1) = omega arith in ap (λ (n : ℕ). take n p) s ∙ take-suc p (e - 1) 0 (omega arith)
+take-last p e h k = let e-is : e ≡ suc (e - 1) = omega arith in ap (λ (n : ℕ). take n p) e-is ∙ take-suc p (e - 1) 0 (omega arith)
 
 module _ (p : List ℕ) (e : ℕ) (h : 0 < e) (k : e ≤ length p) where
   pub trim-end-on : isWhite (getD p (e - 1) 0) ≡ true → trimEnd (take e p) ≡ trimEnd (take (e - 1) p)
@@ -54,5 +54,5 @@ trim-end-end p (suc e) h = absurd (omega arith)
 
 pub trim-is : (p : List ℕ) (i e : ℕ) → Begun p i → Ended (take (length p - i) (drop i p)) e → take e (take (length p - i) (drop i p)) ≡ trim p
 trim-is p i e b t =
-    let u : take (length p - i) (drop i p) ≡ drop i p = take-all (length p - i) (drop i p) (omega (arith, length-drop i p)) in
-    sym (t .is) ∙ ap trimEnd (u ∙ sym (b .is))
+    let front-is : take (length p - i) (drop i p) ≡ drop i p = take-all (length p - i) (drop i p) (omega (arith, length-drop i p)) in
+    sym (t .is) ∙ ap trimEnd (front-is ∙ sym (b .is))

@@ -30,16 +30,21 @@ part-around : (p : List ℕ) → bare p ≡ before p ++ (without (trim p) (keptS
 part-around p =
     ap (λ (q : List ℕ). without q (partSigns p)) (sym (split-part p))
     ∙ without-append (before p) (trim p ++ behind p) (none (before p)) (keptSigns (trim p) ++ none (behind p)) (length-replicate (length (before p)) false)
-    ∙ rw (without-none (before p) (length (before p)), without-append (trim p) (behind p) (keptSigns (trim p)) (none (behind p)) (kept-length (trim p)), without-none (behind p) (length (behind p)))
+    ∙ rw (
+      without-none (before p) (length (before p)),
+      without-append (trim p) (behind p) (keptSigns (trim p)) (none (behind p)) (kept-length (trim p)),
+      without-none (behind p) (length (behind p)),
+    )
 
 same-part : (p : List ℕ) → Same (trim p)
 same-part p = same-trimmed (trim p) (trim-twice p) (start-of-trim p)
 
 part-trim : (p : List ℕ) → trim (bare p) ≡ without (trim p) (keptSigns (trim p))
 part-trim p =
-    let s = same-part p in
+    let by-same-part = same-part p in
     ap trim (part-around p)
-    ∙ trim-around (before p) (without (trim p) (keptSigns (trim p))) (behind p) (before-white p) (end-white (trimStart p)) (s .trimmed) (s .starts)
+    ∙ trim-around (before p) (without (trim p) (keptSigns (trim p))) (behind p) (before-white p) (end-white (trimStart p)) (by-same-part .trimmed)
+    (by-same-part .starts)
 
 part-token : (p : List ℕ) → tokenOf (trim (bare p)) ≡ tokenOf (trim p)
 part-token p = ap tokenOf (part-trim p) ∙ same-part p .token
@@ -47,12 +52,12 @@ part-token p = ap tokenOf (part-trim p) ∙ same-part p .token
 -- no sign is left in it
 part-bare : (p : List ℕ) → partSigns (bare p) ≡ none (bare p)
 part-bare p =
-    let q = bare p in
-    let k : keptSigns (trim q) ≡ none (trim q) = rw (part-trim p) (same-part p .bare) in
-    rw k
-    (ap (λ (r : List Bool). none (before q) ++ r) (sym (none-append (trim q) (behind q)))
-    ∙ sym (none-append (before q) (trim q ++ behind q))
-    ∙ ap none (split-part q))
+    let bare-here = bare p in
+    let kept-signs-is : keptSigns (trim bare-here) ≡ none (trim bare-here) = rw (part-trim p) (same-part p .bare) in
+    rw kept-signs-is
+    (ap (λ (r : List Bool). none (before bare-here) ++ r) (sym (none-append (trim bare-here) (behind bare-here)))
+    ∙ sym (none-append (before bare-here) (trim bare-here ++ behind bare-here))
+    ∙ ap none (split-part bare-here))
 
 -- a part that is dropped has none
 dropped-none : (t : List ℕ) → isToken (tokenOf t) ≡ false → keptSigns t ≡ none t
@@ -66,8 +71,9 @@ dropped-none t h = go (isAt t) refl (isToken (rangeOf t)) refl (numberOf t) refl
 
 pub dropped-stays : (p : List ℕ) → isToken (tokenOf (trim p)) ≡ false → bare p ≡ p
 dropped-stays p h =
-    let t = trim p in
-    let stays : without t (keptSigns t) ≡ t = ap (without t) (dropped-none t h) ∙ without-none t (length t) in
+    let trim-here = trim p in
+    let stays : without trim-here (keptSigns trim-here) ≡ trim-here = ap (without trim-here) (dropped-none trim-here h)
+    ∙ without-none trim-here (length trim-here) in
     part-around p ∙ ap (λ (q : List ℕ). before p ++ (q ++ behind p)) stays ∙ split-part p
 
 part-comma : (p : List ℕ) (ms : List Bool) → noComma p ≡ true → noComma (without p ms) ≡ true
@@ -75,7 +81,7 @@ unfolding noComma without
 part-comma [] ms h = refl
 part-comma (x ∷ p) [] h = h
 part-comma (x ∷ p) (true ∷ ms) h = part-comma p ms (both (not (eqb x 44)) (noComma p) h .1)
-part-comma (x ∷ p) (false ∷ ms) h = let s = both (not (eqb x 44)) (noComma p) h in rw (s .0) (part-comma p ms (s .1))
+part-comma (x ∷ p) (false ∷ ms) h = let by-both = both (not (eqb x 44)) (noComma p) h in rw (by-both .0) (part-comma p ms (by-both .1))
 
 bares-some : (ps : List (List ℕ)) → Some ps → Some (bares ps)
 unfolding bares Some
@@ -85,7 +91,7 @@ bares-some (p ∷ ps) s = no-cons _ _
 bares-no-commas : (ps : List (List ℕ)) → noCommas ps ≡ true → noCommas (bares ps) ≡ true
 unfolding bares noCommas
 bares-no-commas [] h = refl
-bares-no-commas (p ∷ ps) h = let s = both (noComma p) (noCommas ps) h in rw (part-comma p (partSigns p) (s .0)) (bares-no-commas ps (s .1))
+bares-no-commas (p ∷ ps) h = let by-both = both (noComma p) (noCommas ps) h in rw (part-comma p (partSigns p) (by-both .0)) (bares-no-commas ps (by-both .1))
 
 bares-joined : (ps : List (List ℕ)) → without (joined ps) (signsIn ps) ≡ joined (bares ps)
 unfolding joined bares signsIn without
@@ -107,11 +113,11 @@ pub bares-none : (ps : List (List ℕ)) → signsIn (bares ps) ≡ replicate (le
 unfolding bares signsIn
 bares-none [] = refl
 bares-none (p ∷ ps) =
-    let q = bare p in
+    let bare-here = bare p in
     let n = length (signsIn (bares ps)) in
-    let e : partSigns q ++ (false ∷ signsIn (bares ps)) ≡ replicate (length q + suc n) false =
-    rw (part-bare p) (ap (λ (r : List Bool). none q ++ (false ∷ r)) (bares-none ps) ∙ replicate-append-replicate (length q) (suc n) false) in
-    e ∙ ap (λ (k : ℕ). replicate k false) (sym (ap length e ∙ length-replicate (length q + suc n) false))
+    let joined-is : partSigns bare-here ++ (false ∷ signsIn (bares ps)) ≡ replicate (length bare-here + suc n) false =
+    rw (part-bare p) (ap (λ (r : List Bool). none bare-here ++ (false ∷ r)) (bares-none ps) ∙ replicate-append-replicate (length bare-here) (suc n) false) in
+    joined-is ∙ ap (λ (k : ℕ). replicate k false) (sym (ap length joined-is ∙ length-replicate (length bare-here + suc n) false))
 
 -- the parts of a converted list
 pub plain-parts : (l : List ℕ) → split 44 (plain l) ≡ bares (split 44 l)

@@ -19,48 +19,48 @@ use Rattle.list_signs.proofs.WhiteLaws.{noWhite}
 use Rattle.list_signs.proofs.WithoutLaws.{without-none}
 
 digit-bounds : (x : ℕ) → isDigit x ≡ true → (48 ≤ x) × (x ≤ 57)
-digit-bounds x e = let s = both (leb 48 x) (leb x 57) e in (leb-true 48 x (s .0), leb-true x 57 (s .1))
+digit-bounds x e = let by-both = both (leb 48 x) (leb x 57) e in (leb-true 48 x (by-both .0), leb-true x 57 (by-both .1))
 
 digit-not-white : (x : ℕ) → isDigit x ≡ true → isWhite x ≡ false
 unfolding isWhite whites
 digit-not-white x e =
-    let b = digit-bounds x e in
+    let by-digit-bounds = digit-bounds x e in
     rw (
-      le-ltb x 0xe (omega (arith, b .0)),
+      le-ltb x 0xe (omega (arith, by-digit-bounds .0)),
       and-false (leb 0x9 x),
-      le-ltb x 0x21 (omega (arith, b .0)),
+      le-ltb x 0x21 (omega (arith, by-digit-bounds .0)),
       and-false (leb 0x20 x),
-      lt-leb 0x85 x (omega (arith, b .1)),
-      lt-leb 0xa0 x (omega (arith, b .1)),
-      lt-leb 0x1680 x (omega (arith, b .1)),
-      lt-leb 0x2000 x (omega (arith, b .1)),
-      lt-leb 0x2028 x (omega (arith, b .1)),
-      lt-leb 0x202f x (omega (arith, b .1)),
-      lt-leb 0x205f x (omega (arith, b .1)),
-      lt-leb 0x3000 x (omega (arith, b .1)),
+      lt-leb 0x85 x (omega (arith, by-digit-bounds .1)),
+      lt-leb 0xa0 x (omega (arith, by-digit-bounds .1)),
+      lt-leb 0x1680 x (omega (arith, by-digit-bounds .1)),
+      lt-leb 0x2000 x (omega (arith, by-digit-bounds .1)),
+      lt-leb 0x2028 x (omega (arith, by-digit-bounds .1)),
+      lt-leb 0x202f x (omega (arith, by-digit-bounds .1)),
+      lt-leb 0x205f x (omega (arith, by-digit-bounds .1)),
+      lt-leb 0x3000 x (omega (arith, by-digit-bounds .1)),
     )
 
 -- digits: what no code point of them is
 pub digits-no-white : (p : List ℕ) → allDigits p ≡ true → noWhite p ≡ true
 unfolding allDigits noWhite
 digits-no-white [] h = refl
-digits-no-white (x ∷ p) h = let s = both (isDigit x) (allDigits p) h in rw (digit-not-white x (s .0)) (digits-no-white p (s .1))
+digits-no-white (x ∷ p) h = let by-both = both (isDigit x) (allDigits p) h in rw (digit-not-white x (by-both .0)) (digits-no-white p (by-both .1))
 
 pub digits-no-minus : (p r : List ℕ) → allDigits p ≡ true → upTo 45 (p ++ (45 ∷ r)) ≡ length p
 unfolding allDigits upTo
 digits-no-minus [] r h = refl
 digits-no-minus (x ∷ p) r h =
-    let s = both (isDigit x) (allDigits p) h in
-    let b = digit-bounds x (s .0) in
-    rw (ne-eqb x 45 (λ (e : x ≡ 45). omega (arith, b .0))) (ap suc (digits-no-minus p r (s .1)))
+    let by-both = both (isDigit x) (allDigits p) h in
+    let by-digit-bounds = digit-bounds x (by-both .0) in
+    rw (ne-eqb x 45 (λ (e : x ≡ 45). omega (arith, by-digit-bounds .0))) (ap suc (digits-no-minus p r (by-both .1)))
 
 pub digits-up-to : (p : List ℕ) → allDigits p ≡ true → upTo 45 p ≡ length p
 unfolding allDigits upTo
 digits-up-to [] h = refl
 digits-up-to (x ∷ p) h =
-    let s = both (isDigit x) (allDigits p) h in
-    let b = digit-bounds x (s .0) in
-    rw (ne-eqb x 45 (λ (e : x ≡ 45). omega (arith, b .0))) (ap suc (digits-up-to p (s .1)))
+    let by-both = both (isDigit x) (allDigits p) h in
+    let by-digit-bounds = digit-bounds x (by-both .0) in
+    rw (ne-eqb x 45 (λ (e : x ≡ 45). omega (arith, by-digit-bounds .0))) (ap suc (digits-up-to p (by-both .1)))
 
 -- a number without its sign
 pub record Plain (p : List ℕ) (n : ℕ) : Type 0 where
@@ -78,17 +78,17 @@ value-digits (x ∷ p) n e = go (allDigits (x ∷ p)) refl
     go : (b : Bool) → allDigits (x ∷ p) ≡ b → (allDigits (x ∷ p) ≡ true) × (0 < length (x ∷ p))
     go true w = (w, omega arith)
     go false w =
-        let z : Not ≡ Value n = rw w at e in
-        absurd (true≢false (sym (ap isValue z)))
+        let never : Not ≡ Value n = rw w at e in
+        absurd (true≢false (sym (ap isValue never)))
 
 -- the first of digits is no sign
 first-digit : (p : List ℕ) (n : ℕ) → digitsOf p ≡ Value n → (numberOf p ≡ Value n) × (leading p ≡ none p)
 unfolding allDigits
 first-digit [] n e = absurd (true≢false (sym (ap isValue e)))
 first-digit (x ∷ p) n e =
-    let d = value-digits (x ∷ p) n e .0 in
-    let b = digit-bounds x (both (isDigit x) (allDigits p) d .0) in
-    let other = ne-eqb x 43 (λ (w : x ≡ 43). omega (arith, b .0)) in
+    let by-value-digits = value-digits (x ∷ p) n e .0 in
+    let by-digit-bounds = digit-bounds x (both (isDigit x) (allDigits p) by-value-digits .0) in
+    let other = ne-eqb x 43 (λ (w : x ≡ 43). omega (arith, by-digit-bounds .0)) in
     (rw other e, rw other)
 
 pub plain-number : (p : List ℕ) (n : ℕ) → numberOf p ≡ Value n → Plain p n
@@ -98,12 +98,26 @@ plain-number (x ∷ p) n e = go (eqb x 43) refl
   where
     go : (b : Bool) → eqb x 43 ≡ b → Plain (x ∷ p) n
     go true w =
-        let v : digitsOf p ≡ Value n = rw w at e in
-        let d = value-digits p n v in
-        let f = first-digit p n v in
-        record { digits = p; are = d .0; some = d .1; same = f .0; bare = f .1; is = rw w (without-none p (length p)) }
+        let digits-is : digitsOf p ≡ Value n = rw w at e in
+        let by-value-digits = value-digits p n digits-is in
+        let by-first-digit = first-digit p n digits-is in
+        record {
+          digits = p;
+          are = by-value-digits .0;
+          some = by-value-digits .1;
+          same = by-first-digit .0;
+          bare = by-first-digit .1;
+          is = rw w (without-none p (length p));
+        }
     go false w =
-        let v : digitsOf (x ∷ p) ≡ Value n = rw w at e in
-        let d = value-digits (x ∷ p) n v in
-        let f = first-digit (x ∷ p) n v in
-        record { digits = x ∷ p; are = d .0; some = d .1; same = f .0; bare = f .1; is = rw w (ap (λ (q : List ℕ). x ∷ q) (without-none p (length p))) }
+        let digits-is : digitsOf (x ∷ p) ≡ Value n = rw w at e in
+        let by-value-digits = value-digits (x ∷ p) n digits-is in
+        let by-first-digit = first-digit (x ∷ p) n digits-is in
+        record {
+          digits = x ∷ p;
+          are = by-value-digits .0;
+          some = by-value-digits .1;
+          same = by-first-digit .0;
+          bare = by-first-digit .1;
+          is = rw w (ap (λ (q : List ℕ). x ∷ q) (without-none p (length p)));
+        }

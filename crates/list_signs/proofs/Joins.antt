@@ -22,7 +22,7 @@ unfoldable pub Some : List (List ℕ) → Type 0
 Some ps = ps ≡ [] → ⊥
 
 pub no-cons : {A : Type 0} (x : A) (l : List A) → x ∷ l ≡ [] → ⊥
-no-cons x l e = let n = ap length e in omega arith
+no-cons x l e = let same-size = ap length e in omega arith
 
 pub split-some : (l : List ℕ) → Some (split 44 l)
 unfolding split onFirst Some
@@ -79,23 +79,23 @@ split-part-comma : (p r : List ℕ) → noComma p ≡ true → split 44 (p ++ (4
 unfolding split onFirst noComma
 split-part-comma [] r h = refl
 split-part-comma (x ∷ p) r h =
-    let s = both (not (eqb x 44)) (noComma p) h in
-    rw (not-true (eqb x 44) (s .0)) (ap (onFirst x) (split-part-comma p r (s .1)))
+    let by-both = both (not (eqb x 44)) (noComma p) h in
+    rw (not-true (eqb x 44) (by-both .0)) (ap (onFirst x) (split-part-comma p r (by-both .1)))
 
 split-part-end : (p : List ℕ) → noComma p ≡ true → split 44 p ≡ p ∷ []
 unfolding split onFirst noComma
 split-part-end [] h = refl
 split-part-end (x ∷ p) h =
-    let s = both (not (eqb x 44)) (noComma p) h in
-    rw (not-true (eqb x 44) (s .0)) (ap (onFirst x) (split-part-end p (s .1)))
+    let by-both = both (not (eqb x 44)) (noComma p) h in
+    rw (not-true (eqb x 44) (by-both .0)) (ap (onFirst x) (split-part-end p (by-both .1)))
 
 pub split-joined : (ps : List (List ℕ)) → Some ps → noCommas ps ≡ true → split 44 (joined ps) ≡ ps
 unfolding joined noCommas Some
 split-joined [] s h = absurd (s refl)
 split-joined (p ∷ []) s h = split-part-end p (both (noComma p) true h .0)
 split-joined (p ∷ q ∷ ps) s h =
-    let n = both (noComma p) (noComma q && noCommas ps) h in
-    split-part-comma p (joined (q ∷ ps)) (n .0) ∙ ap (λ (r : List (List ℕ)). p ∷ r) (split-joined (q ∷ ps) (no-cons q ps) (n .1))
+    let by-both = both (noComma p) (noComma q && noCommas ps) h in
+    split-part-comma p (joined (q ∷ ps)) (by-both .0) ∙ ap (λ (r : List (List ℕ)). p ∷ r) (split-joined (q ∷ ps) (no-cons q ps) (by-both .1))
 
 -- a mark for each code point of parts that are joined, and for their end
 joined-length : (ps : List (List ℕ)) → Some ps → length (signsIn ps) ≡ length (joined ps) + 1

@@ -45,7 +45,8 @@ next-drop : {A : Type 0} (l : List A) (n : ℕ) (x : A) (r : List A) → drop n 
 next-drop {A = A} l n x r e = sym (drop-drop 1 n l) ∙ ap (λ (q : List A). drop 1 q) e
 
 this-drop : (l : List ℕ) (n x : ℕ) (r : List ℕ) → drop n l ≡ x ∷ r → getD l n 0 ≡ x
-this-drop l n x r e = let z : n + 0 ≡ n = omega arith in ap (λ (k : ℕ). getD l k 0) (sym z) ∙ sym (getD-drop n l 0 0) ∙ ap (λ (q : List ℕ). getD q 0 0) e
+this-drop l n x r e =
+    let n-plus-zero : n + 0 ≡ n = omega arith in ap (λ (k : ℕ). getD l k 0) (sym n-plus-zero) ∙ sym (getD-drop n l 0 0) ∙ ap (λ (q : List ℕ). getD q 0 0) e
 
 -- the loop that copies: n are written, i are read
 module _ (l : List ℕ) (ms : List Bool) (room : List ℕ) where
@@ -71,20 +72,20 @@ module _ (l : List ℕ) (ms : List Bool) (room : List ℕ) where
 
       pub writing-keep : length (without l ms) ≤ length room → Writing (set left n (getD l i 0)) (n + 1) (i + 1)
       writing-keep r =
-          let x : getD (without l ms) n 0 ≡ getD l i 0 = this-drop (without l ms) n _ _ go in
+          let value-is : getD (without l ms) n 0 ≡ getD l i 0 = this-drop (without l ms) n _ _ go in
           let step : set (take n (without l ms) ++ drop (0 + n) room) (0 + n) (getD (without l ms) n 0) ≡ take (suc n) (without l ms) ++ drop (0 + suc n) room =
           paste-suc room 0 (without l ms) n 0 (omega (arith, writing-room)) writing-room in
-          let s : set (take n (without l ms) ++ drop n room) n (getD (without l ms) n 0) ≡ take (n + 1) (without l ms) ++ drop (n + 1) room =
+          let changed-is : set (take n (without l ms) ++ drop n room) n (getD (without l ms) n 0) ≡ take (n + 1) (without l ms) ++ drop (n + 1) room =
           rw (add-one n) (rw (zero-add n, zero-add (suc n)) at step) in
           record {
             few = omega (arith, writing-room);
             rest = next-drop (without l ms) n _ _ go;
-            is = rw (w .is, ← x) s;
+            is = rw (w .is, ← value-is) changed-is;
             same = length-set left n (getD l i 0) ∙ w .same;
           }
 
   pub writing-end : (left : List ℕ) (n i : ℕ) → Writing left n i → length l ≤ i → left ≡ without l ms ++ drop (length (without l ms)) room
   writing-end left n i w h =
-      let z : drop n (without l ms) ≡ [] = w .rest ∙ without-end l ms i h in
-      let m : n ≡ length (without l ms) = omega (arith, ap length z, length-drop n (without l ms), w .few) in
-      w .is ∙ rw (m, take-length (without l ms))
+      let rest-is : drop n (without l ms) ≡ [] = w .rest ∙ without-end l ms i h in
+      let n-is : n ≡ length (without l ms) = omega (arith, ap length rest-is, length-drop n (without l ms), w .few) in
+      w .is ∙ rw (n-is, take-length (without l ms))

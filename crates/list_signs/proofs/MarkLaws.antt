@@ -24,10 +24,10 @@ length-marked false k ms = refl
 -- a mark in the second of two lists, and in the first
 marked-right : (b : Bool) (a r : List Bool) (k : ℕ) → marked b (length a + k) (a ++ r) ≡ a ++ marked b k r
 marked-right false a r k = refl
-marked-right true [] r k = let z : 0 + k ≡ k = omega arith in rw z
+marked-right true [] r k = let zero-plus-k : 0 + k ≡ k = omega arith in rw zero-plus-k
 marked-right true (x ∷ a) r k =
-    let z : suc (length a) + k ≡ suc (length a + k) = omega arith in
-    rw z (ap (λ (q : List Bool). x ∷ q) (marked-right true a r k))
+    let sum-is : suc (length a) + k ≡ suc (length a + k) = omega arith in
+    rw sum-is (ap (λ (q : List Bool). x ∷ q) (marked-right true a r k))
 
 pub marked-past : (b : Bool) (a r : List Bool) (d k : ℕ) → length a ≡ d → marked b (d + k) (a ++ r) ≡ a ++ marked b k r
 marked-past b a r d k e = ap (λ (n : ℕ). marked b (n + k) (a ++ r)) (sym e) ∙ marked-right b a r k
@@ -73,24 +73,25 @@ range-inside p e = go (decLt (upTo 45 p) (length p))
 -- the signs of a range, and those of any other part
 kept-range : (p : List ℕ) → isToken (rangeOf p) ≡ true → marked (seconds p) (upTo 45 p + 1) (marked (leads p) 0 (none p)) ≡ keptSigns p
 kept-range p e =
-    let d = upTo 45 p in
-    let i = range-inside p e in
-    let a = take d p in
-    let b = drop (d + 1) p in
-    let x = eqb (getD p 0 0) 43 in
-    let y = eqb (getD p (d + 1) 0) 43 in
-    let m : length a ≡ d = length-take-le d p (omega (arith, i .1)) in
-    let n : length p ≡ length a + suc (length b) = omega (arith, m, i .1, length-drop (d + 1) p) in
-    let parts : none p ≡ none a ++ (false ∷ none b) =
-    ap (λ (k : ℕ). replicate k false) n ∙ sym (replicate-append-replicate (length a) (suc (length b)) false) in
-    let first : leading a ≡ marked x 0 (none a) = rw (leading-marked a, getD-take d p 0 0 (i .0)) in
-    let next : getD b 0 0 ≡ getD p (d + 1) 0 = getD-drop (d + 1) p 0 0 ∙ ap (λ (k : ℕ). getD p k 0) (add-zero (d + 1)) in
-    let second : leading b ≡ marked y 0 (none b) = rw (leading-marked b, next) in
-    let size : length (marked x 0 (none a)) ≡ d = length-marked x 0 (none a) ∙ length-replicate (length a) false ∙ m in
-    rw (e, and-true x, and-true y, parts, first, second)
-    (ap (marked y (d + 1)) (marked-left x (none a) (false ∷ none b) 0 (λ _. omega (arith, i .0, m, length-replicate (length a) false)))
-    ∙ marked-past y (marked x 0 (none a)) (false ∷ none b) d 1 size
-    ∙ ap (λ (r : List Bool). marked x 0 (none a) ++ r) (marked-right y (false ∷ []) (none b) 0))
+    let up-to = upTo 45 p in
+    let by-range-inside = range-inside p e in
+    let front = take up-to p in
+    let rest = drop (up-to + 1) p in
+    let test = eqb (getD p 0 0) 43 in
+    let next-test = eqb (getD p (up-to + 1) 0) 43 in
+    let size-is : length front ≡ up-to = length-take-le up-to p (omega (arith, by-range-inside .1)) in
+    let sum-is : length p ≡ length front + suc (length rest) = omega (arith, size-is, by-range-inside .1, length-drop (up-to + 1) p) in
+    let parts : none p ≡ none front ++ (false ∷ none rest) =
+    ap (λ (k : ℕ). replicate k false) sum-is ∙ sym (replicate-append-replicate (length front) (suc (length rest)) false) in
+    let first : leading front ≡ marked test 0 (none front) = rw (leading-marked front, getD-take up-to p 0 0 (by-range-inside .0)) in
+    let next : getD rest 0 0 ≡ getD p (up-to + 1) 0 = getD-drop (up-to + 1) p 0 0 ∙ ap (λ (k : ℕ). getD p k 0) (add-zero (up-to + 1)) in
+    let second : leading rest ≡ marked next-test 0 (none rest) = rw (leading-marked rest, next) in
+    let size : length (marked test 0 (none front)) ≡ up-to = length-marked test 0 (none front) ∙ length-replicate (length front) false ∙ size-is in
+    rw (e, and-true test, and-true next-test, parts, first, second)
+    (ap (marked next-test (up-to + 1))
+    (marked-left test (none front) (false ∷ none rest) 0 (λ _. omega (arith, by-range-inside .0, size-is, length-replicate (length front) false)))
+    ∙ marked-past next-test (marked test 0 (none front)) (false ∷ none rest) up-to 1 size
+    ∙ ap (λ (r : List Bool). marked test 0 (none front) ++ r) (marked-right next-test (false ∷ []) (none rest) 0))
 
 kept-other : (p : List ℕ) → isToken (rangeOf p) ≡ false → marked (seconds p) (upTo 45 p + 1) (marked (leads p) 0 (none p)) ≡ keptSigns p
 kept-other p e = rw (e, and-false) (go (isValue (numberOf p)))

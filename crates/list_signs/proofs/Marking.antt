@@ -36,36 +36,37 @@ unfolding signsIn
 marking-end l ms i m h =
     let none-left : signs l ≡ m .done =
     m .rest ∙ ap (λ (ps : List (List ℕ)). m .done ++ signsIn ps) (split-from-end 44 l i (omega arith)) ∙ append-nil (m .done) in
-    let k : 1026 - i ≡ 1025 - length l = omega arith in
-    rw (none-left, ← k) (m .is)
+    let difference-is : 1026 - i ≡ 1025 - length l = omega arith in
+    rw (none-left, ← difference-is) (m .is)
 
 pub marking-step :
     (l : List ℕ) (ms ms₁ : List Bool) (i e : ℕ) → i ≤ length l → length l ≤ 1024 → e ≡ i + upTo 44 (drop i l) → Marking l ms i →
     ms₁ ≡ partMarked (take (e - i) (drop i l)) i ms → Marking l ms₁ (e + 1)
 unfolding signsIn
 marking-step l ms ms₁ i e h k w m s =
-    let n : e - i ≡ upTo 44 (drop i l) = omega arith in
-    let p = take (e - i) (drop i l) in
+    let difference-is : e - i ≡ upTo 44 (drop i l) = omega arith in
+    let front = take (e - i) (drop i l) in
     let most : e ≤ length l = omega (arith, next-most 44 l i h) in
-    let size-p : length p ≡ e - i = length-take-le (e - i) (drop i l) (omega (arith, length-drop i l)) in
-    let r = replicate (1026 - (e + 1)) false in
-    let more : 1026 - i ≡ length p + suc (1026 - (e + 1)) = omega arith in
-    let free : replicate (1026 - i) false ≡ none p ++ (false ∷ r) =
-    ap (λ (j : ℕ). replicate j false) more ∙ sym (replicate-append-replicate (length p) (suc (1026 - (e + 1))) false) in
-    let one : i + upTo 45 p + 1 ≡ i + (upTo 45 p + 1) = omega arith in
-    let left : ms₁ ≡ m .done ++ (partSigns p ++ (false ∷ r)) =
+    let size-p : length front ≡ e - i = length-take-le (e - i) (drop i l) (omega (arith, length-drop i l)) in
+    let blank = replicate (1026 - (e + 1)) false in
+    let more : 1026 - i ≡ length front + suc (1026 - (e + 1)) = omega arith in
+    let free : replicate (1026 - i) false ≡ none front ++ (false ∷ blank) =
+    ap (λ (j : ℕ). replicate j false) more ∙ sym (replicate-append-replicate (length front) (suc (1026 - (e + 1))) false) in
+    let one : i + upTo 45 front + 1 ≡ i + (upTo 45 front + 1) = omega arith in
+    let left : ms₁ ≡ m .done ++ (partSigns front ++ (false ∷ blank)) =
     s
-    ∙ ap (partMarked p i) (m .is ∙ ap (λ (q : List Bool). m .done ++ q) free)
-    ∙ ap (marked (seconds (trim p)) (i + upTo 45 p + 1)) (marked-past (leads (trim p)) (m .done) (none p ++ (false ∷ r)) i (upTo 43 p) (m .size))
-    ∙ ap (λ (j : ℕ). marked (seconds (trim p)) j (m .done ++ marked (leads (trim p)) (upTo 43 p) (none p ++ (false ∷ r)))) one
-    ∙ marked-past (seconds (trim p)) (m .done) (marked (leads (trim p)) (upTo 43 p) (none p ++ (false ∷ r))) i (upTo 45 p + 1) (m .size)
-    ∙ ap (λ (q : List Bool). m .done ++ q) (part-signs p (false ∷ r)) in
-    let step : splitFrom 44 l i ≡ p ∷ splitFrom 44 l (e + 1) = rw (w, n′ i (upTo 44 (drop i l))) (split-from-step 44 l i h) in
-    let joined : (q : List Bool) → (m .done ++ (partSigns p ++ (false ∷ []))) ++ q ≡ m .done ++ (partSigns p ++ (false ∷ q)) =
-    λ q. append-assoc (m .done) (partSigns p ++ (false ∷ [])) q ∙ ap (λ (z : List Bool). m .done ++ z) (append-assoc (partSigns p) (false ∷ []) q) in
+    ∙ ap (partMarked front i) (m .is ∙ ap (λ (q : List Bool). m .done ++ q) free)
+    ∙ ap (marked (seconds (trim front)) (i + upTo 45 front + 1))
+    (marked-past (leads (trim front)) (m .done) (none front ++ (false ∷ blank)) i (upTo 43 front) (m .size))
+    ∙ ap (λ (j : ℕ). marked (seconds (trim front)) j (m .done ++ marked (leads (trim front)) (upTo 43 front) (none front ++ (false ∷ blank)))) one
+    ∙ marked-past (seconds (trim front)) (m .done) (marked (leads (trim front)) (upTo 43 front) (none front ++ (false ∷ blank))) i (upTo 45 front + 1) (m .size)
+    ∙ ap (λ (q : List Bool). m .done ++ q) (part-signs front (false ∷ blank)) in
+    let step : splitFrom 44 l i ≡ front ∷ splitFrom 44 l (e + 1) = rw (w, n′ i (upTo 44 (drop i l))) (split-from-step 44 l i h) in
+    let joined : (q : List Bool) → (m .done ++ (partSigns front ++ (false ∷ []))) ++ q ≡ m .done ++ (partSigns front ++ (false ∷ q)) =
+    λ q. append-assoc (m .done) (partSigns front ++ (false ∷ [])) q ∙ ap (λ (z : List Bool). m .done ++ z) (append-assoc (partSigns front) (false ∷ []) q) in
     record {
-      done = m .done ++ (partSigns p ++ (false ∷ []));
-      size = length-append (m .done) _ ∙ omega (arith, m .size, length-append (partSigns p) (false ∷ []), part-length p, size-p);
+      done = m .done ++ (partSigns front ++ (false ∷ []));
+      size = length-append (m .done) _ ∙ omega (arith, m .size, length-append (partSigns front) (false ∷ []), part-length front, size-p);
       rest = m .rest ∙ ap (λ (ps : List (List ℕ)). m .done ++ signsIn ps) step ∙ sym (joined (signsIn (splitFrom 44 l (e + 1))));
-      is = left ∙ sym (joined r);
+      is = left ∙ sym (joined blank);
     }

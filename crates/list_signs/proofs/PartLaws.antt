@@ -28,7 +28,7 @@ up-to-found x (y ∷ l) h = go (eqb y x) refl (λ (m : upTo x l < length l). up-
   where
     go : (b : Bool) → eqb y x ≡ b → (upTo x l < length l → getD l (upTo x l) 0 ≡ x) → getD (y ∷ l) (cond (eqb y x) 0 (suc (upTo x l))) 0 ≡ x
     go true e f = rw e (eqb-true y x e)
-    go false e f = let m : suc (upTo x l) < suc (length l) = rw e at h in rw e (f (omega arith))
+    go false e f = let one-more-below : suc (upTo x l) < suc (length l) = rw e at h in rw e (f (omega arith))
 
 pub value-of : (n : Number) → isValue n ≡ true → (v : ℕ) × (n ≡ Value v)
 value-of (Value v) e = (v, refl)

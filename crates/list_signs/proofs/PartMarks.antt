@@ -18,28 +18,34 @@ pub part-signs :
     (p : List ℕ) (s : List Bool) →
     marked (seconds (trim p)) (upTo 45 p + 1) (marked (leads (trim p)) (upTo 43 p) (none p ++ s)) ≡ partSigns p ++ s
 part-signs p s =
-    let t = trim p in
-    let w = none (before p) in
-    let v = none (behind p) ++ s in
-    let a = leads t in
-    let b = seconds t in
-    let d = upTo 45 t + 1 in
-    let size : length w ≡ length (before p) = length-replicate (length (before p)) false in
-    let mid : length (none t) ≡ length t = length-replicate (length t) false in
-    let whole : none p ++ s ≡ w ++ (none t ++ v) =
+    let trim-here = trim p in
+    let none-here = none (before p) in
+    let joined = none (behind p) ++ s in
+    let leads-here = leads trim-here in
+    let seconds-here = seconds trim-here in
+    let sum = upTo 45 trim-here + 1 in
+    let size : length none-here ≡ length (before p) = length-replicate (length (before p)) false in
+    let mid : length (none trim-here) ≡ length trim-here = length-replicate (length trim-here) false in
+    let whole : none p ++ s ≡ none-here ++ (none trim-here ++ joined) =
     ap (λ (q : List ℕ). none q ++ s) (sym (split-part p))
-    ∙ ap (λ (q : List Bool). q ++ s) (none-append (before p) (t ++ behind p) ∙ ap (λ (q : List Bool). w ++ q) (none-append t (behind p)))
-    ∙ append-assoc w (none t ++ none (behind p)) s
-    ∙ ap (λ (q : List Bool). w ++ q) (append-assoc (none t) (none (behind p)) s) in
-    ap (λ (q : List Bool). marked b (upTo 45 p + 1) (marked a (upTo 43 p) q)) whole
-    ∙ ap (marked b (upTo 45 p + 1)) (marked-at a (upTo 43 p) (length (before p) + 0) (w ++ (none t ++ v)) (λ e. lead-place p e .0)
-    ∙ marked-past a w (none t ++ v) (length (before p)) 0 size)
-    ∙ marked-at b (upTo 45 p + 1) (length (before p) + d) (w ++ marked a 0 (none t ++ v)) (λ e. second-place p e .0)
-    ∙ marked-past b w (marked a 0 (none t ++ v)) (length (before p)) d size
-    ∙ ap (λ (q : List Bool). w ++ marked b d q) (marked-left a (none t) v 0 (λ e. omega (arith, mid, lead-place p e .1)))
-    ∙ ap (λ (q : List Bool). w ++ q)
-    (marked-left b (marked a 0 (none t)) v d (λ e. omega (arith, mid, length-marked a 0 (none t), second-place p e .1)) ∙ ap (λ (q : List Bool). q ++ v) (kept-signs t))
-    ∙ sym (append-assoc w (keptSigns t ++ none (behind p)) s ∙ ap (λ (q : List Bool). w ++ q) (append-assoc (keptSigns t) (none (behind p)) s))
+    ∙ ap (λ (q : List Bool). q ++ s)
+    (none-append (before p) (trim-here ++ behind p) ∙ ap (λ (q : List Bool). none-here ++ q) (none-append trim-here (behind p)))
+    ∙ append-assoc none-here (none trim-here ++ none (behind p)) s
+    ∙ ap (λ (q : List Bool). none-here ++ q) (append-assoc (none trim-here) (none (behind p)) s) in
+    ap (λ (q : List Bool). marked seconds-here (upTo 45 p + 1) (marked leads-here (upTo 43 p) q)) whole
+    ∙ ap (marked seconds-here (upTo 45 p + 1))
+    (marked-at leads-here (upTo 43 p) (length (before p) + 0) (none-here ++ (none trim-here ++ joined)) (λ e. lead-place p e .0)
+    ∙ marked-past leads-here none-here (none trim-here ++ joined) (length (before p)) 0 size)
+    ∙ marked-at seconds-here (upTo 45 p + 1) (length (before p) + sum) (none-here ++ marked leads-here 0 (none trim-here ++ joined)) (λ e. second-place p e .0)
+    ∙ marked-past seconds-here none-here (marked leads-here 0 (none trim-here ++ joined)) (length (before p)) sum size
+    ∙ ap (λ (q : List Bool). none-here ++ marked seconds-here sum q)
+    (marked-left leads-here (none trim-here) joined 0 (λ e. omega (arith, mid, lead-place p e .1)))
+    ∙ ap (λ (q : List Bool). none-here ++ q)
+    (marked-left seconds-here (marked leads-here 0 (none trim-here)) joined sum
+    (λ e. omega (arith, mid, length-marked leads-here 0 (none trim-here), second-place p e .1))
+    ∙ ap (λ (q : List Bool). q ++ joined) (kept-signs trim-here))
+    ∙ sym (append-assoc none-here (keptSigns trim-here ++ none (behind p)) s
+    ∙ ap (λ (q : List Bool). none-here ++ q) (append-assoc (keptSigns trim-here) (none (behind p)) s))
 
 -- a mark for each code point of a part
 pub part-length : (p : List ℕ) → length (partSigns p) ≡ length p

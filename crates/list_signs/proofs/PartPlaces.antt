@@ -22,9 +22,9 @@ pub up-to-white : (x : ℕ) (w q : List ℕ) → isWhite x ≡ false → allWhit
 unfolding upTo allWhite
 up-to-white x [] q n h = sym (zero-add _)
 up-to-white x (y ∷ w) q n h =
-    let s = both (isWhite y) (allWhite w) h in
-    let other : y ≡ x → ⊥ = λ e. true≢false (sym (s .0) ∙ ap isWhite e ∙ n) in
-    let rest = up-to-white x w q n (s .1) in
+    let by-both = both (isWhite y) (allWhite w) h in
+    let other : y ≡ x → ⊥ = λ e. true≢false (sym (by-both .0) ∙ ap isWhite e ∙ n) in
+    let rest = up-to-white x w q n (by-both .1) in
     rw (ne-eqb y x other) (omega (arith, rest))
 
 -- and in what stands before
@@ -37,7 +37,7 @@ up-to-front x (y ∷ t) w h = go (eqb y x) refl (λ (m : upTo x t < length t). u
         (b : Bool) → eqb y x ≡ b → (upTo x t < length t → upTo x (t ++ w) ≡ upTo x t) →
         cond (eqb y x) 0 (suc (upTo x (t ++ w))) ≡ cond (eqb y x) 0 (suc (upTo x t))
     go true e f = rw e
-    go false e f = let m : suc (upTo x t) < suc (length t) = rw e at h in rw (e, f (omega arith))
+    go false e f = let one-more-below : suc (upTo x t) < suc (length t) = rw e at h in rw (e, f (omega arith))
 
 pub part-place : (x : ℕ) (p : List ℕ) → isWhite x ≡ false → upTo x (trim p) < length (trim p) → upTo x p ≡ length (before p) + upTo x (trim p)
 part-place x p n h =
@@ -61,9 +61,9 @@ lead-place p e = go (trim p) refl e
     go [] w f = absurd (true≢false (sym f))
     go (x ∷ t) w f =
         let plus = both (eqb x 43) _ f .0 in
-        let z : upTo 43 (trim p) ≡ 0 = rw (w, plus) in
+        let up-to-is : upTo 43 (trim p) ≡ 0 = rw (w, plus) in
         let some : 0 < length (trim p) = rw w (omega arith) in
-        (part-place 43 p plus-not-white (omega arith) ∙ ap (λ (k : ℕ). length (before p) + k) z, some)
+        (part-place 43 p plus-not-white (omega arith) ∙ ap (λ (k : ℕ). length (before p) + k) up-to-is, some)
 
 pub second-place :
     (p : List ℕ) → seconds (trim p) ≡ true →
@@ -78,5 +78,5 @@ second-place p e = go (decLt (upTo 45 (trim p) + 1) (length (trim p)))
         (upTo 45 p + 1 ≡ length (before p) + (upTo 45 (trim p) + 1)) × (upTo 45 (trim p) + 1 < length (trim p))
     go (yes h) = (omega (arith, part-place 45 p minus-not-white (omega arith)), h)
     go (no n) =
-        let z : getD (trim p) (upTo 45 (trim p) + 1) 0 ≡ 0 = List·getD-eq-default (trim p) 0 (omega arith) in
-        absurd (true≢false (sym plus ∙ ap (λ (x : ℕ). eqb x 43) z))
+        let value-is : getD (trim p) (upTo 45 (trim p) + 1) 0 ≡ 0 = List·getD-eq-default (trim p) 0 (omega arith) in
+        absurd (true≢false (sym plus ∙ ap (λ (x : ℕ). eqb x 43) value-is))

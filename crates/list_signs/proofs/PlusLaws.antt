@@ -53,13 +53,14 @@ pluses-of l l′ ms ms′ a b f k e = ap (λ (q : List ℕ). getD q k 0) a ∙ f
 -- of a trimmed part
 pluses-range : (t : List ℕ) → isToken (rangeOf t) ≡ true → Pluses t (keptSigns t)
 pluses-range t r =
-    let d = upTo 45 t in
-    let a = take d t in
-    let b = drop (d + 1) t in
+    let up-to = upTo 45 t in
+    let front = take up-to t in
+    let rest = drop (up-to + 1) t in
     let inside = range-inside t r .1 in
-    let found : t ≡ a ++ (45 ∷ b) = split-at t d 0 inside ∙ rw (up-to-found 45 t inside, add-one d) in
-    pluses-of t (a ++ (45 ∷ b)) (keptSigns t) (leading a ++ (false ∷ leading b)) found (cond-yes (isToken (rangeOf t)) _ _ r)
-    (pluses-append a (45 ∷ b) (leading a) (false ∷ leading b) (leading-length a) (pluses-leading a) (pluses-skip 45 b (leading b) (pluses-leading b)))
+    let found : t ≡ front ++ (45 ∷ rest) = split-at t up-to 0 inside ∙ rw (up-to-found 45 t inside, add-one up-to) in
+    pluses-of t (front ++ (45 ∷ rest)) (keptSigns t) (leading front ++ (false ∷ leading rest)) found (cond-yes (isToken (rangeOf t)) _ _ r)
+    (pluses-append front (45 ∷ rest) (leading front) (false ∷ leading rest) (leading-length front) (pluses-leading front)
+    (pluses-skip 45 rest (leading rest) (pluses-leading rest)))
 
 pluses-kept : (t : List ℕ) → Pluses t (keptSigns t)
 pluses-kept t = go (isToken (rangeOf t)) refl (isValue (numberOf t)) refl
@@ -71,12 +72,14 @@ pluses-kept t = go (isToken (rangeOf t)) refl (isValue (numberOf t)) refl
 
 pluses-part : (p : List ℕ) → Pluses p (partSigns p)
 pluses-part p =
-    let w = before p in
-    let t = trim p in
-    let v = behind p in
-    pluses-of p (w ++ (t ++ v)) (partSigns p) (partSigns p) (sym (split-part p)) refl
-    (pluses-append w (t ++ v) (none w) (keptSigns t ++ none v) (length-replicate (length w) false) (pluses-none w (length w))
-    (pluses-append t v (keptSigns t) (none v) (kept-length t) (pluses-kept t) (pluses-none v (length v))))
+    let before-here = before p in
+    let trim-here = trim p in
+    let behind-here = behind p in
+    pluses-of p (before-here ++ (trim-here ++ behind-here)) (partSigns p) (partSigns p) (sym (split-part p)) refl
+    (pluses-append before-here (trim-here ++ behind-here) (none before-here) (keptSigns trim-here ++ none behind-here)
+    (length-replicate (length before-here) false) (pluses-none before-here (length before-here))
+    (pluses-append trim-here behind-here (keptSigns trim-here) (none behind-here) (kept-length trim-here) (pluses-kept trim-here)
+    (pluses-none behind-here (length behind-here))))
 
 -- of parts that are joined, and so of a list
 pluses-joined : (ps : List (List ℕ)) → Pluses (joined ps) (signsIn ps)

@@ -25,23 +25,23 @@ between-both Not b = refl
 -- d is the place of the first `-`, or the part's length
 module _ (p : List ℕ) (d : ℕ) (k : d ≡ 0 + upTo 45 (drop 0 p)) where
   pub no-range : length p ≤ d → isToken (rangeOf p) ≡ false
-  no-range h = let q : upTo 45 p ≡ d = omega arith in rw (q, le-ltb _ _ h)
+  no-range h = let up-to-is : upTo 45 p ≡ d = omega arith in rw (up-to-is, le-ltb _ _ h)
 
   pub both-range : d < length p → isToken (rangeOf p) ≡ (isValue (numberOf (take d p)) && isValue (numberOf (take (length p - (d + 1)) (drop (d + 1) p))))
   both-range h =
-      let q : upTo 45 p ≡ d = omega arith in
-      let m : length (drop (d + 1) p) ≤ length p - (d + 1) = omega (arith, length-drop (d + 1) p) in
-      let u : take (length p - (d + 1)) (drop (d + 1) p) ≡ drop (d + 1) p = take-all (length p - (d + 1)) (drop (d + 1) p) m in
-      rw (q, lt-ltb _ _ h, u) (between-both (numberOf (take d p)) (numberOf (drop (d + 1) p)))
+      let up-to-is : upTo 45 p ≡ d = omega arith in
+      let size-at-most : length (drop (d + 1) p) ≤ length p - (d + 1) = omega (arith, length-drop (d + 1) p) in
+      let front-is : take (length p - (d + 1)) (drop (d + 1) p) ≡ drop (d + 1) p = take-all (length p - (d + 1)) (drop (d + 1) p) size-at-most in
+      rw (up-to-is, lt-ltb _ _ h, front-is) (between-both (numberOf (take d p)) (numberOf (drop (d + 1) p)))
 
   pub seconds-none : length p ≤ d + 1 → seconds p ≡ false
-  seconds-none h = let q : upTo 45 p ≡ d = omega arith in rw (q, List·getD-eq-default p 0 h)
+  seconds-none h = let up-to-is : upTo 45 p ≡ d = omega arith in rw (up-to-is, List·getD-eq-default p 0 h)
 
   pub seconds-not : eqb (getD p (d + 1) 0) 43 ≡ false → seconds p ≡ false
-  seconds-not e = let q : upTo 45 p ≡ d = omega arith in rw (ap (λ (n : ℕ). eqb (getD p (n + 1) 0) 43) q ∙ e)
+  seconds-not e = let up-to-is : upTo 45 p ≡ d = omega arith in rw (ap (λ (n : ℕ). eqb (getD p (n + 1) 0) 43) up-to-is ∙ e)
 
   pub seconds-is : eqb (getD p (d + 1) 0) 43 ≡ true → seconds p ≡ isToken (rangeOf p)
-  seconds-is e = let q : upTo 45 p ≡ d = omega arith in rw (ap (λ (n : ℕ). eqb (getD p (n + 1) 0) 43) q ∙ e)
+  seconds-is e = let up-to-is : upTo 45 p ≡ d = omega arith in rw (ap (λ (n : ℕ). eqb (getD p (n + 1) 0) 43) up-to-is ∙ e)
 
 pub leads-none : (p : List ℕ) → length p ≡ 0 → leads p ≡ false
 leads-none p h = rw (List·getD-eq-default p 0 {n = 0} (omega arith))

@@ -33,35 +33,40 @@ same-by t u w a b c d = record { token = rw w a; bare = rw w b; trimmed = rw w c
 no-white-range : (a b : List ℕ) → noWhite a ≡ true → noWhite b ≡ true → noWhite (a ++ (45 ∷ b)) ≡ true
 unfolding noWhite
 no-white-range [] b h k = rw minus-not-white k
-no-white-range (x ∷ a) b h k = let s = both (not (isWhite x)) (noWhite a) h in rw (s .0) (no-white-range a b (s .1) k)
+no-white-range (x ∷ a) b h k = let by-both = both (not (isWhite x)) (noWhite a) h in rw (by-both .0) (no-white-range a b (by-both .1) k)
 
 -- a range a-b
 same-range : (a b : List ℕ) (lo hi : ℕ) → upTo 45 (a ++ (45 ∷ b)) ≡ length a → numberOf a ≡ Value lo → numberOf b ≡ Value hi → Same (a ++ (45 ∷ b))
 unfolding without
 same-range a b lo hi u x y =
-    let p = plain-number a lo x in
-    let q = plain-number b hi y in
-    let v = p .digits ++ (45 ∷ q .digits) in
-    let m = digits-no-minus (p .digits) (q .digits) (p .are) in
-    let w : without (a ++ (45 ∷ b)) (keptSigns (a ++ (45 ∷ b))) ≡ v =
+    let by-plain-number = plain-number a lo x in
+    let by-plain-number-b = plain-number b hi y in
+    let joined = by-plain-number .digits ++ (45 ∷ by-plain-number-b .digits) in
+    let by-digits-no-minus = digits-no-minus (by-plain-number .digits) (by-plain-number-b .digits) (by-plain-number .are) in
+    let without-is : without (a ++ (45 ∷ b)) (keptSigns (a ++ (45 ∷ b))) ≡ joined =
     ap (without (a ++ (45 ∷ b))) (range-signs a b lo hi u x y)
     ∙ without-append a (45 ∷ b) (leading a) (false ∷ leading b) (leading-length a)
-    ∙ rw (p .is, q .is) in
-    let bare : keptSigns v ≡ none v =
-    range-signs (p .digits) (q .digits) lo hi m (p .same) (q .same) ∙ rw (p .bare, q .bare) (sym (none-append (p .digits) (45 ∷ q .digits))) in
-    let clear = no-white-range (p .digits) (q .digits) (digits-no-white (p .digits) (p .are)) (digits-no-white (q .digits) (q .are)) in
-    same-by (a ++ (45 ∷ b)) v w (range-token (p .digits) (q .digits) lo hi m (p .same) (q .same) ∙ sym (range-token a b lo hi u x y)) bare
-    (trim-none v clear) (start-none v clear)
+    ∙ rw (by-plain-number .is, by-plain-number-b .is) in
+    let bare : keptSigns joined ≡ none joined =
+    range-signs (by-plain-number .digits) (by-plain-number-b .digits) lo hi by-digits-no-minus (by-plain-number .same) (by-plain-number-b .same)
+    ∙ rw (by-plain-number .bare, by-plain-number-b .bare) (sym (none-append (by-plain-number .digits) (45 ∷ by-plain-number-b .digits))) in
+    let clear = no-white-range (by-plain-number .digits) (by-plain-number-b .digits) (digits-no-white (by-plain-number .digits) (by-plain-number .are))
+    (digits-no-white (by-plain-number-b .digits) (by-plain-number-b .are)) in
+    same-by (a ++ (45 ∷ b)) joined without-is
+    (range-token (by-plain-number .digits) (by-plain-number-b .digits) lo hi by-digits-no-minus (by-plain-number .same) (by-plain-number-b .same)
+    ∙ sym (range-token a b lo hi u x y)) bare
+    (trim-none joined clear) (start-none joined clear)
 
 same-number : (t : List ℕ) (n : ℕ) → isToken (rangeOf t) ≡ false → numberOf t ≡ Value n → Same t
 same-number t n r e =
-    let p = plain-number t n e in
-    let u = p .digits in
-    let k : upTo 45 u ≡ 0 + upTo 45 (drop 0 u) = omega arith in
-    let none-in : isToken (rangeOf u) ≡ false = no-range u (upTo 45 u) k (omega (arith, digits-up-to u (p .are))) in
-    let clear = digits-no-white u (p .are) in
-    same-by t u (rw (r, e) (p .is)) (number-token u n (p .same) none-in ∙ sym (number-token t n e r)) (rw (none-in, p .same) (p .bare))
-    (trim-none u clear) (start-none u clear)
+    let by-plain-number = plain-number t n e in
+    let digits = by-plain-number .digits in
+    let up-to-is : upTo 45 digits ≡ 0 + upTo 45 (drop 0 digits) = omega arith in
+    let none-in : isToken (rangeOf digits) ≡ false = no-range digits (upTo 45 digits) up-to-is (omega (arith, digits-up-to digits (by-plain-number .are))) in
+    let clear = digits-no-white digits (by-plain-number .are) in
+    same-by t digits (rw (r, e) (by-plain-number .is)) (number-token digits n (by-plain-number .same) none-in ∙ sym (number-token t n e r))
+    (rw (none-in, by-plain-number .same) (by-plain-number .bare))
+    (trim-none digits clear) (start-none digits clear)
 
 same-other : (t : List ℕ) → isToken (rangeOf t) ≡ false → isValue (numberOf t) ≡ false → trim t ≡ t → trimStart t ≡ t → Same t
 same-other t r e a b = same-by t t (rw (r, e) (without-none t (length t))) refl (rw (r, e)) a b
@@ -80,12 +85,12 @@ same-trimmed t a b = go (isToken (rangeOf t)) refl (isValue (numberOf t)) refl
     go false r true n = same-number t (value-of (numberOf t) n .0) r (value-of (numberOf t) n .1)
     go false r false n = same-other t r n a b
     go true r n m =
-        let i = range-inside t r in
-        let size : length (take d t) ≡ d = length-take-le d t (omega (arith, i .1)) in
+        let by-range-inside = range-inside t r in
+        let size : length (take d t) ≡ d = length-take-le d t (omega (arith, by-range-inside .1)) in
         let found : t ≡ take d t ++ (45 ∷ drop (d + 1) t) =
-        split-at t d 0 (i .1) ∙ rw (up-to-found 45 t (i .1), add-one d) in
-        let both = both _ _ (sym (range-both t (i .1)) ∙ r) in
+        split-at t d 0 (by-range-inside .1) ∙ rw (up-to-found 45 t (by-range-inside .1), add-one d) in
+        let both = both _ _ (sym (range-both t (by-range-inside .1)) ∙ r) in
         let lo = value-of (numberOf (take d t)) (both .0) in
         let hi = value-of (numberOf (drop (d + 1) t)) (both .1) in
-        let u : upTo 45 (take d t ++ (45 ∷ drop (d + 1) t)) ≡ length (take d t) = ap (upTo 45) (sym found) ∙ sym size in
-        rw found (same-range (take d t) (drop (d + 1) t) (lo .0) (hi .0) u (lo .1) (hi .1))
+        let up-to-is : upTo 45 (take d t ++ (45 ∷ drop (d + 1) t)) ≡ length (take d t) = ap (upTo 45) (sym found) ∙ sym size in
+        rw found (same-range (take d t) (drop (d + 1) t) (lo .0) (hi .0) up-to-is (lo .1) (hi .1))

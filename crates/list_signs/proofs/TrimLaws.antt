@@ -24,8 +24,8 @@ end-none : (p : List ℕ) → noWhite p ≡ true → trimEnd p ≡ p
 unfolding trimEnd noWhite
 end-none [] h = refl
 end-none (x ∷ p) h =
-    let s = both (not (isWhite x)) (noWhite p) h in
-    ap (keepLast x) (end-none p (s .1)) ∙ keep-other x p (not-true (isWhite x) (s .0))
+    let by-both = both (not (isWhite x)) (noWhite p) h in
+    ap (keepLast x) (end-none p (by-both .1)) ∙ keep-other x p (not-true (isWhite x) (by-both .0))
 
 -- what has no white space in it is trimmed
 pub trim-none : (p : List ℕ) → noWhite p ≡ true → trim p ≡ p
@@ -58,7 +58,7 @@ start-front [] w s h = ap trimEnd (start-all w h)
 start-front (x ∷ q) w s h = go (isWhite x) refl
   where
     go : (b : Bool) → isWhite x ≡ b → trim (x ∷ (q ++ w)) ≡ trimEnd (x ∷ q)
-    go true e = let z : trimStart q ≡ x ∷ q = rw e at s in absurd (omega (arith, start-least q, ap length z))
+    go true e = let trim-start-is : trimStart q ≡ x ∷ q = rw e at s in absurd (omega (arith, start-least q, ap length trim-start-is))
     go false e = rw e (end-skip (x ∷ q) w h)
 
 start-of-end : (q : List ℕ) → trimStart q ≡ q → trimStart (trimEnd q) ≡ trimEnd q
@@ -67,16 +67,16 @@ start-of-end [] s = refl
 start-of-end (x ∷ q) s = go (isWhite x) refl
   where
     go : (b : Bool) → isWhite x ≡ b → trimStart (trimEnd (x ∷ q)) ≡ trimEnd (x ∷ q)
-    go true e = let z : trimStart q ≡ x ∷ q = rw e at s in absurd (omega (arith, start-least q, ap length z))
+    go true e = let trim-start-is : trimStart q ≡ x ∷ q = rw e at s in absurd (omega (arith, start-least q, ap length trim-start-is))
     go false e = ap trimStart (keep-other x (trimEnd q) e) ∙ rw e (sym (keep-other x (trimEnd q) e))
 
 -- trimming once is enough
 pub trim-twice : (p : List ℕ) → trim (trim p) ≡ trim p
 trim-twice p =
-    let q = trimStart p in
-    ap trimEnd (start-of-end q (start-twice p))
-    ∙ sym (end-skip (trimEnd q) (drop (length (trimEnd q)) q) (end-white q))
-    ∙ ap trimEnd (split-end q)
+    let trim-start = trimStart p in
+    ap trimEnd (start-of-end trim-start (start-twice p))
+    ∙ sym (end-skip (trimEnd trim-start) (drop (length (trimEnd trim-start)) trim-start) (end-white trim-start))
+    ∙ ap trimEnd (split-end trim-start)
 
 -- what is trimmed, with white space around it
 pub trim-around : (w t v : List ℕ) → allWhite w ≡ true → allWhite v ≡ true → trim t ≡ t → trimStart t ≡ t → trim (w ++ (t ++ v)) ≡ t

@@ -63,17 +63,17 @@ end-white q = end-of q .white
 pub start-skip : (w q : List ℕ) → allWhite w ≡ true → trimStart (w ++ q) ≡ trimStart q
 unfolding trimStart allWhite
 start-skip [] q h = refl
-start-skip (x ∷ w) q h = let s = both (isWhite x) (allWhite w) h in rw (s .0) (start-skip w q (s .1))
+start-skip (x ∷ w) q h = let by-both = both (isWhite x) (allWhite w) h in rw (by-both .0) (start-skip w q (by-both .1))
 
 pub start-all : (w : List ℕ) → allWhite w ≡ true → trimStart w ≡ []
 unfolding trimStart allWhite
 start-all [] h = refl
-start-all (x ∷ w) h = let s = both (isWhite x) (allWhite w) h in rw (s .0) (start-all w (s .1))
+start-all (x ∷ w) h = let by-both = both (isWhite x) (allWhite w) h in rw (by-both .0) (start-all w (by-both .1))
 
 end-all : (w : List ℕ) → allWhite w ≡ true → trimEnd w ≡ []
 unfolding trimEnd allWhite
 end-all [] h = refl
-end-all (x ∷ w) h = let s = both (isWhite x) (allWhite w) h in rw (end-all w (s .1), s .0)
+end-all (x ∷ w) h = let by-both = both (isWhite x) (allWhite w) h in rw (end-all w (by-both .1), by-both .0)
 
 pub end-skip : (q w : List ℕ) → allWhite w ≡ true → trimEnd (q ++ w) ≡ trimEnd q
 unfolding trimEnd

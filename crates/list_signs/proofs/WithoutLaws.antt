@@ -26,13 +26,13 @@ pub without-pad : (l : List ℕ) (ms q : List Bool) → length l ≤ length ms �
 unfolding without
 without-pad [] ms q h = refl
 without-pad (x ∷ l) [] q h = absurd (omega arith)
-without-pad (x ∷ l) (m ∷ ms) q h = let e = without-pad l ms q (omega arith) in rw e
+without-pad (x ∷ l) (m ∷ ms) q h = let by-without-pad = without-pad l ms q (omega arith) in rw by-without-pad
 
 pub first-pad : (l : List ℕ) (ms q : List Bool) → length l ≤ length ms → firstIn l (ms ++ q) ≡ firstIn l ms
 unfolding firstIn
 first-pad [] ms q h = refl
 first-pad (x ∷ l) [] q h = absurd (omega arith)
-first-pad (x ∷ l) (m ∷ ms) q h = let e = first-pad l ms q (omega arith) in rw e
+first-pad (x ∷ l) (m ∷ ms) q h = let by-first-pad = first-pad l ms q (omega arith) in rw by-first-pad
 
 pub without-append : (p q : List ℕ) (a b : List Bool) → length a ≡ length p → without (p ++ q) (a ++ b) ≡ without p a ++ without q b
 unfolding without
@@ -90,4 +90,4 @@ unfolding without any
 any-without f [] ms h = h
 any-without f (x ∷ l) [] h = h
 any-without f (x ∷ l) (true ∷ ms) h = any-without f l ms (or-split (f x) (any f l) h .1)
-any-without f (x ∷ l) (false ∷ ms) h = let s = or-split (f x) (any f l) h in rw (s .0) (any-without f l ms (s .1))
+any-without f (x ∷ l) (false ∷ ms) h = let by-or-split = or-split (f x) (any f l) h in rw (by-or-split .0) (any-without f l ms (by-or-split .1))

@@ -20,6 +20,6 @@ pub fill-push :
     {X : Type 0} (n : ℕ) (d : X) (l : List X) (x : X) → length l < n →
     set (l ++ replicate (n - length l) d) (length l) x ≡ (l ++ (x ∷ [])) ++ replicate (n - length (l ++ (x ∷ []))) d
 fill-push n d l x h =
-    let m : length (l ++ (x ∷ [])) ≡ length l + 1 = length-append l (x ∷ []) in
-    let e : n - length l ≡ suc (n - (length l + 1)) = omega arith in
-    rw (m, e, set-append-seam, append-assoc)
+    let size-is : length (l ++ (x ∷ [])) ≡ length l + 1 = length-append l (x ∷ []) in
+    let difference-is : n - length l ≡ suc (n - (length l + 1)) = omega arith in
+    rw (size-is, difference-is, set-append-seam, append-assoc)

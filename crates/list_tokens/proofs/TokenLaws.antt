@@ -43,14 +43,14 @@ at-one (x ∷ y ∷ p) h = absurd (omega arith)
 -- d is the place of the first `-`, or the part's length
 module _ (p : List ℕ) (d : ℕ) (k : d ≡ 0 + upTo 45 (drop 0 p)) where
   pub range-none : length p ≤ d → noToken ≡ rangeOf p
-  range-none h = let q : upTo 45 p ≡ d = omega arith in rw (q, le-ltb _ _ h)
+  range-none h = let up-to-is : upTo 45 p ≡ d = omega arith in rw (up-to-is, le-ltb _ _ h)
 
   pub range-is : d < length p → (a b : Number) → a ≡ numberOf (take d p) → b ≡ numberOf (take (length p - (d + 1)) (drop (d + 1) p)) → between a b ≡ rangeOf p
   range-is h a b f g =
-      let q : upTo 45 p ≡ d = omega arith in
-      let m : length (drop (d + 1) p) ≤ length p - (d + 1) = omega (arith, length-drop (d + 1) p) in
-      let u : take (length p - (d + 1)) (drop (d + 1) p) ≡ drop (d + 1) p = take-all (length p - (d + 1)) (drop (d + 1) p) m in
-      rw (q, lt-ltb _ _ h, f, g, u)
+      let up-to-is : upTo 45 p ≡ d = omega arith in
+      let size-at-most : length (drop (d + 1) p) ≤ length p - (d + 1) = omega (arith, length-drop (d + 1) p) in
+      let front-is : take (length p - (d + 1)) (drop (d + 1) p) ≡ drop (d + 1) p = take-all (length p - (d + 1)) (drop (d + 1) p) size-at-most in
+      rw (up-to-is, lt-ltb _ _ h, f, g, front-is)
 
 module _ (p : List ℕ) (ps : List (List ℕ)) where
   pub tokens-skip : tokenOf (trim p) .kind ≡ 0 → tokensIn (p ∷ ps) ≡ tokensIn ps
@@ -78,12 +78,12 @@ pub step-is :
     (l : List ℕ) (i e : ℕ) (t : Token) → e ≡ i + upTo 44 (drop i l) → t ≡ tokenOf (trim (take (e - i) (drop i l))) →
     record { token = t; next = e + 1 } ≡ stepOf l i
 step-is l i e t h w =
-    let n : e - i ≡ upTo 44 (drop i l) = omega arith in
-    λ k. record { token = (w ∙ ap (λ (m : ℕ). tokenOf (trim (take m (drop i l)))) n) k; next = h k + 1 }
+    let difference-is : e - i ≡ upTo 44 (drop i l) = omega arith in
+    λ k. record { token = (w ∙ ap (λ (m : ℕ). tokenOf (trim (take m (drop i l)))) difference-is) k; next = h k + 1 }
 
 module _ (l : List ℕ) (i : ℕ) (h : i ≤ length l) (s : Step) (w : s ≡ stepOf l i) where
   pub step-next : (i < s .next) × (s .next ≤ length l + 1)
-  step-next = let e = ap (λ (x : Step). x .next) w in (omega arith, omega (arith, next-most 44 l i h))
+  step-next = let same-next = ap (λ (x : Step). x .next) w in (omega arith, omega (arith, next-most 44 l i h))
 
   pub step-skip : s .token .kind ≡ 0 → tokensIn (splitFrom 44 l i) ≡ tokensIn (splitFrom 44 l (s .next))
   step-skip z = rw (w, split-from-step 44 l i h) (tokens-skip _ _ (rw w at z))

@@ -11,8 +11,8 @@ use Rattle.lists.specs.Beginnings.{Begins, Place}
 module _ (Accepted : List ℕ → Type 0) (b : List ℕ) where
   pub begins-shorter : (m n : ℕ) → m ≤ n → Begins Accepted (take n b) → Begins Accepted (take m b)
   begins-shorter m n h (rest, a) =
-      let e : n ≡ m + (n - m) = omega arith in
-      let cut : take n b ≡ take m b ++ take (n - m) (drop m b) = ap (λ (i : ℕ). take i b) e ∙ take-add m (n - m) b in
+      let n-is : n ≡ m + (n - m) = omega arith in
+      let cut : take n b ≡ take m b ++ take (n - m) (drop m b) = ap (λ (i : ℕ). take i b) n-is ∙ take-add m (n - m) b in
       let whole : take n b ++ rest ≡ take m b ++ (take (n - m) (drop m b) ++ rest) =
       ap (λ (l : List ℕ). l ++ rest) cut ∙ append-assoc (take m b) (take (n - m) (drop m b)) rest in
       (take (n - m) (drop m b) ++ rest, subst Accepted whole a)

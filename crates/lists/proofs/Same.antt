@@ -31,13 +31,13 @@ same-refl (x ∷ a) = rw (eq-eqb x x refl, same-refl a)
 pub same-true : (a b : List ℕ) → isSame a b ≡ true → a ≡ b
 unfolding isSame
 same-true [] [] e = refl
-same-true [] (y ∷ b) e = let z : _≡_ {A = Bool} true false = sym e in cc
-same-true (x ∷ a) [] e = let z : _≡_ {A = Bool} true false = sym e in cc
+same-true [] (y ∷ b) e = let never : _≡_ {A = Bool} true false = sym e in cc
+same-true (x ∷ a) [] e = let never : _≡_ {A = Bool} true false = sym e in cc
 same-true (x ∷ a) (y ∷ b) e = go (eqb x y) refl e (same-true a b)
   where
     go : (t : Bool) → eqb x y ≡ t → (t && isSame a b) ≡ true → (isSame a b ≡ true → a ≡ b) → x ∷ a ≡ y ∷ b
     go true p q ih = rw (eqb-true x y p, ih q)
-    go false p q ih = let z : _≡_ {A = Bool} true false = sym q in cc
+    go false p q ih = let never : _≡_ {A = Bool} true false = sym q in cc
 
 pub same-long : (a b : List ℕ) → (length a ≡ length b → ⊥) → isSame a b ≡ false
 same-long a b h = go (isSame a b) refl

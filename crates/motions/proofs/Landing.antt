@@ -31,7 +31,7 @@ moving-to P f m h c e = go (eqb f 0) refl e
     go true p q =
         let same : m ≡ c = cc in
         rw same at (h (eqb-true f 0 p))
-    go false p q = let z : _≡_ {A = ℕ} 0 1 = cc in absurd (omega arith)
+    go false p q = let never : _≡_ {A = ℕ} 0 1 = cc in absurd (omega arith)
 
 pub moving-lands : (t : List ℕ) (f : ℕ) (m : Caret) → (f ≡ 0 → Inside t m) → Lands t (moving f m)
 moving-lands t f m h = moving-to (Inside t) f m h

@@ -28,26 +28,27 @@ module _ (t folds : List ℕ) (tabstop : ℕ) (k : Caret) where
   pub rows-lands : (a : Ambiguous) (down : Bool) (count : ℕ) → Lands t (moveRows a t folds tabstop down count k)
   rows-lands a down count =
       moving-lands t (verticalRefusal t folds tabstop k) _ (λ z.
-      let i = own z in
-      let r = rows-inside (widthAs a) t folds tabstop (k .row) (k .col) (k .sticky) (deltaOf down count) (record { in-row = i .in-row; in-col = i .in-col }) in
-      record { in-row = r .in-row; in-col = r .in-col })
+      let by-own = own z in
+      let by-rows-inside = rows-inside (widthAs a) t folds tabstop (k .row) (k .col) (k .sticky) (deltaOf down count)
+      (record { in-row = by-own .in-row; in-col = by-own .in-col }) in
+      record { in-row = by-rows-inside .in-row; in-col = by-rows-inside .in-col })
 
   pub screen-lands : (a : Ambiguous) (mode : Wrap) (width : ℕ) (down : Bool) (count : ℕ) → Lands t (moveScreenRows a t folds tabstop mode width down count k)
   screen-lands a mode width down count =
       moving-lands t (verticalRefusal t folds tabstop k) _ (λ z.
-      let i = own z in
-      let r = move-inside (widthAs a) t folds tabstop (k .row) (k .col) (k .sticky) mode width down count
-      (record { in-row = i .in-row; in-col = i .in-col }) in
-      record { in-row = r .in-row; in-col = r .in-col })
+      let by-own = own z in
+      let by-move-inside = move-inside (widthAs a) t folds tabstop (k .row) (k .col) (k .sticky) mode width down count
+      (record { in-row = by-own .in-row; in-col = by-own .in-col }) in
+      record { in-row = by-move-inside .in-row; in-col = by-move-inside .in-col })
 
   pub kept-lands : (a : Ambiguous) (mode : Wrap) (width : ℕ) (down : Bool) (count : ℕ) →
       Lands t (moveScreenRowsKept a t folds tabstop mode width down count k)
   kept-lands a mode width down count =
       moving-lands t (verticalRefusal t folds tabstop k) _ (λ z.
-      let i = own z in
-      let r = kept-inside (widthAs a) t folds tabstop (k .row) (k .col) (k .sticky) (k .offset) mode width down count
-      (record { in-row = i .in-row; in-col = i .in-col }) in
-      record { in-row = r .in-row; in-col = r .in-col })
+      let by-own = own z in
+      let by-kept-inside = kept-inside (widthAs a) t folds tabstop (k .row) (k .col) (k .sticky) (k .offset) mode width down count
+      (record { in-row = by-own .in-row; in-col = by-own .in-col }) in
+      record { in-row = by-kept-inside .in-row; in-col = by-kept-inside .in-col })
 
 -- an edge of any viewport
 pub viewport-lands : (t : List ℕ) (k : Caret) (edge : Edge) (top height offset : ℕ) → Lands t (moveViewport t edge top height offset k)

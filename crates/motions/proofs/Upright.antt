@@ -42,10 +42,10 @@ pub target-fits : {t folds : List ℕ} {tabstop start : ℕ} (k : Caret) → Upr
     (p .target .row < 2 ^ 32) × (p .target .col < 2 ^ 32)
 target-fits {t} {folds} {tabstop} {start} k h a mode width down count offset p e =
     let own : Inside t (k .row) (k .col) = record { in-row = h .here .in-row; in-col = omega (arith, h .here .in-col) } in
-    let q = moveScreenKept (widthAs a) t folds tabstop mode width down count (k .row) (k .col) (k .sticky) offset .target in
-    let i = kept-inside (widthAs a) t folds tabstop (k .row) (k .col) (k .sticky) offset mode width down count own in
+    let move-screen-kept = moveScreenKept (widthAs a) t folds tabstop mode width down count (k .row) (k .col) (k .sticky) offset .target in
+    let by-kept-inside = kept-inside (widthAs a) t folds tabstop (k .row) (k .col) (k .sticky) offset mode width down count own in
     let row = ap (λ (x : Kept). x .target .row) e in
     let col = ap (λ (x : Kept). x .target .col) e in (
-      omega (arith, row, i .in-row, count-le t, h .row-good .brief),
-      omega (arith, col, i .in-col, row-fits t (q .row) (i .in-row), h .row-good .brief),
+      omega (arith, row, by-kept-inside .in-row, count-le t, h .row-good .brief),
+      omega (arith, col, by-kept-inside .in-col, row-fits t (move-screen-kept .row) (by-kept-inside .in-row), h .row-good .brief),
     )

@@ -24,8 +24,8 @@ module _ (t folds list : List ℕ) (k : Caret) where
     where
       there : wordRefusal t folds list k ≡ 0 → Inside t (wordCaret t folds (inList list) big m stop count k)
       there e =
-          let i = caret-in t k (textRefusal t) (foldRefusal folds (rowCount t) ∷ parseOf list .refusal ∷ []) e in
-          let j : In t (wordMotion t folds (kindOf (inList list) big) big m stop count (position (k .row) (k .col))) =
+          let by-caret-in = caret-in t k (textRefusal t) (foldRefusal folds (rowCount t) ∷ parseOf list .refusal ∷ []) e in
+          let inside : In t (wordMotion t folds (kindOf (inList list) big) big m stop count (position (k .row) (k .col))) =
           word-motion-in t folds (kindOf (inList list) big) big m stop count (position (k .row) (k .col))
-          (record { in-row = i .in-row; in-col = i .in-col }) in
-          record { in-row = j .in-row; in-col = j .in-col }
+          (record { in-row = by-caret-in .in-row; in-col = by-caret-in .in-col }) in
+          record { in-row = inside .in-row; in-col = inside .in-col }

@@ -38,14 +38,14 @@ module _ (t : List ℕ) (k : Position) where
 
   pub accepted : refusalAt t k ≡ 0 → Accepted t k (foundAt t k)
   accepted e =
-      let p = lowest-none (textRefusal t) (positionRefusal t k ∷ []) e in
-      let i = inside e in
-      let l = line-at t (k .row) (i .in-row) in
+      let by-lowest-none = lowest-none (textRefusal t) (positionRefusal t k ∷ []) e in
+      let by-inside = inside e in
+      let by-line-at = line-at t (k .row) (by-inside .in-row) in
       record {
-        brief = accepted-short t (p .0);
-        here = stands-in l (rowStart t (k .row) + k .col) (omega arith) (omega arith);
-        line = l;
-        room = omega (arith, accepted-short t (p .0), row-fits t (k .row) (i .in-row));
+        brief = accepted-short t (by-lowest-none .0);
+        here = stands-in by-line-at (rowStart t (k .row) + k .col) (omega arith) (omega arith);
+        line = by-line-at;
+        room = omega (arith, accepted-short t (by-lowest-none .0), row-fits t (k .row) (by-inside .in-row));
         all-rows = refl;
         content-rows = refl;
       }

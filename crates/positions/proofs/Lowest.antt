@@ -47,8 +47,8 @@ pub lowest-last : (l : List ℕ) (d : ℕ) → lowest l ≡ 0 → lowest (l ++ (
 unfolding lowest
 lowest-last [] d z = lowest-one d (ℕ-discrete d 0)
 lowest-last (f ∷ rest) d z =
-    let p = lowest-none f rest z in
-    rw (eq-eqb f 0 (p .0)) (lowest-last rest d (p .1))
+    let by-lowest-none = lowest-none f rest z in
+    rw (eq-eqb f 0 (by-lowest-none .0)) (lowest-last rest d (by-lowest-none .1))
 
 -- the next check is made where the ones before it refuse nothing
 pub lowest-then : (l : List ℕ) (d : ℕ) → cond (eqb (lowest l) 0) d (lowest l) ≡ lowest (l ++ (d ∷ []))

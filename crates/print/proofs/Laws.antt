@@ -39,8 +39,8 @@ enough (suc j) n h p = go (decLt n 10) (decLt 0 j) (λ q r. enough j (n / 10) q 
     go (yes l) d ih = rw (lt-ltb n 10 l)
     go (no l) (yes q) ih = rw (le-ltb n 10 (omega arith)) (ap (λ (s : List ℕ). s ++ ((48 + n % 10) ∷ [])) (ih (omega (arith, pow-suc 10 j)) q))
     go (no l) (no q) ih =
-        let z : j ≡ 0 = omega arith in
-        absurd (omega (arith, ap (λ (i : ℕ). 10 ^ suc i) z))
+        let j-is : j ≡ 0 = omega arith in
+        absurd (omega (arith, ap (λ (i : ℕ). 10 ^ suc i) j-is))
 
 pub decimal-small : (n : ℕ) → n < 10 → decimal n ≡ (48 + n) ∷ []
 unfolding decimal spell
@@ -83,9 +83,9 @@ pub wrote-byte :
     {out o : List ℕ} {at : ℕ} (s : List ℕ) (i : ℕ) → Wrote out at (take i s) (at + i) o → i < length s →
     Wrote out at (take (i + 1) s) (at + (i + 1)) (set o (at + i) (getD s i 0))
 wrote-byte {out} {o} {at} s i w h =
-    let b : Wrote o (at + i) (getD s i 0 ∷ []) (at + (i + 1)) (set o (at + i) (getD s i 0)) =
+    let wrote : Wrote o (at + i) (getD s i 0 ∷ []) (at + (i + 1)) (set o (at + i) (getD s i 0)) =
     record { next = omega arith; left = refl; size = length-set o (at + i) (getD s i 0) } in
-    rw (add-one i, take-suc s i 0 h) (rw (add-one i) at (wrote-then w b))
+    rw (add-one i, take-suc s i 0 h) (rw (add-one i) at (wrote-then w wrote))
 
 pub wrote-bytes : {out o : List ℕ} {at : ℕ} (s : List ℕ) (i : ℕ) → Wrote out at (take i s) (at + i) o → length s ≤ i → Wrote out at s (at + i) o
 wrote-bytes {out} {o} {at} s i w h = rw (take-all i s h) at w

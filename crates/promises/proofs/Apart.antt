@@ -49,8 +49,8 @@ use Rattle.promises.proofs.Sums.{to-once}
 refuted : (first : Moved) (second : Caret → Moved) (once : Moved) (c d e : Caret) → first ≡ To c → second c ≡ To d → once ≡ To e →
     (d .col ≡ e .col → ⊥) → Sums first second once → ⊥
 refuted first second once c d e p q r n s =
-    let m = s .accepted c p in
-    n (ap (λ (k : Caret). k .col) (to-once (sym q ∙ m .twice-there ∙ sym (m .once-there) ∙ r)))
+    let by-accepted = s .accepted c p in
+    n (ap (λ (k : Caret). k .col) (to-once (sym q ∙ by-accepted .twice-there ∙ sym (by-accepted .once-there) ∙ r)))
 
 pub not-adding : NotAdding
 unfolding computed told

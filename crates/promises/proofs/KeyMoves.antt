@@ -23,13 +23,13 @@ use Rattle.promises.specs.KeyMoves.{OnPartner, AsItWas, RefusedWith, Key
 
 -- the three answers differ
 found-missing : {j k : Caret} → Found j ≡ Missing k → ⊥
-found-missing e = let z : _≡_ {A = ℕ} 0 1 = cc in omega arith
+found-missing e = let never : _≡_ {A = ℕ} 0 1 = cc in omega arith
 
 found-refused : {k : Caret} {f : ℕ} → Found k ≡ Refused f → ⊥
-found-refused e = let z : _≡_ {A = ℕ} 0 1 = cc in omega arith
+found-refused e = let never : _≡_ {A = ℕ} 0 1 = cc in omega arith
 
 missing-refused : {k : Caret} {f : ℕ} → Missing k ≡ Refused f → ⊥
-missing-refused e = let z : _≡_ {A = ℕ} 0 1 = cc in omega arith
+missing-refused e = let never : _≡_ {A = ℕ} 0 1 = cc in omega arith
 
 found-once : {j k : Caret} → Found j ≡ Found k → j ≡ k
 found-once e = cc
@@ -99,8 +99,8 @@ module _ (t : List ℕ) (k : Caret) where
 
   moves : (k′ : Caret) → matchBracket t k ≡ Found k′ → here k′ ≡ here k → ⊥
   moves k′ e h =
-      let a = lands k′ e in
-      goes (a .accepted) .moves (k .row) (k .col) (goes-to k′ a ∙ ap (λ (p : Position). There (posAt (p .row) (p .col))) h)
+      let by-lands = lands k′ e in
+      goes (by-lands .accepted) .moves (k .row) (k .col) (goes-to k′ by-lands ∙ ap (λ (p : Position). There (posAt (p .row) (p .col))) h)
 
   missing : (k′ : Caret) → matchBracket t k ≡ Missing k′ → AsItWas t k k′
   missing k′ e = on answer

@@ -29,7 +29,7 @@ either P false x y p q = q
 
 module _ (t : List ℕ) where
   pub none-lands : (f : ℕ) → Lands t (Refused f)
-  none-lands f c e = let z : _≡_ {A = ℕ} 0 1 = cc in absurd (omega arith)
+  none-lands f c e = let never : _≡_ {A = ℕ} 0 1 = cc in absurd (omega arith)
 
   pub motion-lands : (op n : ℕ) (k : Caret) → Lands t (motion op n k t)
   unfolding motion wayOf moveAs

@@ -38,22 +38,22 @@ last-partner (Partner·Refused f) = refl
 pub every-inside : EveryPositionInside
 unfolding written positions
 every-inside (plain op n) k t =
-    let w = kept t (motion op n k t) (plainWrites op n k t) (plain-keeps t k n op) in
-    record { inside = w .0; last = w .1 }
+    let by-kept = kept t (motion op n k t) (plainWrites op n k t) (plain-keeps t k n op) in
+    record { inside = by-kept .0; last = by-kept .1 }
 every-inside (by-word op big n folds list) k t =
-    let w = kept t (word op big n k t folds list) (λ c. termWrites op big n k t folds (kindOf (inList list) big)) (term-keeps t k n list big op folds) in
-    record { inside = w .0; last = w .1 }
+    let by-kept = kept t (word op big n k t folds list) (λ c. termWrites op big n k t folds (kindOf (inList list) big)) (term-keeps t k n list big op folds) in
+    record { inside = by-kept .0; last = by-kept .1 }
 every-inside (upright op mode width n tabstop folds) k t =
-    let w = kept t (vertical op mode width n tabstop k t folds) (uprightWrites op (modeOf mode) width n k t folds)
+    let by-kept = kept t (vertical op mode width n tabstop k t folds) (uprightWrites op (modeOf mode) width n k t folds)
     (vertical-keeps t k n folds tabstop op mode width) in
-    record { inside = w .0; last = w .1 }
+    record { inside = by-kept .0; last = by-kept .1 }
 every-inside (remembers op mode width n tabstop folds) k t =
-    let w = kept t (screenKept op mode width n tabstop k t folds) standing
+    let by-kept = kept t (screenKept op mode width n tabstop k t folds) standing
     (record { fits = λ c e. once t c (kept-numbers-land t op mode width n tabstop folds k c e) }) in
-    record { inside = w .0; last = w .1 }
+    record { inside = by-kept .0; last = by-kept .1 }
 every-inside (edge op top height offset) k t =
-    let w = kept t (viewport op top height offset k t) byRow
+    let by-kept = kept t (viewport op top height offset k t) byRow
     (record { fits = λ c e. by-row t c (edge-lands t op top height offset k c e) }) in
-    record { inside = w .0; last = w .1 }
+    record { inside = by-kept .0; last = by-kept .1 }
 every-inside (search op x) k t = record { inside = seek-sits t k op x; last = last-sought (seek op x k t) }
 every-inside partner k t = record { inside = pair-sits t (k .row) (k .col); last = last-partner (matchingBracketPos t (k .row) (k .col)) }

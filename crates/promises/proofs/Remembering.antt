@@ -46,7 +46,7 @@ to-clears : (k : Caret) → k .offset ≡ Absent → Clears (To k)
 to-clears k e c q = let same : k ≡ c = cc in subst (λ (x : Caret). x .offset ≡ Absent) same e
 
 number-clears : (f : ℕ) → Clears (Refused f)
-number-clears f c q = let z : _≡_ {A = ℕ} 0 1 = cc in absurd (omega arith)
+number-clears f c q = let never : _≡_ {A = ℕ} 0 1 = cc in absurd (omega arith)
 
 seeking-clears : (f : ℕ) (s : Sought) → Clears (landed s) → Clears (landed (seeking f s))
 unfolding seeking
@@ -93,9 +93,10 @@ module _ (t folds list : List ℕ) (tabstop n : ℕ) (k : Caret) where
     as-before : k .offset ≡ Absent →
         forgotten (movedBy t folds list tabstop (ScreenKept mode width down a) n k) ≡ movedBy t folds list tabstop (Screen mode width down a) n k
     as-before e =
-        let f = verticalRefusal t folds tabstop k in
-        subst (λ (o : Offset). forgotten (moving f (atKept (to o))) ≡ movedBy t folds list tabstop (Screen mode width down a) n k) (sym e)
-        (rw (forgotten-moving f (to Absent)) (ap (λ p. moving f (atTarget p)) (absent-target (widthAs a) t folds tabstop mode width down n (k .row) (k .col) (k .sticky))))
+        let vertical-refusal = verticalRefusal t folds tabstop k in
+        subst (λ (o : Offset). forgotten (moving vertical-refusal (atKept (to o))) ≡ movedBy t folds list tabstop (Screen mode width down a) n k) (sym e)
+        (rw (forgotten-moving vertical-refusal (to Absent))
+        (ap (λ p. moving vertical-refusal (atTarget p)) (absent-target (widthAs a) t folds tabstop mode width down n (k .row) (k .col) (k .sticky))))
 
     -- what holds of the caret that a move by an offset leads to
     led : (P : Caret → Type 0) (o : Offset) → k .offset ≡ o → P (atKept (to o)) → (c : Caret) →

@@ -15,26 +15,26 @@ filled-one : {buf fold : List ℕ} {p : Position} {s room caret sizes : List ℕ
     Dec (unfitOne s room ≡ 0) → EditsFilled buf fold p s room caret sizes (x .0) (x .1) (x .2) (x .3) (x .4) (x .5) →
     EditsFilled buf fold p s room caret sizes (y .0) (y .1) (y .2) (y .3) (y .4) (y .5) → x ≡ y
 filled-one (yes z) a b =
-    let u = a .edited z in
-    let v = b .edited z in
+    let by-edited = a .edited z in
+    let by-edited-z = b .edited z in
     λ i. (
-      (u .caret-left .numbered ∙ sym (v .caret-left .numbered)) i,
-      (u .text-left ∙ sym (v .text-left)) i,
-      (u .folds-left ∙ sym (v .folds-left)) i,
+      (by-edited .caret-left .numbered ∙ sym (by-edited-z .caret-left .numbered)) i,
+      (by-edited .text-left ∙ sym (by-edited-z .text-left)) i,
+      (by-edited .folds-left ∙ sym (by-edited-z .folds-left)) i,
       (a .room-left ∙ sym (b .room-left)) i,
-      (u .caret-left .out-left ∙ sym (v .caret-left .out-left)) i,
-      (u .sizes-left .out-left ∙ sym (v .sizes-left .out-left)) i,
+      (by-edited .caret-left .out-left ∙ sym (by-edited-z .caret-left .out-left)) i,
+      (by-edited .sizes-left .out-left ∙ sym (by-edited-z .sizes-left .out-left)) i,
     )
 filled-one (no n) a b =
-    let u = a .unfit n in
-    let v = b .unfit n in
+    let by-unfit = a .unfit n in
+    let by-unfit-n = b .unfit n in
     λ i. (
-      (u .numbered ∙ sym (v .numbered)) i,
-      (u .text-kept ∙ sym (v .text-kept)) i,
-      (u .folds-kept ∙ sym (v .folds-kept)) i,
+      (by-unfit .numbered ∙ sym (by-unfit-n .numbered)) i,
+      (by-unfit .text-kept ∙ sym (by-unfit-n .text-kept)) i,
+      (by-unfit .folds-kept ∙ sym (by-unfit-n .folds-kept)) i,
       (a .room-left ∙ sym (b .room-left)) i,
-      (u .caret-kept ∙ sym (v .caret-kept)) i,
-      (u .sizes-kept ∙ sym (v .sizes-kept)) i,
+      (by-unfit .caret-kept ∙ sym (by-unfit-n .caret-kept)) i,
+      (by-unfit .sizes-kept ∙ sym (by-unfit-n .sizes-kept)) i,
     )
 
 pub one-result : OneResult
@@ -64,7 +64,7 @@ one-result =
         (p .0 .out-left ∙ sym (q .0 .out-left)) i,
         (p .1 ∙ sym (q .1)) i,
       );
-      printed = λ out s x y p q. let e = p .count ∙ sym (q .count) in λ i. (e i, (p .front ∙ ap (λ (n : ℕ). s ++ drop n out) e ∙ sym (q .front)) i);
+      printed = λ out s x y p q. let same = p .count ∙ sym (q .count) in λ i. (same i, (p .front ∙ ap (λ (n : ℕ). s ++ drop n out) same ∙ sym (q .front)) i);
       edited = λ buf fold s p q c k x y a b. λ i. ((a .answer ∙ sym (b .answer)) i, (a .text ∙ sym (b .text)) i, (a .folds ∙ sym (b .folds)) i);
       host-edited = λ buf fold p q c caret sizes x y a b. λ i. (
         (a .caret-left .numbered ∙ sym (b .caret-left .numbered)) i,

@@ -63,11 +63,11 @@ module _ (t : List ℕ) where
       where
         go : (m : Sought) → matchBracket t k ≡ m → Sits m
         go (Found c) e =
-            let p = key t k .lands c e .partner .partner .to in
-            (record { in-row = p .in-row; in-col = omega (arith, p .in-col) }, tt)
+            let by-key = key t k .lands c e .partner .partner .to in
+            (record { in-row = by-key .in-row; in-col = omega (arith, by-key .in-col) }, tt)
         go (Missing c) e =
-            let a = key t k .missing c e in
-            subst (λ (x : Caret). Sits (Missing x)) (sym (a .same)) (stands (cleared k) (inside t (here k) (a .accepted)))
+            let by-key = key t k .missing c e in
+            subst (λ (x : Caret). Sits (Missing x)) (sym (by-key .same)) (stands (cleared k) (inside t (here k) (by-key .accepted)))
         go (Sought·Refused f) e = tt
 
     -- at a column of the row, or where the caret was
@@ -79,9 +79,9 @@ module _ (t : List ℕ) where
     find-sits : (x : ℕ) (forward till skip : Bool) → Sits (findCharOnLine t x forward till skip k)
     find-sits x forward till skip =
         seeking-sits (refusalWith t (here k) x) _
-        (λ z. let w = inside t (here k) (sought-none (refusalOf t k) (isScalar x) z) in
+        (λ z. let by-inside = inside t (here k) (sought-none (refusalOf t k) (isScalar x) z) in
         found-sits (findOnRow (rowAt t (k .row)) (k .col) x forward till skip)
-        (λ i e. find-within (rowAt t (k .row)) (k .col) x forward till skip (w .in-col) e) w)
+        (λ i e. find-within (rowAt t (k .row)) (k .col) x forward till skip (by-inside .in-col) e) by-inside)
 
     pub seek-sits : (op x : ℕ) → Sits (seek op x k t)
     unfolding seek seekOf seekAs
@@ -103,8 +103,8 @@ module _ (t : List ℕ) where
     where
       go : (p : Partner) → matchingBracketPos t row col ≡ p → AllIn t (inPartner p)
       go (There q) e =
-          let w = unique t (call-accepted t row col q e) .told (record { row = row; col = col }) q e .to in
-          (record { in-row = w .in-row; in-col = omega (arith, w .in-col) }, tt)
+          let by-unique = unique t (call-accepted t row col q e) .told (record { row = row; col = col }) q e .to in
+          (record { in-row = by-unique .in-row; in-col = omega (arith, by-unique .in-col) }, tt)
       go None e = tt
       go (Partner·Refused f) e = tt
 

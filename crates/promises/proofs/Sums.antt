@@ -19,7 +19,7 @@ pub to-once : {j k : Caret} → To j ≡ To k → j ≡ k
 to-once e = cc
 
 to-refused : {k : Caret} {f : ℕ} → To k ≡ Refused f → ⊥
-to-refused e = let z : _≡_ {A = ℕ} 0 1 = cc in omega arith
+to-refused e = let never : _≡_ {A = ℕ} 0 1 = cc in omega arith
 
 pub moving-yes : (f : ℕ) (c : Caret) → f ≡ 0 → moving f c ≡ To c
 unfolding moving

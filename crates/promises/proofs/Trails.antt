@@ -58,14 +58,14 @@ module _ (from : Position → Position) (round : Position → Turn) where
   unfolding countedWrites
   counted-in t a b zero p i = tt
   counted-in t a b (suc n) p i =
-      let j = a p i in (
-        record { in-row = j .in-row; in-col = j .in-col },
+      let here = a p i in (
+        record { in-row = here .in-row; in-col = here .in-col },
         found-in (from p) (countedWrites from round n) t (round p) (b p i) (counted-in t a b n),
       )
 
 -- a round that finds no word ends where it began, out of the fold
 turn-off : (from : Position) (w : Went) (q : Position) → turn from w ≡ Off q → from ≡ q
-turn-off from (To x) q e = let z : _≡_ {A = ℕ} 0 1 = cc in absurd (omega arith)
+turn-off from (To x) q e = let never : _≡_ {A = ℕ} 0 1 = cc in absurd (omega arith)
 turn-off from Nowhere q e = cc
 
 module _ (t folds : List ℕ) where
@@ -84,7 +84,7 @@ module _ (t folds : List ℕ) where
       where
         go : (b : Bool) → cond b (On (jumpFwd t folds p)) (turn (jumpFwd t folds p) (Words.nextWordEnd t kind (jumpFwd t folds p))) ≡ Off q →
             jumpFwd t folds p ≡ q
-        go true z = let y : _≡_ {A = ℕ} 0 1 = cc in absurd (omega arith)
+        go true z = let never : _≡_ {A = ℕ} 0 1 = cc in absurd (omega arith)
         go false z = turn-off (jumpFwd t folds p) (Words.nextWordEnd t kind (jumpFwd t folds p)) q z
     round-off EndBack stop p q e = turn-off p (Words.prevWordEnd t kind p) q e
 
@@ -99,8 +99,8 @@ module _ (t folds : List ℕ) where
     pub word-in : (m : Motion) (stop : Bool) (n : ℕ) (p : Position) → Within.In t p → AllIn t (wordWrites t folds kind big m stop n p)
     unfolding wordWrites
     word-in m stop n p i =
-        let j = origin-in m p i in (
-          record { in-row = j .in-row; in-col = j .in-col },
+        let by-origin-in = origin-in m p i in (
+          record { in-row = by-origin-in .in-row; in-col = by-origin-in .in-col },
           found-in (origin t folds m p) _ t (roundOf t folds kind big m stop p) (round-in t folds kind big m stop p i)
               (counted-in (origin t folds m) (roundOf t folds kind big m false) t (origin-in m) (round-in t folds kind big m false) (max n 1 - 1)),
         )

@@ -49,28 +49,28 @@ module _ (t : List ℕ) (k : Caret) (n : ℕ) (folds : List ℕ) (tabstop : ℕ)
 
     step-in : (down : Bool) (o p : Position) → Inside t (onScreen p) → Inside t (onScreen (stepOf t folds lay down o p))
     step-in down o p i =
-        let r = round-inside t folds lay down _ p (record { in-row = i .in-row; in-col = i .in-col }) in
-        record { in-row = r .in-row; in-col = r .in-col }
+        let by-round-inside = round-inside t folds lay down _ p (record { in-row = i .in-row; in-col = i .in-col }) in
+        record { in-row = by-round-inside .in-row; in-col = by-round-inside .in-col }
 
     by-screen : (down : Bool) → Keeps t (moveScreenRows a t folds tabstop mode width down n k) (screenMoves a mode width down n k t folds)
     by-screen down = record {
       fits =
           moving-to (λ c. Fits t (screenMoves a mode width down n k t folds c) c) (verticalRefusal t folds tabstop k)
           (screenCaret a t folds tabstop mode width down n k)
-          (λ z. let i = own t folds tabstop k z in go (eqb width 0 || isNone mode) (record { in-row = i .in-row; in-col = i .in-col }));
+          (λ z. let by-own = own t folds tabstop k z in go (eqb width 0 || isNone mode) (record { in-row = by-own .in-row; in-col = by-own .in-col }));
     }
       where
         go : (b : Bool) → Upright.Inside t (k .row) (k .col) →
-            let c = atTarget (cond b (moveVertical (widthAs a) t folds tabstop (deltaOf down n) (k .row) (k .col) (k .sticky))
+            let at-target = atTarget (cond b (moveVertical (widthAs a) t folds tabstop (deltaOf down n) (k .row) (k .col) (k .sticky))
             (screenTarget (widthAs a) t folds tabstop lay down n (k .row) (k .col) (k .sticky))) in
-            Fits t (cond b (standing c) (screenWrites t folds lay down n (record { row = k .row; col = k .col }))) c
+            Fits t (cond b (standing at-target) (screenWrites t folds lay down n (record { row = k .row; col = k .col }))) at-target
         go true i =
-            let r = rows-inside (widthAs a) t folds tabstop (k .row) (k .col) (k .sticky) (deltaOf down n) i in
+            let by-rows-inside = rows-inside (widthAs a) t folds tabstop (k .row) (k .col) (k .sticky) (deltaOf down n) i in
             once t (atTarget (moveVertical (widthAs a) t folds tabstop (deltaOf down n) (k .row) (k .col) (k .sticky)))
-            (record { in-row = r .in-row; in-col = r .in-col })
+            (record { in-row = by-rows-inside .in-row; in-col = by-rows-inside .in-col })
         go false i =
-            let j = jump-inside t folds down (record { row = k .row; col = k .col }) i in
-            let here : Inside t (onScreen (from down)) = record { in-row = j .in-row; in-col = j .in-col } in (
+            let by-jump-inside = jump-inside t folds down (record { row = k .row; col = k .col }) i in
+            let here : Inside t (onScreen (from down)) = record { in-row = by-jump-inside .in-row; in-col = by-jump-inside .in-col } in (
               (here, trail-in onScreen (stepOf t folds lay down (from down)) t (step-in down (from down)) (max n 1) (from down) here),
               ap (λ (q : Position). q ∷ []) (trail-ends onScreen (stepOf t folds lay down (from down)) (max n 1) (from down)),
             )
@@ -78,13 +78,13 @@ module _ (t : List ℕ) (k : Caret) (n : ℕ) (folds : List ℕ) (tabstop : ℕ)
   upright-keeps : (mode : Wrap) (width op : ℕ) → Keeps t (upright op mode width n tabstop k t folds) (uprightWrites op mode width n k t folds)
   unfolding upright uprightOf moveAs uprightWrites
   upright-keeps mode width op =
-      let a = settingOf op in
+      let setting = settingOf op in
       let plain = plainOf op in
       let answer : Asked → Moved = λ m. moveAs m n k t folds [] tabstop in
-      both t answer (eqb plain 0) (rows-once a false)
-      (both t answer (eqb plain 1) (rows-once a true)
-      (both t answer (eqb plain 2) (by-screen a mode width false)
-      (either (λ (m : Asked). Keeps t (answer m) (screenMoves a mode width true n k t folds)) (eqb plain 3) _ _ (by-screen a mode width true)
+      both t answer (eqb plain 0) (rows-once setting false)
+      (both t answer (eqb plain 1) (rows-once setting true)
+      (both t answer (eqb plain 2) (by-screen setting mode width false)
+      (either (λ (m : Asked). Keeps t (answer m) (screenMoves setting mode width true n k t folds)) (eqb plain 3) _ _ (by-screen setting mode width true)
       (refused t 100 _))))
 
   pub vertical-keeps : (op mode width : ℕ) → Keeps t (vertical op mode width n tabstop k t folds) (uprightWrites op (modeOf mode) width n k t folds)

@@ -48,7 +48,7 @@ module _ (t : List ℕ) where
   kept (Refused n) f h = (tt, refl)
 
   pub refused : (n : ℕ) (f : Caret → List Position) → Keeps t (Refused n) f
-  refused n f = record { fits = λ c e. let z : _≡_ {A = ℕ} 0 1 = cc in absurd (omega arith) }
+  refused n f = record { fits = λ c e. let never : _≡_ {A = ℕ} 0 1 = cc in absurd (omega arith) }
 
   -- one of two moves that are asked for
   pub both : {A : Type 0} (answer : A → Moved) (b : Bool) {x y : A} {f g : Caret → List Position} → Keeps t (answer x) f → Keeps t (answer y) g →
@@ -92,8 +92,9 @@ module _ (t : List ℕ) where
       unfolding plainWrites
       other a b = record {
         fits = λ c e.
-            let i = motion-lands t op n k c e in
-            rw (ne-eqb op 3 a, ne-eqb op 4 b) (either (λ (l : List Position). Fits t l c) (leb 16 op) (byRow c) (standing c) (by-row c i) (once c i));
+            let by-motion-lands = motion-lands t op n k c e in
+            rw (ne-eqb op 3 a, ne-eqb op 4 b)
+            (either (λ (l : List Position). Fits t l c) (leb 16 op) (byRow c) (standing c) (by-row c by-motion-lands) (once c by-motion-lands));
       }
 
       pub plain-keeps : Keeps t (motion op n k t) (plainWrites op n k t)
@@ -113,8 +114,9 @@ module _ (t : List ℕ) where
             moving-to (Fits t (wordWrites t folds (kindOf (inList list) big) big m stop n (position (k .row) (k .col)))) (wordRefusal t folds list k)
             (wordCaret t folds (inList list) big m stop n k)
             (λ z.
-            let i = caret-in t k _ _ z in (
-              word-in t folds (kindOf (inList list) big) big m stop n (position (k .row) (k .col)) (record { in-row = i .in-row; in-col = i .in-col }),
+            let by-caret-in = caret-in t k _ _ z in (
+              word-in t folds (kindOf (inList list) big) big m stop n (position (k .row) (k .col))
+                  (record { in-row = by-caret-in .in-row; in-col = by-caret-in .in-col }),
               word-last t folds (kindOf (inList list) big) big m stop n (position (k .row) (k .col)),
             ));
       }
@@ -127,5 +129,7 @@ module _ (t : List ℕ) where
           (both answer (eqb op 1) (by-words folds Back false)
           (both answer (eqb op 2) (by-words folds End false)
           (both answer (eqb op 3) (by-words folds End true)
-          (either (λ (a : Asked). Keeps t (answer a) (λ c. wordWrites t [] (kindOf (inList list) big) big EndBack false n (position (k .row) (k .col)))) (eqb op 4) _ _
+          (either
+          (λ (a : Asked). Keeps t (answer a) (λ c. wordWrites t [] (kindOf (inList list) big) big EndBack false n (position (k .row) (k .col))))
+          (eqb op 4) _ _
           (by-words [] EndBack false) (refused 100 _)))))

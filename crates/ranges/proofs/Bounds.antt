@@ -21,7 +21,7 @@ odd-mod : (n : ℕ) → eqb (n % 2) 1 ≡ odd n
 unfolding odd
 odd-mod zero = refl
 odd-mod (suc zero) = refl
-odd-mod (suc (suc n)) = let e : suc (suc n) % 2 ≡ n % 2 = omega arith in ap (λ (m : ℕ). eqb m 1) e ∙ odd-mod n
+odd-mod (suc (suc n)) = let remainder-is : suc (suc n) % 2 ≡ n % 2 = omega arith in ap (λ (m : ℕ). eqb m 1) remainder-is ∙ odd-mod n
 
 -- two bounds fewer
 rest : {s e x : ℕ} {bs : List ℕ} {r : ℕ} → UpTo (s ∷ e ∷ bs) x (suc (suc r)) → UpTo bs x r

@@ -23,11 +23,11 @@ record First (s n : ℕ) (starts lengths : List ℕ) : Type 0 where
 
 apart-first : (s n : ℕ) (starts lengths : List ℕ) → T (apart (s ∷ starts) (n ∷ lengths)) → First s n starts lengths
 apart-first s n starts lengths t =
-    let r = and-right (ltb 0 n) (before (s + n) starts && apart starts lengths) t in
+    let by-and-right = and-right (ltb 0 n) (before (s + n) starts && apart starts lengths) t in
     record {
       some = ltb→lt 0 n (and-left (ltb 0 n) (before (s + n) starts && apart starts lengths) t);
-      ends = and-left (before (s + n) starts) (apart starts lengths) r;
-      rest = and-right (before (s + n) starts) (apart starts lengths) r;
+      ends = and-left (before (s + n) starts) (apart starts lengths) by-and-right;
+      rest = and-right (before (s + n) starts) (apart starts lengths) by-and-right;
     }
 
 both : (a b : Bool) → T a → T b → T (a && b)
@@ -42,8 +42,8 @@ pub apart-starts : (starts lengths : List ℕ) → T (apart starts lengths) → 
 apart-starts [] lengths t = tt
 apart-starts (s ∷ starts) [] t = absurd t
 apart-starts (s ∷ starts) (n ∷ lengths) t =
-    let f = apart-first s n starts lengths t in
-    climbs-from s n starts (f .ends) (apart-starts starts lengths (f .rest))
+    let by-apart-first = apart-first s n starts lengths t in
+    climbs-from s n starts (by-apart-first .ends) (apart-starts starts lengths (by-apart-first .rest))
 
 pub apart-length : (starts lengths : List ℕ) → T (apart starts lengths) → length lengths ≡ length starts
 apart-length [] [] t = refl
@@ -61,9 +61,9 @@ pub apart-ascending : (starts lengths : List ℕ) → T (apart starts lengths) �
 apart-ascending [] lengths t = tt
 apart-ascending (s ∷ starts) [] t = absurd t
 apart-ascending (s ∷ starts) (n ∷ lengths) t =
-    let f = apart-first s n starts lengths t in
-    both (ltb s (s + n)) (climbs (s + n) (boundsOf starts lengths)) (lt→ltb s (s + n) (omega (arith, f .some)))
-    (climbs-on (s + n) starts lengths (f .ends) (apart-ascending starts lengths (f .rest)))
+    let by-apart-first = apart-first s n starts lengths t in
+    both (ltb s (s + n)) (climbs (s + n) (boundsOf starts lengths)) (lt→ltb s (s + n) (omega (arith, by-apart-first .some)))
+    (climbs-on (s + n) starts lengths (by-apart-first .ends) (apart-ascending starts lengths (by-apart-first .rest)))
 
 -- one start fewer
 rest-up-to : {s x : ℕ} {starts : List ℕ} {r : ℕ} → UpTo (s ∷ starts) x (suc r) → UpTo starts x r
@@ -97,11 +97,12 @@ last-decides :
 last-decides [] lengths k t h = absurd (not-suc-le-zero (h .inside))
 last-decides (s ∷ starts) [] k t h = absurd t
 last-decides (s ∷ starts) (n ∷ lengths) {x} zero t h =
-    let l = h .below 0 (omega arith) in
-    rw (le-leb s x l, before-all starts lengths (rest-up-to h), or-false (ltb x (s + n))) (within s n x l)
+    let by-below = h .below 0 (omega arith) in
+    rw (le-leb s x by-below, before-all starts lengths (rest-up-to h), or-false (ltb x (s + n))) (within s n x by-below)
 last-decides (s ∷ starts) (n ∷ lengths) {x} (suc k) t h =
-    let f = apart-first s n starts lengths t in
-    rw (le-ltb x (s + n) (past starts (f .ends) (rest-up-to h)), and-false (leb s x)) (last-decides starts lengths k (f .rest) (rest-up-to h))
+    let by-apart-first = apart-first s n starts lengths t in
+    rw (le-ltb x (s + n) (past starts (by-apart-first .ends) (rest-up-to h)), and-false (leb s x))
+    (last-decides starts lengths k (by-apart-first .rest) (rest-up-to h))
   where
     past : (starts : List ℕ) → T (before (s + n) starts) → UpTo starts x (suc k) → s + n ≤ x
     past [] e u = absurd (not-suc-le-zero (u .inside))
@@ -112,5 +113,5 @@ pub last-of :
     ltb (x - getD starts (r - 1) 0) (getD lengths (r - 1) 0) ≡ inTable x (boundsOf starts lengths)
 last-of starts lengths zero p t h = absurd (not-suc-le-zero p)
 last-of starts lengths {x} (suc k) p t h =
-    let e : suc k - 1 ≡ k = omega arith in
-    rw e (last-decides starts lengths k t h)
+    let one-more-less-one : suc k - 1 ≡ k = omega arith in
+    rw one-more-less-one (last-decides starts lengths k t h)

@@ -53,13 +53,13 @@ module _ {bytes room : List ℕ} {t : Tally} {at : ℕ} (so : Tallying bytes roo
       Tallying bytes room′ (counted t v) e
   unfolding tallied
   tallying-on h e q {room′} {v} j =
-      let w = row-within bytes at e h q in
-      let k = counted-cases t v in
+      let by-row-within = row-within bytes at e h q in
+      let by-counted-cases = counted-cases t v in
       record {
-        inside = w .1;
+        inside = by-row-within .1;
         kept = j .kept ∙ so .kept;
-        below = omega (arith, so .below, k .0, w .0);
-        ordered = omega (arith, so .ordered, k .0, k .1);
+        below = omega (arith, so .below, by-counted-cases .0, by-row-within .0);
+        ordered = omega (arith, so .ordered, by-counted-cases .0, by-counted-cases .1);
         so-far = so .so-far
             ∙ ap (tallied t) (lines-step bytes at e h q)
             ∙ ap (λ (x : Verdict). tallied (counted t x) (lines (drop e bytes)))

@@ -49,14 +49,14 @@ module _ (a b s : List ℕ) (n : ℕ) (h : n ≡ length a) where
           (t : Bool) → isSame a (take (length a) s) ≡ t → cond t Agrees Differs ≡ Agrees →
           cond (isSame b (drop (length a) s)) Agrees Differs ≡ cond (isSame (a ++ b) s) Agrees Differs
       go true p q = rw (same-parts a b s, p)
-      go false p q = let z : _≡_ {A = ℕ} 0 1 = cc q in absurd (omega arith)
+      go false p q = let never : _≡_ {A = ℕ} 0 1 = cc q in absurd (omega arith)
 
   pub parts-differ : compared a (take n s) ≡ Differs → Differs ≡ compared (a ++ b) s
   unfolding compared first
   parts-differ e = go (isSame a (take (length a) s)) refl (told-first Differs e)
     where
       go : (t : Bool) → isSame a (take (length a) s) ≡ t → cond t Agrees Differs ≡ Differs → Differs ≡ cond (isSame (a ++ b) s) Agrees Differs
-      go true p q = let z : _≡_ {A = ℕ} 0 1 = cc q in absurd (omega arith)
+      go true p q = let never : _≡_ {A = ℕ} 0 1 = cc q in absurd (omega arith)
       go false p q = rw (same-parts a b s, p)
 
   pub parts-formed : {A : Type 0} → compared a (take n s) ≡ Malformed → A
@@ -64,8 +64,8 @@ module _ (a b s : List ℕ) (n : ℕ) (h : n ≡ length a) where
   parts-formed {A} e = go (isSame a (take (length a) s)) (told-first Malformed e)
     where
       go : (t : Bool) → cond t Agrees Differs ≡ Malformed → A
-      go true q = let z : _≡_ {A = ℕ} 0 1 = cc q in absurd (omega arith)
-      go false q = let z : _≡_ {A = ℕ} 0 1 = cc q in absurd (omega arith)
+      go true q = let never : _≡_ {A = ℕ} 0 1 = cc q in absurd (omega arith)
+      go false q = let never : _≡_ {A = ℕ} 0 1 = cc q in absurd (omega arith)
 
 -- a call, compared by its number, by its places and by the slice that it leaves
 pub slice-compared :

@@ -27,7 +27,7 @@ pub take-on :
 take-on numbers bytes i h k e = rw (add-one i, take-suc-set bytes i (getD numbers i 0) k, take-suc numbers i 0 h, e)
 
 pub no-true : {A : Type 0} → _≡_ {A = Bool} false true → A
-no-true e = let z : _≡_ {A = ℕ} 0 1 = cc in absurd (omega arith)
+no-true e = let never : _≡_ {A = ℕ} 0 1 = cc in absurd (omega arith)
 
 -- a reply to one place leaves one number there
 pub decoded-single : (b points : List ℕ) → left (decodes b points) (filler ∷ []) ≡ getD (left (decodes b points) (filler ∷ [])) 0 0 ∷ []

@@ -49,11 +49,11 @@ row-length-least x s = go (ℕ-discrete x 10)
 module _ (s : List ℕ) (at e : ℕ) (h : at < length s) (q : e ≡ at + rowLength (drop at s)) where
   pub row-within : (at < e) × (e ≤ length s)
   row-within =
-      let a : 1 ≤ rowLength (drop at s) = rw (drop-at s at h) (row-length-least _ _) in
-      (omega (arith, q, a), omega (arith, q, row-length-most (drop at s), length-drop at s))
+      let row-length-some : 1 ≤ rowLength (drop at s) = rw (drop-at s at h) (row-length-least _ _) in
+      (omega (arith, q, row-length-some), omega (arith, q, row-length-most (drop at s), length-drop at s))
 
   pub lines-step : lines (drop at s) ≡ take (e - at) (drop at s) ∷ lines (drop e s)
   lines-step =
-      let n : e - at ≡ rowLength (drop at s) = omega arith in
-      let d : drop e s ≡ drop (rowLength (drop at s)) (drop at s) = rw q (sym (drop-drop (rowLength (drop at s)) at s)) in
-      rw (n, d) (rw (drop-at s at h) (lines-first _ _))
+      let difference-is : e - at ≡ rowLength (drop at s) = omega arith in
+      let rest-is : drop e s ≡ drop (rowLength (drop at s)) (drop at s) = rw q (sym (drop-drop (rowLength (drop at s)) at s)) in
+      rw (difference-is, rest-is) (rw (drop-at s at h) (lines-first _ _))

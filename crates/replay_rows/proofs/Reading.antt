@@ -101,8 +101,8 @@ pub record Reading (row room₀ room : List ℕ) (n : ℕ) (r : Reader) (i : ℕ
 
 pub reading-start : (row room : List ℕ) → Reading row room room 0 fresh 0
 reading-start row room =
-    let k : length room - 0 ≡ length room = omega arith in
-    record { inside = omega arith; kept = refl; within = omega arith; so-far = rw k (sym (onto-nil _)) }
+    let size-less-zero : length room - 0 ≡ length room = omega arith in
+    record { inside = omega arith; kept = refl; within = omega arith; so-far = rw size-less-zero (sym (onto-nil _)) }
 
 module _ {row room₀ room : List ℕ} {n : ℕ} {r : Reader} {i : ℕ} (so : Reading row room₀ room n r i) where
   pub reading-malformed : readFrom (length room₀ - n) r (drop i row) ≡ malformed → RowRead row room₀ Malformed room
@@ -112,8 +112,8 @@ module _ {row room₀ room : List ℕ} {n : ℕ} {r : Reader} {i : ℕ} (so : Re
   pub reading-whole : readFrom (length room₀ - n) r (drop i row) ≡ these [] → RowRead row room₀ (Count n) room
   unfolding onto
   reading-whole e =
-      let w = so .so-far ∙ ap (onto (take n room)) e ∙ ap these (append-nil (take n room)) in
-      record { numbers = sym w; kept = so .kept; within = so .within }
+      let by-append-nil = so .so-far ∙ ap (onto (take n room)) e ∙ ap these (append-nil (take n room)) in
+      record { numbers = sym by-append-nil; kept = so .kept; within = so .within }
 
   pub reading-on :
       i < length row →
@@ -132,7 +132,7 @@ module _ {row room₀ room : List ℕ} {n : ℕ} {r : Reader} {i : ℕ} (so : Re
       ≡ onto (replicate (r .times) (r .value)) (readFrom (length room₀ - n - r .times) fresh (drop (i + 1) row)) →
       Reading row room₀ room′ (n + r .times) fresh (i + 1)
   reading-ended h {room′} f t e =
-      let k : length room₀ - n - r .times ≡ length room₀ - (n + r .times) = omega arith in
+      let difference-is : length room₀ - n - r .times ≡ length room₀ - (n + r .times) = omega arith in
       record {
         inside = omega arith;
         kept = f .kept ∙ so .kept;
@@ -140,7 +140,7 @@ module _ {row room₀ room : List ℕ} {n : ℕ} {r : Reader} {i : ℕ} (so : Re
         so-far = so .so-far
             ∙ ap (onto (take n room)) e
             ∙ onto-onto (take n room) _ _
-            ∙ rw (← f .front, k) refl;
+            ∙ rw (← f .front, difference-is) refl;
       }
 
 -- where a row ends

@@ -73,8 +73,8 @@ module _ (w : ℕ → ℕ) where
   fits-cell o [] i h low high = absurd (omega arith)
   fits-cell o (x ∷ row) zero h low high = fits-stop w o x row (omega (arith, cells-more w x [], cells-none w, high))
   fits-cell o (x ∷ row) (suc i) h low high =
-      let a = cells-more w x (take i row) in
-      let b = cells-more w x (take (suc i) row) in
+      let by-cells-more = cells-more w x (take i row) in
+      let by-cells-more-w = cells-more w x (take (suc i) row) in
       fits-on w o x row (omega arith) ∙ rw (fits-cell (o - cellsOf w x) row i (le-of-suc-le-suc h) (omega arith) (omega arith))
 
 -- the walk of `fitting`, before character i with `left` cells left

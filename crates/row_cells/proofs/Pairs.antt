@@ -33,8 +33,8 @@ pub record PairsTo (col : ℕ) (segments : List ℕ) (k : ℕ) : Type 0 where
 module _ {col : ℕ} {segments : List ℕ} {k : ℕ} (so-far : PairsTo col segments k) where
   pair-at : k < length segments / 2 → drop (2 * k) segments ≡ getD segments (2 * k) 0 ∷ getD segments (2 * k + 1) 0 ∷ drop (2 * (k + 1)) segments
   pair-at h =
-      let n : 2 * (k + 1) ≡ 2 * k + 1 + 1 = omega arith in
-      rw (n, drop-at segments (2 * k) (omega arith), drop-at segments (2 * k + 1) (omega arith))
+      let product-is : 2 * (k + 1) ≡ 2 * k + 1 + 1 = omega arith in
+      rw (product-is, drop-at segments (2 * k) (omega arith), drop-at segments (2 * k + 1) (omega arith))
 
   pub pairs-next : k < length segments / 2 → (leb (getD segments (2 * k) 0) col && ltb col (getD segments (2 * k + 1) 0)) ≡ false → PairsTo col segments (k + 1)
   pairs-next h t =

@@ -11,5 +11,5 @@ use Rattle.row_columns.specs.Ready.{Ready}
 pub ready : {zeros doubles row : List ℕ} {tabstop tab : ℕ} → Widths zeros doubles → (length row ≤ 1048576) × (tabstop ≤ 1000) → tab ≡ stopOf tabstop →
     Ready zeros doubles row tab
 ready {tabstop = tabstop} lent fit e =
-    let s = stop-near tabstop (fit .1) e in
-    record { tables = record { widths = lent; stops = s .0; near = s .1 }; brief = fit .0 }
+    let by-stop-near = stop-near tabstop (fit .1) e in
+    record { tables = record { widths = lent; stops = by-stop-near .0; near = by-stop-near .1 }; brief = fit .0 }

@@ -51,9 +51,9 @@ module _ (w : ℕ → ℕ) (tab c : ℕ) where
           (v + cellsAt w tab v x ≤ c → Holds w tab (v + cellsAt w tab v x) row c (charFrom w tab (v + cellsAt w tab v x) row c)) →
           Holds w tab v (x ∷ row) c (charFrom w tab v (x ∷ row) c)
       go (yes l) rest =
-          let r = rest l in
+          let by-rest = rest l in
           rw (char-on w tab v c h x row l)
-          (record { within = omega (arith, r .within); low = rw visual-cons (r .low); high = λ k. rw visual-cons (r .high (omega arith)) })
+          (record { within = omega (arith, by-rest .within); low = rw visual-cons (by-rest .low); high = λ k. rw visual-cons (by-rest .high (omega arith)) })
       go (no l) rest =
           rw (char-here w tab v c h x row (omega arith))
           (record { within = omega arith; low = rw visual-zero h; high = λ k. rw (visual-cons, visual-zero) (omega arith) })
@@ -83,16 +83,16 @@ module _ {w : ℕ → ℕ} {tab : ℕ} {row : List ℕ} {c i visual : ℕ} (so-f
   module _ {cells : ℕ} (h : i < length row) (e : cells ≡ cellsAt w tab visual (getD row i 0)) where
     pub char-next : cells ≤ 1000 → visual + cells ≤ c → CharTo w tab row c (i + 1) (visual + cells)
     char-next most l =
-        let x = getD row i 0 in
+        let value = getD row i 0 in
         let step : charFrom w tab visual (drop i row) c ≡ suc (charFrom w tab (visual + cells) (drop (i + 1) row) c) =
-        rw (drop-at row i h, e) (char-on w tab visual c (so-far .low) x (drop (i + 1) row) (rw e at l)) in
+        rw (drop-at row i h, e) (char-on w tab visual c (so-far .low) value (drop (i + 1) row) (rw e at l)) in
         record { inside = omega arith; fits = omega (arith, so-far .fits); low = l; rest = omega (arith, so-far .rest, step) }
 
     pub char-stop : c < visual + cells → i ≡ charFrom w tab 0 row c
     char-stop l =
-        let x = getD row i 0 in
+        let value = getD row i 0 in
         let none : charFrom w tab visual (drop i row) c ≡ 0 =
-        rw (drop-at row i h) (char-here w tab visual c (so-far .low) x (drop (i + 1) row) (rw e at l)) in
+        rw (drop-at row i h) (char-here w tab visual c (so-far .low) value (drop (i + 1) row) (rw e at l)) in
         omega (arith, so-far .rest, none)
 
   pub char-end : length row ≤ i → i ≡ charFrom w tab 0 row c

@@ -90,14 +90,14 @@ module _ {w : ℕ → ℕ} {tab : ℕ} {row : List ℕ} {i visual : ℕ} (so-far
   pub visual-on :
       {cells : ℕ} → i < length row → cells ≡ cellsAt w tab visual (getD row i 0) → cells ≤ 1000 → VisualTo w tab row (i + 1) (visual + cells)
   visual-on {cells} h e most =
-      let v = so-far .here in
+      let its-here = so-far .here in
       let step = visual-step w tab 0 row i h in
-      record { inside = omega arith; here = rw (step, ← v, ← e); fits = omega (arith, so-far .fits) }
+      record { inside = omega arith; here = rw (step, ← its-here, ← e); fits = omega (arith, so-far .fits) }
 
   pub visual-stop : (col : ℕ) → i ≡ col → visual ≡ visualFrom w tab 0 row col
   visual-stop col e = so-far .here ∙ ap (visualFrom w tab 0 row) e
 
   pub visual-end : (col : ℕ) → length row ≤ i → i ≤ col → visual ≡ visualFrom w tab 0 row col
   visual-end col h k =
-      let e : i ≡ length row = omega (arith, so-far .inside) in
-      so-far .here ∙ ap (visualFrom w tab 0 row) e ∙ sym (visual-past w tab 0 row col (omega arith))
+      let i-is : i ≡ length row = omega (arith, so-far .inside) in
+      so-far .here ∙ ap (visualFrom w tab 0 row) i-is ∙ sym (visual-past w tab 0 row col (omega arith))

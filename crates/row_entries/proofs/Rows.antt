@@ -25,24 +25,25 @@ use Rattle.row_entries.specs.Entries.{entryWith, Held}
 -- a table that is not refused has its places, and is the text's, with its number
 both : (a b : Bool) → (a && b) ≡ true → (a ≡ true) × (b ≡ true)
 both true b e = (refl, e)
-both false b e = let z : _≡_ {A = Bool} false true = e in (cc, cc)
+both false b e = let never : _≡_ {A = Bool} false true = e in (cc, cc)
 
 pub table-held : (t starts : List ℕ) (rows content : ℕ) → textRefusal t ≡ 0 → rows ≡ rowCount t → tableRefusal (rowCount t) t starts content ≡ 0 →
     Held t starts rows content
 unfolding tableRefusal
 table-held t starts rows content good all z = go (ltb (length starts) (rowCount t)) (isTable t starts content) refl refl z
   where
-    go : (a b : Bool) → ltb (length starts) (rowCount t) ≡ a → isTable t starts content ≡ b → _≡_ {A = ℕ} (cond a 15 (cond b 0 16)) 0 → Held t starts rows content
+    go : (a b : Bool) → ltb (length starts) (rowCount t) ≡ a → isTable t starts content ≡ b → _≡_ {A = ℕ} (cond a 15 (cond b 0 16)) 0 →
+        Held t starts rows content
     go true b e f h = absurd (omega (arith, h))
     go false false e f h = absurd (omega (arith, h))
     go false true e f h =
-        let w = both (isSame (take (rowCount t) starts) (rowStarts t)) (eqb content (contentRows t)) f in
+        let by-both = both (isSame (take (rowCount t) starts) (rowStarts t)) (eqb content (contentRows t)) f in
         record {
           good = good;
           all-rows = all;
           fits = omega (arith, ltb-false (length starts) (rowCount t) e);
-          table = same-true _ _ (w .0);
-          count = eqb-true content (contentRows t) (w .1);
+          table = same-true _ _ (by-both .0);
+          count = eqb-true content (contentRows t) (by-both .1);
         }
 
 module _ {t starts : List ℕ} {rows content row : ℕ} (h : Held t starts rows content) (inside : row < rows) where
@@ -54,8 +55,8 @@ module _ {t starts : List ℕ} {rows content row : ℕ} (h : Held t starts rows 
 
   pub end-last : rows ≤ row + 1 → length t ≡ rowStart t row + rowLen t row
   end-last l =
-      let q : rowCount t - 1 ≡ row = omega (arith, h .all-rows) in
-      rw q at (at-last t .offset)
+      let row-count-less-one : rowCount t - 1 ≡ row = omega (arith, h .all-rows) in
+      rw row-count-less-one at (at-last t .offset)
 
 -- an entry that is refused, by its number
 refused-entry : (t : List ℕ) (p : Position) → (refusalAt t p ≡ 0 → ⊥) → entryOf t p ≡ refusedBy (refusalAt t p)
@@ -70,8 +71,8 @@ module _ (t starts : List ℕ) (content : ℕ) (p : Position) {e : Entry} where
 
   pub with-entered : e ≡ entryOf t p → (e .refusal ≡ 0 → ⊥) → e ≡ entryWith t starts content p
   with-entered is n =
-      let q : refusalAt t p ≡ e .refusal = sym (entry-number t p e is) in
-      with-refused (is ∙ refused-entry t p (λ z. n (sym q ∙ z)) ∙ ap refusedBy q) q n
+      let refusal-is : refusalAt t p ≡ e .refusal = sym (entry-number t p e is) in
+      with-refused (is ∙ refused-entry t p (λ z. n (sym refusal-is ∙ z)) ∙ ap refusedBy refusal-is) refusal-is n
 
   module _ {g : ℕ} (number : g ≡ tableRefusal (rowCount t) t starts content) where
     pub with-table : g ≡ 0 → e ≡ entryOf t p → e ≡ entryWith t starts content p

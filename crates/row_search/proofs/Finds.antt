@@ -46,8 +46,8 @@ module _ (row : List ℕ) (col x : ℕ) (till skip : Bool) where
 
     pub ahead-past : {i : ℕ} → f ≡ At i → 0 < i
     ahead-past {i} s =
-        let b = (skip && till) && (ltb (col + 1) (length row) && is row x (col + 1)) in
-        let p : col + 1 ≤ startAhead row col x (skip && till) = either-ge b (col + 2) (col + 1) (col + 1) (omega arith) (omega arith) in
+        let test = (skip && till) && (ltb (col + 1) (length row) && is row x (col + 1)) in
+        let col-plus-one-at-most : col + 1 ≤ startAhead row col x (skip && till) = either-ge test (col + 2) (col + 1) (col + 1) (omega arith) (omega arith) in
         omega (arith, first-told (is row x) from (length row) i (sym g ∙ s) .from)
 
   -- and so to the left
@@ -79,10 +79,16 @@ pub find-within : (row : List ℕ) (col x : ℕ) (forward till skip : Bool) {j :
     → findOnRow row col x forward till skip ≡ At j → j ≤ length row
 unfolding findAhead findBack
 find-within row col x true till skip h e =
-    let m = landed (λ i. cond till (i - 1) i) _ e in
-    let f = first-told (is row x) (startAhead row col x (skip && till)) (length row) (m .0) (m .1) in
-    omega (arith, m .2, either-le till (m .0 - 1) (m .0) (m .0) (omega arith) (omega arith), f .below)
+    let by-landed = landed (λ i. cond till (i - 1) i) _ e in
+    let by-first-told = first-told (is row x) (startAhead row col x (skip && till)) (length row) (by-landed .0) (by-landed .1) in
+    omega (arith, by-landed .2, either-le till (by-landed .0 - 1) (by-landed .0) (by-landed .0) (omega arith) (omega arith), by-first-told .below)
 find-within row col x false till skip h e =
-    let m = landed (λ i. cond till (i + 1) i) _ e in
-    let f = last-told (is row x) (startBack row col x (skip && till)) (m .0) (m .1) in
-    omega (arith, m .2, either-le till (m .0 + 1) (m .0) (m .0 + 1) (omega arith) (omega arith), f .below, back-within row col x till skip refl)
+    let by-landed = landed (λ i. cond till (i + 1) i) _ e in
+    let by-last-told = last-told (is row x) (startBack row col x (skip && till)) (by-landed .0) (by-landed .1) in
+    omega (
+      arith,
+      by-landed .2,
+      either-le till (by-landed .0 + 1) (by-landed .0) (by-landed .0 + 1) (omega arith) (omega arith),
+      by-last-told .below,
+      back-within row col x till skip refl,
+    )

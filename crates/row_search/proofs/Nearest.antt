@@ -11,7 +11,7 @@ use Rattle.row_search.specs.Nearest.{firstFrom, firstIn, lastBelow}
 
 -- a test does not both pass and fail, and two that pass together pass
 pub never : {b : Bool} → b ≡ true → b ≡ false → ⊥
-never e f = let z : true ≡ false = sym e ∙ f in let y : _≡_ {A = ℕ} 0 1 = cc in omega arith
+never e f = let nonsense : true ≡ false = sym e ∙ f in let impossible : _≡_ {A = ℕ} 0 1 = cc in omega arith
 
 pub both : (a b : Bool) → (a && b) ≡ true → (a ≡ true) × (b ≡ true)
 both true b e = (refl, e)
@@ -20,7 +20,7 @@ both false b e = absurd (never e refl)
 module _ (p : ℕ → Bool) where
   from-suc : (i b : ℕ) → i < b → firstIn p i b ≡ cond (p i) (At i) (firstIn p (i + 1) b)
   unfolding firstFrom
-  from-suc i b h = let e : b - i ≡ suc (b - (i + 1)) = omega arith in rw (e, add-one)
+  from-suc i b h = let difference-is : b - i ≡ suc (b - (i + 1)) = omega arith in rw (difference-is, add-one)
 
   pub first-on : (i b : ℕ) → i < b → p i ≡ false → firstIn p i b ≡ firstIn p (i + 1) b
   first-on i b h e = from-suc i b h ∙ rw e
@@ -30,7 +30,7 @@ module _ (p : ℕ → Bool) where
 
   pub first-end : (i b : ℕ) → b ≤ i → firstIn p i b ≡ Nothing
   unfolding firstFrom
-  first-end i b h = let e : b - i ≡ 0 = omega arith in rw e
+  first-end i b h = let difference-is : b - i ≡ 0 = omega arith in rw difference-is
 
   pub last-on : (i : ℕ) → 0 < i → p (i - 1) ≡ false → lastBelow p i ≡ lastBelow p (i - 1)
   unfolding lastBelow
@@ -44,7 +44,7 @@ module _ (p : ℕ → Bool) where
 
   pub last-end : (i : ℕ) → i ≤ 0 → lastBelow p i ≡ Nothing
   unfolding lastBelow
-  last-end i h = let e : i ≡ 0 = omega arith in rw e
+  last-end i h = let i-is : i ≡ 0 = omega arith in rw i-is
 
 -- two tests that agree where they are asked
 module _ (p q : ℕ → Bool) where

@@ -15,7 +15,7 @@ pub at-once : {i j : ℕ} → At i ≡ At j → i ≡ j
 at-once e = cc
 
 pub at-some : {i : ℕ} → At i ≡ Nothing → ⊥
-at-some e = let z : _≡_ {A = ℕ} 0 1 = cc in omega arith
+at-some e = let never : _≡_ {A = ℕ} 0 1 = cc in omega arith
 
 -- what an answer says: j passes, it lies between a and b, and no place between it and where the search began passes
 pub record First (p : ℕ → Bool) (a b j : ℕ) : Type 0 where
@@ -47,30 +47,35 @@ module _ (p : ℕ → Bool) where
       on : ((p i ≡ true) × (i ≡ j)) ⊎ ((p i ≡ false) × (firstFrom p (suc i) n ≡ At j)) → (firstFrom p (suc i) n ≡ At j → First p (suc i) (suc i + n) j)
           → First p i (i + suc n) j
       on (inl h) ih =
-          let q = h .1 in
-          record { from = omega arith; below = omega arith; passes = rw (← q) (h .0); none = λ m l g. absurd (omega arith) }
+          let second-part = h .1 in
+          record { from = omega arith; below = omega arith; passes = rw (← second-part) (h .0); none = λ m l g. absurd (omega arith) }
       on (inr h) ih =
-          let d = ih (h .1) in
+          let by-ih = ih (h .1) in
           record {
-            from = omega (arith, d .from);
-            below = omega (arith, d .below);
-            passes = d .passes;
-            none = λ m l g. ⊎-elim (λ q. rw (← q) (h .0)) (λ q. d .none m q g) (eq-or-lt-of-le l);
+            from = omega (arith, by-ih .from);
+            below = omega (arith, by-ih .below);
+            passes = by-ih .passes;
+            none = λ m l g. ⊎-elim (λ q. rw (← q) (h .0)) (λ q. by-ih .none m q g) (eq-or-lt-of-le l);
           }
 
   first-nowhere : (n i : ℕ) → firstFrom p i n ≡ Nothing → (m : ℕ) → i ≤ m → m < i + n → p m ≡ false
   unfolding firstFrom
   first-nowhere zero i e m l h = absurd (omega arith)
   first-nowhere (suc n) i e m l h =
-      let d = neither i (p i) e in
-      ⊎-elim (λ q. rw (← q) (d .0)) (λ q. first-nowhere n (suc i) (d .1) m q (omega arith)) (eq-or-lt-of-le l)
+      let by-neither = neither i (p i) e in
+      ⊎-elim (λ q. rw (← q) (by-neither .0)) (λ q. first-nowhere n (suc i) (by-neither .1) m q (omega arith)) (eq-or-lt-of-le l)
 
   -- the first from a up to b
   module _ (a b : ℕ) where
     pub first-told : (j : ℕ) → firstIn p a b ≡ At j → First p a b j
     first-told j e =
-        let d = first-there (b - a) a j e in
-        record { from = d .from; below = omega (arith, d .from, d .below); passes = d .passes; none = d .none }
+        let by-first-there = first-there (b - a) a j e in
+        record {
+          from = by-first-there .from;
+          below = omega (arith, by-first-there .from, by-first-there .below);
+          passes = by-first-there .passes;
+          none = by-first-there .none;
+        }
 
     pub first-none : firstIn p a b ≡ Nothing → (m : ℕ) → a ≤ m → m < b → p m ≡ false
     first-none e m l h = first-nowhere (b - a) a e m l (omega arith)
@@ -83,19 +88,19 @@ module _ (p : ℕ → Bool) where
     where
       on : ((p b ≡ true) × (b ≡ j)) ⊎ ((p b ≡ false) × (lastBelow p b ≡ At j)) → (lastBelow p b ≡ At j → Last p b j) → Last p (suc b) j
       on (inl h) ih =
-          let q = h .1 in
-          record { below = omega arith; passes = rw (← q) (h .0); none = λ m l g. absurd (omega arith) }
+          let second-part = h .1 in
+          record { below = omega arith; passes = rw (← second-part) (h .0); none = λ m l g. absurd (omega arith) }
       on (inr h) ih =
-          let d = ih (h .1) in
+          let by-ih = ih (h .1) in
           record {
-            below = omega (arith, d .below);
-            passes = d .passes;
-            none = λ m l g. ⊎-elim (λ q. rw q (h .0)) (λ q. d .none m l q) (eq-or-lt-of-le (le-of-suc-le-suc g));
+            below = omega (arith, by-ih .below);
+            passes = by-ih .passes;
+            none = λ m l g. ⊎-elim (λ q. rw q (h .0)) (λ q. by-ih .none m l q) (eq-or-lt-of-le (le-of-suc-le-suc g));
           }
 
   pub last-none : (b : ℕ) → lastBelow p b ≡ Nothing → (m : ℕ) → m < b → p m ≡ false
   unfolding lastBelow
   last-none zero e m h = absurd (omega arith)
   last-none (suc b) e m h =
-      let d = neither b (p b) e in
-      ⊎-elim (λ q. rw q (d .0)) (λ q. last-none b (d .1) m q) (eq-or-lt-of-le (le-of-suc-le-suc h))
+      let by-neither = neither b (p b) e in
+      ⊎-elim (λ q. rw q (by-neither .0)) (λ q. last-none b (by-neither .1) m q) (eq-or-lt-of-le (le-of-suc-le-suc h))

@@ -63,8 +63,8 @@ module _ (w : ℕ → ℕ) (white : ℕ → Bool) (word : Bool) (width : ℕ) (r
   -- one of the two it is
   pub first-cases :
       let i = charSegment w width row in
-      let k = firstSegment w white word width row in
-      (k ≡ i) ⊎ ((i < length row) × (0 < k) × (k ≡ afterWhite white row i))
+      let first-segment = firstSegment w white word width row in
+      (first-segment ≡ i) ⊎ ((i < length row) × (0 < first-segment) × (first-segment ≡ afterWhite white row i))
   first-cases = go word refl (decLt i (length row)) (decLt 0 (afterWhite white row i))
     where
       i : ℕ
@@ -82,7 +82,7 @@ module _ (w : ℕ → ℕ) (white : ℕ → Bool) (word : Bool) (width : ℕ) (r
       go true e (yes d) (yes p) = let is = first-word e d p in inr (d, omega arith, is)
 
   -- it is not empty, no longer than what a break by characters takes, and fits the width or is one character
-  first-most : let k = firstSegment w white word width row in (0 < k) × (k ≤ charSegment w width row)
+  first-most : let first-segment = firstSegment w white word width row in (0 < first-segment) × (first-segment ≤ charSegment w width row)
   first-most =
       ⊎-elim (λ e. (omega (arith, char-pos w width row), omega arith))
       (λ m. (m .1, omega (arith, m .2, white-last white row (charSegment w width row) (le-of-lt (m .0)) .within))) first-cases
@@ -94,7 +94,7 @@ module _ (w : ℕ → ℕ) (white : ℕ → Bool) (word : Bool) (width : ℕ) (r
   first-within h = omega (arith, first-most .1, char-within w width row h)
 
   -- it fits the width, or is one character
-  pub first-fits : let k = firstSegment w white word width row in (cellsIn w (take k row) ≤ width) ⊎ (k ≡ 1)
+  pub first-fits : let first-segment = firstSegment w white word width row in (cellsIn w (take first-segment row) ≤ width) ⊎ (first-segment ≡ 1)
   first-fits = go (ℕ-discrete (fits w width row) 0)
     where
       k : ℕ
@@ -103,5 +103,5 @@ module _ (w : ℕ → ℕ) (white : ℕ → Bool) (word : Bool) (width : ℕ) (r
       go : Dec (fits w width row ≡ 0) → (cellsIn w (take k row) ≤ width) ⊎ (k ≡ 1)
       go (yes e) = inr (omega (arith, first-most .0, first-most .1, char-alone w width row e))
       go (no n) =
-          let c = char-is w width row (omega arith) in
+          let by-char-is = char-is w width row (omega arith) in
           inl (omega (arith, cells-rises w row k (fits w width row) (omega (arith, first-most .1)), fits-fills w width row .inside))

@@ -26,6 +26,6 @@ module _ (w : ℕ → ℕ) (white : ℕ → Bool) (word : Bool) (width : ℕ) (r
 
     pub found-word : word ≡ true → n < length row → (k ≡ 0 → ⊥) → (k ≡ firstSegment w white word width row) × ((0 < k) × (k ≤ length row))
     found-word e h p =
-        let l = last-is in
-        let b = white-last white row n (omega arith) .within in
-        (l ∙ sym (first-word w white word width row e (omega arith) (omega arith)), (omega arith, omega arith))
+        let by-last-is = last-is in
+        let by-white-last = white-last white row n (omega arith) .within in
+        (by-last-is ∙ sym (first-word w white word width row e (omega arith) (omega arith)), (omega arith, omega arith))

@@ -50,11 +50,11 @@ module _ (t : List ℕ) (rows : ℕ) (starts : List ℕ) where
 module _ (t starts : List ℕ) where
   pub table-by-places : rowCount t ≤ length starts → ((j : ℕ) → j < rowCount t → getD starts j 0 ≡ rowStart t j) → take (rowCount t) starts ≡ rowStarts t
   table-by-places h each =
-      let n = length-take-le (rowCount t) starts h in
-      ext-getD 0 (take (rowCount t) starts) (rowStarts t) (n ∙ sym (rows-length t))
+      let by-length-take-le = length-take-le (rowCount t) starts h in
+      ext-getD 0 (take (rowCount t) starts) (rowStarts t) (by-length-take-le ∙ sym (rows-length t))
       (λ j l.
-      let k : j < rowCount t = omega arith in
-      getD-take (rowCount t) starts j 0 k ∙ each j k ∙ sym (rows-read t j k))
+      let j-below : j < rowCount t = omega arith in
+      getD-take (rowCount t) starts j 0 j-below ∙ each j j-below ∙ sym (rows-read t j j-below))
 
   module _ (e : take (rowCount t) starts ≡ rowStarts t) (j : ℕ) (h : j < rowCount t) where
     pub table-place : getD starts j 0 ≡ rowStart t j
@@ -82,30 +82,31 @@ pub record Ascend (t starts : List ℕ) (i last : ℕ) : Type 0 where
 
 pub ascend-first : (t starts : List ℕ) → getD starts 0 0 ≡ 0 → Ascend t starts 1 0
 ascend-first t starts e =
-    let f : Stands t 0 (getD starts 0 0) (getD starts 0 0) = rw e (first-line t) in
-    let z : rowOf t (getD starts 0 0) ≡ 0 = stands-row f in
+    let stands : Stands t 0 (getD starts 0 0) (getD starts 0 0) = rw e (first-line t) in
+    let row-is : rowOf t (getD starts 0 0) ≡ 0 = stands-row stands in
     record {
       some = omega arith;
       last-is = sym e;
       marks =
           λ j h.
-          let q : 0 ≡ j = omega arith in
-          subst (λ (x : ℕ). Mark t starts 1 x) q (record { begins = rw z f; low = omega arith; high = omega arith });
+          let j-is : 0 ≡ j = omega arith in
+          subst (λ (x : ℕ). Mark t starts 1 x) j-is (record { begins = rw row-is stands; low = omega arith; high = omega arith });
     }
 
 module _ {t starts : List ℕ} {i last : ℕ} (a : Ascend t starts i last) where
   module _ (above : last < getD starts i 0) (within : getD starts i 0 ≤ length t) (behind : getD t (getD starts i 0 - 1) 0 ≡ 10) where
     there : Stands t (rowOf t (getD starts i 0)) (getD starts i 0) (getD starts i 0)
     there =
-        let b = row-there t (getD starts i 0) within in
-        let z = behind-nl b (omega arith) behind .0 in
-        at-stands b (getD starts i 0) (omega (arith, b .offset))
+        let by-row-there = row-there t (getD starts i 0) within in
+        let by-behind-nl = behind-nl by-row-there (omega arith) behind .0 in
+        at-stands by-row-there (getD starts i 0) (omega (arith, by-row-there .offset))
 
     before : Mark t starts i (i - 1)
     before = a .marks (i - 1) (omega (arith, a .some))
 
     further : rowOf t (getD starts (i - 1) 0) < rowOf t (getD starts i 0)
-    further = go (decLt (rowOf t (getD starts (i - 1) 0)) (rowOf t (getD starts i 0))) (ℕ-discrete (rowOf t (getD starts (i - 1) 0)) (rowOf t (getD starts i 0)))
+    further =
+        go (decLt (rowOf t (getD starts (i - 1) 0)) (rowOf t (getD starts i 0))) (ℕ-discrete (rowOf t (getD starts (i - 1) 0)) (rowOf t (getD starts i 0)))
       where
         go : Dec (rowOf t (getD starts (i - 1) 0) < rowOf t (getD starts i 0)) → Dec (rowOf t (getD starts (i - 1) 0) ≡ rowOf t (getD starts i 0)) →
             rowOf t (getD starts (i - 1) 0) < rowOf t (getD starts i 0)
@@ -113,14 +114,20 @@ module _ {t starts : List ℕ} {i last : ℕ} (a : Ascend t starts i last) where
         go (no m) (yes e) = absurd (omega (arith, a .last-is, there .begins, before .begins .begins, ap (rowStart t) e))
         go (no m) (no n) =
             absurd
-            (omega (arith, a .last-is, there .begins, before .begins .begins, rows-apart t (rowOf t (getD starts i 0)) (rowOf t (getD starts (i - 1) 0)) (omega arith) (before .begins .in-row)))
+            (omega (
+              arith,
+              a .last-is,
+              there .begins,
+              before .begins .begins,
+              rows-apart t (rowOf t (getD starts i 0)) (rowOf t (getD starts (i - 1) 0)) (omega arith) (before .begins .in-row),
+            ))
 
     pub ascend-next : Ascend t starts (i + 1) (getD starts i 0)
     ascend-next =
-        let q : i + 1 - 1 ≡ i = omega arith in
+        let sum-is : i + 1 - 1 ≡ i = omega arith in
         record {
           some = omega arith;
-          last-is = rw q;
+          last-is = rw sum-is;
           marks = λ j h. mark j h (ℕ-discrete j i);
         }
       where
@@ -131,8 +138,8 @@ module _ {t starts : List ℕ} {i last : ℕ} (a : Ascend t starts i last) where
         mark j h (yes e) =
             rw e (record { begins = there; low = omega (arith, before .low, further, a .some); high = rw q (omega arith) })
         mark j h (no n) =
-            let m = a .marks j (omega arith) in
-            record { begins = m .begins; low = m .low; high = rw q (omega (arith, m .high, further, a .some)) }
+            let by-marks = a .marks j (omega arith) in
+            record { begins = by-marks .begins; low = by-marks .low; high = rw q (omega (arith, by-marks .high, further, a .some)) }
 
   -- no more than there are rows
   pub ascend-few : i ≤ rowCount t
@@ -146,6 +153,6 @@ module _ {t starts : List ℕ} {i last : ℕ} (a : Ascend t starts i last) where
       let top = a .marks (i - 1) (omega (arith, a .some)) in
       table-by-places t starts h
       (λ j l.
-      let m = a .marks j (omega arith) in
-      let q : rowOf t (getD starts j 0) ≡ j = omega (arith, m .low, m .high, top .begins .in-row) in
-      m .begins .begins ∙ ap (rowStart t) q)
+      let by-marks = a .marks j (omega arith) in
+      let row-is : rowOf t (getD starts j 0) ≡ j = omega (arith, by-marks .low, by-marks .high, top .begins .in-row) in
+      by-marks .begins .begins ∙ ap (rowStart t) row-is)

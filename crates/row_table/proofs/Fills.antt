@@ -32,6 +32,6 @@ module _ (t starts : List ℕ) where
         FillsTo t starts (Rows content) starts′
     unfolding fillRefusal replaced
     fill-done h {content} {starts′} e o =
-        let q : 0 + length (rowStarts t) ≡ rowCount t = omega (arith, rows-length t) in
-        let left : starts′ ≡ tableOf t starts = rw q at (o .left) in
+        let sum-is : 0 + length (rowStarts t) ≡ rowCount t = omega (arith, rows-length t) in
+        let left : starts′ ≡ tableOf t starts = rw sum-is at (o .left) in
         record { answer = rw (accepted, le-ltb _ _ h) (ap Rows e); table = rw (accepted, le-ltb _ _ h) left }

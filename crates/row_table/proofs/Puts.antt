@@ -28,8 +28,8 @@ module _ (l : List ℕ) (n x : ℕ) (r : List ℕ) (e : drop n l ≡ x ∷ r) wh
 
   next-read : getD l n 0 ≡ x
   next-read =
-      let z : n + 0 ≡ n = omega arith in
-      rw z at (sym (getD-drop n l 0 0)) ∙ ap (λ (q : List ℕ). getD q 0 0) e
+      let n-plus-zero : n + 0 ≡ n = omega arith in
+      rw n-plus-zero at (sym (getD-drop n l 0 0)) ∙ ap (λ (q : List ℕ). getD q 0 0) e
 
   next-rest : drop (n + 1) l ≡ r
   next-rest = sym (drop-drop 1 n l) ∙ ap (drop 1) e
@@ -50,15 +50,20 @@ module _ {e : List ℕ} {place at : ℕ} {part : List ℕ} {n i : ℕ} {buf : Li
 
     pub putting-room : place + n < length buf
     putting-room =
-        omega (arith, next-inside (startsFrom at part) n (at + (i + 1)) (startsFrom (at + (i + 1)) (drop (i + 1) part)) is-next, p .written .fits, p .written .size)
+        omega (
+          arith,
+          next-inside (startsFrom at part) n (at + (i + 1)) (startsFrom (at + (i + 1)) (drop (i + 1) part)) is-next,
+          p .written .fits,
+          p .written .size,
+        )
 
     pub putting-nl : Putting e place at part (n + 1) (i + 1) (set buf (place + n) (at + (i + 1)))
     putting-nl =
-        let l = startsFrom at part in
+        let starts = startsFrom at part in
         let r = startsFrom (at + (i + 1)) (drop (i + 1) part) in
         record {
-          written = up-next (p .written) (next-inside l n (at + (i + 1)) r is-next) (sym (next-read l n (at + (i + 1)) r is-next));
-          rest = next-rest l n (at + (i + 1)) r is-next;
+          written = up-next (p .written) (next-inside starts n (at + (i + 1)) r is-next) (sym (next-read starts n (at + (i + 1)) r is-next));
+          rest = next-rest starts n (at + (i + 1)) r is-next;
           inside = omega arith;
           few = omega (arith, p .few);
         }

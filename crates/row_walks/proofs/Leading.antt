@@ -40,8 +40,8 @@ module _ (t : List ℕ) where
   pub round-in : (fwd skip : Bool) (row rest : ℕ) → Room fwd row rest → EndsIn t (roundFrom t fwd skip row rest)
   unfolding roundFrom
   round-in fwd skip row zero h =
-      let l = line-at t row (room-row fwd row 0 h) in
-      choice-in ((skip || not (isVoid t row)) && isVoid t row) (Found (lineAt t row)) (RanOff (lineAt t row)) l l
+      let by-line-at = line-at t row (room-row fwd row 0 h) in
+      choice-in ((skip || not (isVoid t row)) && isVoid t row) (Found (lineAt t row)) (RanOff (lineAt t row)) by-line-at by-line-at
   round-in fwd skip row (suc rest) h =
       choice-in ((skip || not (isVoid t row)) && isVoid t row) (Found (lineAt t row)) _ (line-at t row (room-row fwd row (suc rest) h))
       (round-in fwd (skip || not (isVoid t row)) (onward fwd row) rest (room-on fwd row rest h))

@@ -106,9 +106,9 @@ module _ {t : List ℕ} {fwd skip : Bool} {last from row start : ℕ} (g : Round
         pub rounding-on : (l : Line) → l ≡ lineAt t (onward fwd (castOf row)) →
             Rounding t fwd last from (ofZ w64 (nextOf row d)) (l .start) (skip || not v)
         rounding-on l h =
-            let s : l .start ≡ rowStart t (onward fwd row) = ap (λ (x : Line). x .start) h ∙ ap (λ (r : ℕ). rowStart t (onward fwd r)) own in
+            let start-is : l .start ≡ rowStart t (onward fwd row) = ap (λ (x : Line). x .start) h ∙ ap (λ (r : ℕ). rowStart t (onward fwd r)) own in
             record {
-              line = rw (next, s) (line-at t (onward fwd row) inside);
+              line = rw (next, start-is) (line-at t (onward fwd row) inside);
               is-last = g .is-last;
               brief = g .brief;
               same = g .same ∙ round-on t fwd skip row (rw void at e) (rowsLeft fwd last row) left ∙ rw (next, rest-less fwd last row, void);

@@ -52,8 +52,8 @@ fits-step false row h = go (decLt 0 row)
     go : Dec (0 < row) → SFits w64 (pos row +ℤ negsuc 0)
     go (yes p) = rw (up-is row p) (fits-pos (row - 1) (omega arith))
     go (no n) =
-        let z : row ≡ 0 = omega arith in
-        rw z (record { sfits = omega arith })
+        let row-is : row ≡ 0 = omega arith in
+        rw row-is (record { sfits = omega arith })
 
 -- the rows that are left in a direction tell whether the next one is outside
 module _ (last row : ℕ) where
@@ -108,7 +108,7 @@ module _ (fwd : Bool) (last row : ℕ) (near : row ≤ last + 1) (most : last �
         go (yes z) = z
         go (no n) =
             let clash : false ≡ true = sym (next-inside last row fwd near (omega arith)) ∙ outside ∙ e in
-            let z : _≡_ {A = ℕ} 0 1 = cc in
+            let never : _≡_ {A = ℕ} 0 1 = cc in
             absurd (omega arith)
 
     pub inside-rest : b ≡ false → 0 < rowsLeft fwd last row
@@ -117,7 +117,7 @@ module _ (fwd : Bool) (last row : ℕ) (near : row ≤ last + 1) (most : last �
         go : Dec (rowsLeft fwd last row ≡ 0) → 0 < rowsLeft fwd last row
         go (yes z) =
             let clash : true ≡ false = sym (next-outside last row fwd z) ∙ outside ∙ e in
-            let o : _≡_ {A = ℕ} 0 1 = cc in
+            let never : _≡_ {A = ℕ} 0 1 = cc in
             absurd (omega arith)
         go (no n) = omega arith
 

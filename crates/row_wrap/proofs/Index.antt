@@ -20,15 +20,15 @@ pub record Found (col : ℕ) (segments : List ℕ) (k : ℕ) : Type 0 where
 
 found-earlier : {col s e k : ℕ} {rest : List ℕ} → Found col (s ∷ e ∷ rest) (suc k) → Found col rest k
 found-earlier {col} {s} {e} {k} {rest} f =
-    let n : 2 * suc k ≡ suc (suc (2 * k)) = omega arith in
-    let m : 2 * suc k + 1 ≡ suc (suc (2 * k + 1)) = omega arith in
-    record { there = omega (arith, f .there); low = rw n at (f .low); high = rw m at (f .high) }
+    let product-is : 2 * suc k ≡ suc (suc (2 * k)) = omega arith in
+    let sum-is : 2 * suc k + 1 ≡ suc (suc (2 * k + 1)) = omega arith in
+    record { there = omega (arith, f .there); low = rw product-is at (f .low); high = rw sum-is at (f .high) }
 
 found-later : {col s e k : ℕ} {rest : List ℕ} → Found col rest k → Found col (s ∷ e ∷ rest) (suc k)
 found-later {col} {s} {e} {k} {rest} f =
-    let n : 2 * suc k ≡ suc (suc (2 * k)) = omega arith in
-    let m : 2 * suc k + 1 ≡ suc (suc (2 * k + 1)) = omega arith in
-    record { there = omega (arith, f .there); low = rw n (f .low); high = rw m (f .high) }
+    let product-is : 2 * suc k ≡ suc (suc (2 * k)) = omega arith in
+    let sum-is : 2 * suc k + 1 ≡ suc (suc (2 * k + 1)) = omega arith in
+    record { there = omega (arith, f .there); low = rw product-is (f .low); high = rw sum-is (f .high) }
 
 tiles-find : (a z : ℕ) (segments : List ℕ) (col : ℕ) → Tiles a z segments → a ≤ col → col < z → Found col segments (pairsBefore col segments)
 tiles-find a z [] col t h l = absurd (omega arith)
@@ -53,16 +53,16 @@ tiles-past : (a z : ℕ) (segments : List ℕ) (col : ℕ) → Tiles a z segment
 tiles-past a z [] col t h = omega (arith, pair-none col [] (omega arith))
 tiles-past a z (s ∷ []) col t h = absurd t
 tiles-past a z (s ∷ e ∷ rest) col t h =
-    let l = tiles-rise e z rest (t .2) in
-    let p = pair-passed col s e rest (rw (le-ltb col e (omega arith)) (and-false (leb s col))) in
-    omega (arith, p, tiles-past e z rest col (t .2) h)
+    let by-tiles-rise = tiles-rise e z rest (t .2) in
+    let by-pair-passed = pair-passed col s e rest (rw (le-ltb col e (omega arith)) (and-false (leb s col))) in
+    omega (arith, by-pair-passed, tiles-past e z rest col (t .2) h)
 
 -- so the index given is that of the segment that holds the column, and of the last one past the end
 pub index-finds : (z : ℕ) (segments : List ℕ) (col : ℕ) → Tiles 0 z segments → col < z → Found col segments (segmentIndex segments col)
 index-finds z segments col t h =
-    let f = tiles-find 0 z segments col t (omega arith) h in
-    let e : segmentIndex segments col ≡ pairsBefore col segments = omega (arith, f .there) in
-    rw e f
+    let by-tiles-find = tiles-find 0 z segments col t (omega arith) h in
+    let segment-index-is : segmentIndex segments col ≡ pairsBefore col segments = omega (arith, by-tiles-find .there) in
+    rw segment-index-is by-tiles-find
 
 pub index-last : (z : ℕ) (segments : List ℕ) (col : ℕ) → Tiles 0 z segments → z ≤ col → segmentIndex segments col ≡ length segments / 2 - 1
 index-last z segments col t h = omega (arith, tiles-past 0 z segments col t h)
@@ -77,8 +77,8 @@ tiles-start a z [] k t h = absurd (omega arith)
 tiles-start a z (s ∷ []) k t h = absurd t
 tiles-start a z (s ∷ e ∷ rest) zero t h = omega (arith, t .0)
 tiles-start a z (s ∷ e ∷ rest) (suc k) t h =
-    let n : 2 * suc k ≡ suc (suc (2 * k)) = omega arith in
-    rw n (omega (arith, t .0, t .1, tiles-start e z rest k (t .2) (omega arith)))
+    let product-is : 2 * suc k ≡ suc (suc (2 * k)) = omega arith in
+    rw product-is (omega (arith, t .0, t .1, tiles-start e z rest k (t .2) (omega arith)))
 
 found-first : (a z : ℕ) (segments : List ℕ) (col k : ℕ) → Tiles a z segments → Found col segments k → pairsBefore col segments ≡ k
 found-first a z [] col k t f = absurd (omega (arith, f .there))
@@ -86,7 +86,7 @@ found-first a z (s ∷ []) col k t f = absurd t
 found-first a z (s ∷ e ∷ rest) col zero t f = pair-holds col s e rest (rw (le-leb s col (f .low), lt-ltb col e (f .high)))
 found-first a z (s ∷ e ∷ rest) col (suc k) t f =
     let later = found-earlier f in
-    let l = tiles-start e z rest k (t .2) (later .there) in
+    let by-tiles-start = tiles-start e z rest k (t .2) (later .there) in
     pair-passed col s e rest (rw (le-ltb col e (omega (arith, later .low))) (and-false (leb s col))) ∙
     ap suc (found-first e z rest col k (t .2) later)
 

@@ -32,8 +32,8 @@ filled-one :
     {l room₀ room : List ℕ} {at v : ℕ} → FilledTo l room₀ at room → at < length l → length l ≤ length room₀ →
     getD l at 0 ≡ v → FilledTo l room₀ (at + 1) (set room at v)
 filled-one {l} {room₀} {room} {at} {v} so-far h fit e =
-    let n : length (take at l) ≡ at = length-take-le at l (omega arith) in
-    let seam = set-at (take at l) (getD room₀ at 0) (drop (suc at) room₀) (getD l at 0) at n in
+    let size-is : length (take at l) ≡ at = length-take-le at l (omega arith) in
+    let seam = set-at (take at l) (getD room₀ at 0) (drop (suc at) room₀) (getD l at 0) at size-is in
     let to : set room at v ≡ take (at + 1) l ++ drop (at + 1) room₀ =
     rw (so-far .left, ← e, add-one, drop-cons room₀ at 0 (omega arith), seam, take-suc l at 0 h)
     (sym (append-snoc (take at l) (getD l at 0) (drop (suc at) room₀))) in
@@ -45,8 +45,8 @@ module _ {l room₀ room : List ℕ} {at : ℕ} (so-far : FilledTo l room₀ at 
       {a b : ℕ} → at + 2 ≤ length l → length l ≤ length room₀ → getD l at 0 ≡ a → getD l (at + 1) 0 ≡ b →
       FilledTo l room₀ (at + 2) (set (set room at a) (at + 1) b)
   filled-two {a} {b} h fit e f =
-      let n : at + 2 ≡ at + 1 + 1 = omega arith in
-      rw n (filled-one (filled-one so-far (omega arith) fit e) (omega arith) fit f)
+      let at-plus-two : at + 2 ≡ at + 1 + 1 = omega arith in
+      rw at-plus-two (filled-one (filled-one so-far (omega arith) fit e) (omega arith) fit f)
 
   pub filled-end : at ≡ length l → room ≡ filled l room₀
   filled-end e = so-far .left ∙ rw e (ap (λ (f : List ℕ). f ++ drop (length l) room₀) (take-all (length l) l (omega arith)))
@@ -94,8 +94,9 @@ wrap-row row segments room n = rw (ne-eqb (rowRefusal row) 0 n)
 module _ (a : Ambiguous) (mode : Wrap) (width : ℕ) (row : List ℕ) {f : ℕ} (given : f ≡ rowRefusal row) where
   pub wrapped-refused : (room : List ℕ) → (f ≡ 0 → ⊥) → Wraps a mode width row room (Refused f) room
   wrapped-refused room n =
-      let m : rowRefusal row ≡ 0 → ⊥ = λ e. n (given ∙ e) in
-      rw (wrap-row row (segmentsOf (widthAs a) isWhite mode width row) room m, ← given) (record { answer = refused-is f _ n; left = rw (ne-eqb f 0 n) })
+      let row-refusal-not : rowRefusal row ≡ 0 → ⊥ = λ e. n (given ∙ e) in
+      rw (wrap-row row (segmentsOf (widthAs a) isWhite mode width row) room row-refusal-not, ← given)
+      (record { answer = refused-is f _ n; left = rw (ne-eqb f 0 n) })
 
   pub wrapped-is :
       {segments room room′ : List ℕ} {r : Segments} → f ≡ 0 → segmentsOf (widthAs a) isWhite mode width row ≡ segments → Fitted segments room r room′ →

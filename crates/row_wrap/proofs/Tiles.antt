@@ -31,10 +31,10 @@ module _ (w : ℕ → ℕ) (white : ℕ → Bool) (word : Bool) (width : ℕ) wh
   tiles-left left i [] h e f = omega arith
   tiles-left (suc left) i (x ∷ row) h e f = tiles-left left (suc i) row (le-of-suc-le-suc h) (omega arith) (omega arith)
   tiles-left zero i (x ∷ row) h e f =
-      let k = firstSegment w white word width (x ∷ row) in
-      let p = first-pos w white word width (x ∷ row) in
-      let q = first-within w white word width (x ∷ row) (omega arith) in
-      (omega arith, omega arith, tiles-left (k - 1) (suc i) row (omega arith) (omega arith) (omega arith))
+      let first-segment = firstSegment w white word width (x ∷ row) in
+      let by-first-pos = first-pos w white word width (x ∷ row) in
+      let by-first-within = first-within w white word width (x ∷ row) (omega arith) in
+      (omega arith, omega arith, tiles-left (first-segment - 1) (suc i) row (omega arith) (omega arith) (omega arith))
 
   -- the segments of a row go from 0 to its count
   pub segments-tile : (row : List ℕ) → Tiles 0 (length row) (segmentsFrom w white word width 0 0 row)
@@ -45,8 +45,8 @@ module _ (w : ℕ → ℕ) (white : ℕ → Bool) (word : Bool) (width : ℕ) wh
       ((j : ℕ) → j < length (x ∷ row) → P (i + j) (i + j + firstSegment w white word width (drop j (x ∷ row)))) →
       (j : ℕ) → j < length row → P (suc i + j) (suc i + j + firstSegment w white word width (drop j row))
   next P i x row p j h =
-      let e : i + suc j ≡ suc i + j = omega arith in
-      subst (λ (n : ℕ). P n (n + firstSegment w white word width (drop j row))) e (p (suc j) (omega arith))
+      let sum-is : i + suc j ≡ suc i + j = omega arith in
+      subst (λ (n : ℕ). P n (n + firstSegment w white word width (drop j row))) sum-is (p (suc j) (omega arith))
 
   each-left :
       (P : ℕ → ℕ → Type 0) (left i : ℕ) (row : List ℕ) →
@@ -56,8 +56,8 @@ module _ (w : ℕ → ℕ) (white : ℕ → Bool) (word : Bool) (width : ℕ) wh
   each-left P left i [] p = tt
   each-left P (suc left) i (x ∷ row) p = each-left P left (suc i) row (next P i x row p)
   each-left P zero i (x ∷ row) p =
-      let k = firstSegment w white word width (x ∷ row) in
-      (subst (λ (n : ℕ). P n (n + k)) (add-zero i) (p 0 (omega arith)), each-left P (k - 1) (suc i) row (next P i x row p))
+      let first-segment = firstSegment w white word width (x ∷ row) in
+      (subst (λ (n : ℕ). P n (n + first-segment)) (add-zero i) (p 0 (omega arith)), each-left P (first-segment - 1) (suc i) row (next P i x row p))
 
   -- each segment is the first of the row's rest, and so has what the first segment of any row has
   pub segments-each :
@@ -70,8 +70,8 @@ module _ (w : ℕ → ℕ) (white : ℕ → Bool) (word : Bool) (width : ℕ) wh
   pub segments-fit : (row : List ℕ) → Each (λ s e. (cellsIn w (part row s e) ≤ width) ⊎ (e ≡ s + 1)) (segmentsFrom w white word width 0 0 row)
   segments-fit row = segments-each (λ s e. (cellsIn w (part row s e) ≤ width) ⊎ (e ≡ s + 1)) row (λ s h. each s h)
     where
-      each : (s : ℕ) → s < length row → let e = s + firstSegment w white word width (drop s row) in (cellsIn w (part row s e) ≤ width) ⊎ (e ≡ s + 1)
+      each : (s : ℕ) → s < length row → let sum = s + firstSegment w white word width (drop s row) in (cellsIn w (part row s sum) ≤ width) ⊎ (sum ≡ s + 1)
       each s h =
-          let k = firstSegment w white word width (drop s row) in
-          let n : s + k - s ≡ k = omega arith in
-          ⊎-map (λ l. rw n l) (λ q. ap (λ (m : ℕ). s + m) q) (first-fits w white word width (drop s row))
+          let first-segment = firstSegment w white word width (drop s row) in
+          let sum-is : s + first-segment - s ≡ first-segment = omega arith in
+          ⊎-map (λ l. rw sum-is l) (λ q. ap (λ (m : ℕ). s + m) q) (first-fits w white word width (drop s row))

@@ -34,14 +34,14 @@ module _ (w : ℕ → ℕ) where
 
       all : cellsIn w (take k row) + cellsIn w (take (n - k) (drop k row)) ≤ width
       all =
-          let e : k + (n - k) ≡ n = omega arith in
-          let s = ap (λ (l : List ℕ). cellsIn w l) (sym (take-add k (n - k) row) ∙ ap (λ (j : ℕ). take j row) e) in
-          omega (arith, cells-append (take k row) (take (n - k) (drop k row)), s, fits-fills w width row .inside)
+          let sum-is : k + (n - k) ≡ n = omega arith in
+          let same = ap (λ (l : List ℕ). cellsIn w l) (sym (take-add k (n - k) row) ∙ ap (λ (j : ℕ). take j row) sum-is) in
+          omega (arith, cells-append (take k row) (take (n - k) (drop k row)), same, fits-fills w width row .inside)
 
       go : Dec (n ≤ k + m) → n ≤ k + m
       go (yes l) = l
       go (no l) =
-          let d = length-drop k row in
+          let by-length-drop = length-drop k row in
           let full = fits-fills w width (drop k row) .full (omega (arith, fits-fills w width row .within)) in
           absurd (omega (arith, all, full, cells-rises w (drop k row) (suc m) (n - k) (omega arith)))
 
@@ -58,8 +58,8 @@ module _ (w : ℕ → ℕ) (white : ℕ → Bool) (word : Bool) (width : ℕ) (r
           absurd (true≢false (sym t ∙ ap white (getD-drop k row (l - 1) 0) ∙ none))
 
   pub walked-twice :
-      let k = firstSegment w white word width row in
-      charSegment w width row ≤ k + firstSegment w white word width (drop k row)
+      let first-segment = firstSegment w white word width row in
+      charSegment w width row ≤ first-segment + firstSegment w white word width (drop first-segment row)
   walked-twice = ⊎-elim (λ e. omega arith) (λ m. go m (ℕ-discrete (fits w width row) 0)) (first-cases w white word width row)
     where
       i : ℕ
@@ -82,8 +82,8 @@ module _ (w : ℕ → ℕ) (white : ℕ → Bool) (word : Bool) (width : ℕ) (r
       go : (i < length row) × (0 < k) × (k ≡ afterWhite white row i) → Dec (fits w width row ≡ 0) → i ≤ k + l
       go m (yes z) = omega (arith, m .1, char-alone w width row z)
       go m (no z) =
-          let c = char-is w width row (omega arith) in
-          let b = white-last white row i (le-of-lt (m .0)) .within in
+          let by-char-is = char-is w width row (omega arith) in
+          let by-white-last = white-last white row i (le-of-lt (m .0)) .within in
           let again = fits-again w width row k (omega (arith, m .2)) in
           ⊎-elim (λ e. omega (arith, again, le-max-right 1 (fits w width rest)))
           (λ n. no-white i k l (le-of-lt (m .0)) (m .2) (n .1) (behind n))

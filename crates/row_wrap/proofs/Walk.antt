@@ -30,20 +30,20 @@ module _ (w : ℕ → ℕ) (white : ℕ → Bool) (word : Bool) (width : ℕ) wh
   -- the first segment, and then those of the rest
   pub segments-step :
       (i : ℕ) (row : List ℕ) → 0 < length row →
-      let k = firstSegment w white word width row in
-      segmentsFrom w white word width 0 i row ≡ i ∷ (i + k) ∷ segmentsFrom w white word width 0 (i + k) (drop k row)
+      let first-segment = firstSegment w white word width row in
+      segmentsFrom w white word width 0 i row ≡ i ∷ (i + first-segment) ∷ segmentsFrom w white word width 0 (i + first-segment) (drop first-segment row)
   unfolding segmentsFrom
   segments-step i [] h = absurd (omega arith)
   segments-step i (x ∷ row) h =
-      let k = firstSegment w white word width (x ∷ row) in
-      let p = first-pos w white word width (x ∷ row) in
-      let e : k ≡ suc (k - 1) = omega arith in
-      let n : suc i + (k - 1) ≡ i + k = omega arith in
-      let d : drop k (x ∷ row) ≡ drop (k - 1) row = ap (λ (m : ℕ). drop m (x ∷ row)) e in
-      ap (λ (l : List ℕ). i ∷ (i + k) ∷ l)
-      (segments-skip (k - 1) (suc i) row (omega (arith, first-within w white word width (x ∷ row) h)) ∙
-      ap (λ (m : ℕ). segmentsFrom w white word width 0 m (drop (k - 1) row)) n ∙
-      ap (segmentsFrom w white word width 0 (i + k)) (sym d))
+      let first-segment = firstSegment w white word width (x ∷ row) in
+      let by-first-pos = first-pos w white word width (x ∷ row) in
+      let k-is : first-segment ≡ suc (first-segment - 1) = omega arith in
+      let sum-is : suc i + (first-segment - 1) ≡ i + first-segment = omega arith in
+      let same-rest : drop first-segment (x ∷ row) ≡ drop (first-segment - 1) row = ap (λ (m : ℕ). drop m (x ∷ row)) k-is in
+      ap (λ (l : List ℕ). i ∷ (i + first-segment) ∷ l)
+      (segments-skip (first-segment - 1) (suc i) row (omega (arith, first-within w white word width (x ∷ row) h)) ∙
+      ap (λ (m : ℕ). segmentsFrom w white word width 0 m (drop (first-segment - 1) row)) sum-is ∙
+      ap (segmentsFrom w white word width 0 (i + first-segment)) (sym same-rest))
 
 -- the walk over the segments of a row: `at` numbers of the list are passed, and the next segment begins at `start`
 pub record SegmentsTo (w : ℕ → ℕ) (white : ℕ → Bool) (word : Bool) (width : ℕ) (row : List ℕ) (at start : ℕ) : Type 0 where
@@ -66,7 +66,7 @@ two-there :
     (l rest : List ℕ) (at a b : ℕ) → at ≤ length l → drop at l ≡ a ∷ b ∷ rest →
     (at + 2 ≤ length l) × (getD l at 0 ≡ a) × (getD l (at + 1) 0 ≡ b) × (drop (at + 2) l ≡ rest)
 two-there l rest at a b h e =
-    let n = ap length e in (
+    let same-size = ap length e in (
       omega (arith, length-drop at l),
       ap (λ (m : ℕ). getD l m 0) (sym (add-zero at)) ∙ sym (getD-drop at l 0 0) ∙ ap (λ (r : List ℕ). getD r 0 0) e,
       sym (getD-drop at l 1 0) ∙ ap (λ (r : List ℕ). getD r 1 0) e,
@@ -82,12 +82,12 @@ module _ {w : ℕ → ℕ} {white : ℕ → Bool} {word : Bool} {width : ℕ} {r
       {k : ℕ} → start < length row → k ≡ firstSegment w white word width (take (length row - start) (drop start row)) →
       NextSegment w white word width row at start (start + k)
   walk-next {k} h slice =
-      let e = slice ∙ ap (firstSegment w white word width) (rest-is row start) in
-      let l = segmentsFrom w white word width 0 0 row in
-      let n = length-drop start row in
+      let by-rest-is = slice ∙ ap (firstSegment w white word width) (rest-is row start) in
+      let segments = segmentsFrom w white word width 0 0 row in
+      let by-length-drop = length-drop start row in
       let step = segments-step w white word width start (drop start row) (omega arith) in
       let after = segmentsFrom w white word width 0 (start + k) (drop k (drop start row)) in
-      let two = two-there l after at start (start + k) (so-far .within) (so-far .rest ∙ rw e step) in
+      let two = two-there segments after at start (start + k) (so-far .within) (so-far .rest ∙ rw by-rest-is step) in
       record {
         first = two .1;
         second = two .2;
@@ -103,12 +103,12 @@ module _ {w : ℕ → ℕ} {white : ℕ → Bool} {word : Bool} {width : ℕ} {r
 
   pub walk-end : length row ≤ start → at ≡ length (segmentsFrom w white word width 0 0 row)
   walk-end h =
-      let l = segmentsFrom w white word width 0 0 row in
-      let none : drop at l ≡ [] = so-far .rest ∙ rw (drop-of-length-le row h) (segments-none w white word width 0 start) in
-      omega (arith, so-far .within, length-drop at l, ap length none)
+      let segments = segmentsFrom w white word width 0 0 row in
+      let none : drop at segments ≡ [] = so-far .rest ∙ rw (drop-of-length-le row h) (segments-none w white word width 0 start) in
+      omega (arith, so-far .within, length-drop at segments, ap length none)
 
   -- with n segments passed, one more
   pub walk-count : (n : ℕ) {end : ℕ} → at ≡ 2 * n → NextSegment w white word width row at start end → SegmentsTo w white word width row (2 * (n + 1)) end
   walk-count n e next =
-      let m : 2 * (n + 1) ≡ at + 2 = omega arith in
-      rw m (next .onward)
+      let product-is : 2 * (n + 1) ≡ at + 2 = omega arith in
+      rw product-is (next .onward)

@@ -48,12 +48,13 @@ module _ (t folds : List ℕ) (lay : List ℕ → List ℕ) (down : Bool) where
       into (Row x) e = segment-inside offset x _ (toward-within folds (rowCount t) down (p .row) x (i .in-row) e)
       into NoRow e = i
 
-      go : (b : Bool) → let q = cond b (onSegment t lay offset (p .row) (shift down (seatOf t lay p) 1))
-          (entered t lay down offset p (toward folds (rowCount t) down (p .row))) in Inside t (q .row) (q .col)
+      go : (b : Bool) → let choice = cond b (onSegment t lay offset (p .row) (shift down (seatOf t lay p) 1))
+          (entered t lay down offset p (toward folds (rowCount t) down (p .row))) in Inside t (choice .row) (choice .col)
       go true = segment-inside offset (p .row) (shift down (seatOf t lay p) 1) (i .in-row)
       go false = into (toward folds (rowCount t) down (p .row)) refl
 
-pub jump-inside : (t folds : List ℕ) (down : Bool) (p : Position) → Inside t (p .row) (p .col) → Inside t (jumped t folds down p .row) (jumped t folds down p .col)
+pub jump-inside : (t folds : List ℕ) (down : Bool) (p : Position) → Inside t (p .row) (p .col) →
+    Inside t (jumped t folds down p .row) (jumped t folds down p .col)
 jump-inside t folds down p i = go (closedFoldAt folds (rowCount t) (contentRows t) (p .row)) refl
   where
     near : (rowCount t ≤ contentRows t + 1) × (contentRows t ≤ rowCount t) × (0 < contentRows t)
@@ -73,22 +74,23 @@ jump-inside t folds down p i = go (closedFoldAt folds (rowCount t) (contentRows 
 -- a whole call, with an offset or without one
 pub kept-inside : (w : ℕ → ℕ) (t folds : List ℕ) (tabstop row col : ℕ) (sticky : Sticky) (offset : Offset) (mode : Wrap) (width : ℕ) (down : Bool) (count : ℕ) →
     Inside t row col →
-    let p = moveScreenKept w t folds tabstop mode width down count row col sticky offset .target in Inside t (p .row) (p .col)
+    let move-screen-kept = moveScreenKept w t folds tabstop mode width down count row col sticky offset .target in
+    Inside t (move-screen-kept .row) (move-screen-kept .col)
 kept-inside w t folds tabstop row col sticky offset mode width down count i = go (eqb width 0 || isNone mode)
   where
-    starts : (o : Offset) → let q = startsAt t folds down o (record { row = row; col = col }) in Inside t (q .row) (q .col)
+    starts : (o : Offset) → let the-starts = startsAt t folds down o (record { row = row; col = col }) in Inside t (the-starts .row) (the-starts .col)
     starts Absent = jump-inside t folds down (record { row = row; col = col }) i
     starts (At x) = i
 
-    go : (b : Bool) → let p = cond b (unkept (moveVertical w t folds tabstop (deltaOf down count) row col sticky))
-        (screenKept w t folds tabstop (segmentsOf w isWhite mode width) down count row col sticky offset) .target in Inside t (p .row) (p .col)
+    go : (b : Bool) → let choice = cond b (unkept (moveVertical w t folds tabstop (deltaOf down count) row col sticky))
+        (screenKept w t folds tabstop (segmentsOf w isWhite mode width) down count row col sticky offset) .target in Inside t (choice .row) (choice .col)
     go true = rows-inside w t folds tabstop row col sticky (deltaOf down count) i
     go false = rounds-keep (λ q. Inside t (q .row) (q .col)) _ (round-inside t folds _ down _) (max count 1) _ (starts offset)
 
 -- and so of `gj` and `gk`
 pub move-inside : (w : ℕ → ℕ) (t folds : List ℕ) (tabstop row col : ℕ) (sticky : Sticky) (mode : Wrap) (width : ℕ) (down : Bool) (count : ℕ) →
     Inside t row col →
-    let p = moveScreen w t folds tabstop mode width down count row col sticky in Inside t (p .row) (p .col)
+    let move-screen = moveScreen w t folds tabstop mode width down count row col sticky in Inside t (move-screen .row) (move-screen .col)
 move-inside w t folds tabstop row col sticky mode width down count i =
     subst (λ (p : Target). Inside t (p .row) (p .col)) (absent-target w t folds tabstop mode width down count row col sticky)
     (kept-inside w t folds tabstop row col sticky Absent mode width down count i)

@@ -55,33 +55,35 @@ module _ (w : ℕ → ℕ) (t folds : List ℕ) (tabstop : ℕ) (mode : Wrap) (w
 
   -- where rows are broken: so many rounds and then so many more, with the sticky column and the offset that the first left
   broken-adds : (m n row col : ℕ) (sticky : Sticky) (offset : Offset) → 0 < m → 0 < n →
-      let p = screenKept w t folds tabstop lay down m row col sticky offset in
-      screenKept w t folds tabstop lay down n (p .target .row) (p .target .col) (Sticky·At (p .target .want)) (p .offset) ≡
+      let screen-kept = screenKept w t folds tabstop lay down m row col sticky offset in
+      screenKept w t folds tabstop lay down n (screen-kept .target .row) (screen-kept .target .col) (Sticky·At (screen-kept .target .want))
+      (screen-kept .offset) ≡
       screenKept w t folds tabstop lay down (m + n) row col sticky offset
   broken-adds m n row col sticky offset h k =
       let want = wantedCol w t tabstop row col sticky in
       let from = startsAt t folds down offset (record { row = row; col = col }) in
       let kept = glided t folds lay down (max m 1) offset from .offset in
-      let f : Position → Position = stepScreen t folds lay down kept in
+      let position : Position → Position = stepScreen t folds lay down kept in
       let first : max m 1 ≡ m = omega arith in
       let second : max n 1 ≡ n = omega arith in
       let both : max (m + n) 1 ≡ m + n = omega arith in
       ap (λ (q : Position). record { target = landedAt want q; offset = At kept })
-      (ap (λ (x : ℕ). rounds f (max n 1) (rounds f x from)) first ∙
-      ap (λ (x : ℕ). rounds f x (rounds f m from)) second ∙
-      sym (rounds-add f m n from) ∙
-      ap (λ (x : ℕ). rounds f x from) (sym both))
+      (ap (λ (x : ℕ). rounds position (max n 1) (rounds position x from)) first ∙
+      ap (λ (x : ℕ). rounds position x (rounds position m from)) second ∙
+      sym (rounds-add position m n from) ∙
+      ap (λ (x : ℕ). rounds position x from) (sym both))
 
   pub kept-adds : (m n row col : ℕ) (sticky : Sticky) (offset : Offset) → 0 < m → 0 < n →
-      let p = moveScreenKept w t folds tabstop mode width down m row col sticky offset in
-      moveScreenKept w t folds tabstop mode width down n (p .target .row) (p .target .col) (Sticky·At (p .target .want)) (p .offset) ≡
+      let move-screen-kept = moveScreenKept w t folds tabstop mode width down m row col sticky offset in
+      moveScreenKept w t folds tabstop mode width down n (move-screen-kept .target .row) (move-screen-kept .target .col)
+      (Sticky·At (move-screen-kept .target .want)) (move-screen-kept .offset) ≡
       moveScreenKept w t folds tabstop mode width down (m + n) row col sticky offset
   kept-adds m n row col sticky offset h k = go (eqb width 0 || isNone mode)
     where
       by : Bool → ℕ → ℕ → ℕ → Sticky → Offset → Kept
       by b count r c s o = cond b (unkept (rowsTo count r c s)) (screenKept w t folds tabstop lay down count r c s o)
 
-      go : (b : Bool) → let p = by b m row col sticky offset in
-          by b n (p .target .row) (p .target .col) (Sticky·At (p .target .want)) (p .offset) ≡ by b (m + n) row col sticky offset
+      go : (b : Bool) → let here = by b m row col sticky offset in
+          by b n (here .target .row) (here .target .col) (Sticky·At (here .target .want)) (here .offset) ≡ by b (m + n) row col sticky offset
       go true = ap unkept (vertical-adds w t folds tabstop down m n row col sticky h k)
       go false = broken-adds m n row col sticky offset h k

@@ -47,8 +47,8 @@ module _ (w : ℕ → ℕ) (t : List ℕ) (word : Bool) (width : ℕ) (down : Bo
 
     pub part-starts : part .start ≤ rowLen t r
     part-starts =
-        let e = ap (λ (x : Part). x .start) part-is in
-        rw e (start-within (laid w (modeOf word) width (rowAt t r)) _ there)
+        let same-start = ap (λ (x : Part). x .start) part-is in
+        rw same-start (start-within (laid w (modeOf word) width (rowAt t r)) _ there)
 
     pub place-is : (offset col : ℕ) → col ≡ clampTo (part .start) (part .end) offset (length line) →
         record { row = r; col = col } ≡ placeAt t (layOf w word width) down offset r a
@@ -76,10 +76,10 @@ module _ (w : ℕ → ℕ) (t : List ℕ) (word : Bool) (width : ℕ) (down : Bo
     pub seat-made : (a o : ℕ) → a ≡ aheadOf down count (part .index) → o ≡ col - part .start →
         record { ahead = a; offset = o } ≡ seatAt t (layOf w word width) down (record { row = r; col = col })
     seat-made a o e q =
-        let x = e ∙ ap (λ (n : ℕ). aheadOf down n (part .index)) seat-count ∙
+        let by-seat-count = e ∙ ap (λ (n : ℕ). aheadOf down n (part .index)) seat-count ∙
         ap (λ (y : Part). aheadOf down (segmentCount (layOf w word width (rowAt t r))) (y .index)) seat-part in
-        let z = q ∙ ap (λ (y : Part). col - y .start) seat-part in
-        λ i. record { ahead = x i; offset = z i }
+        let by-seat-part = q ∙ ap (λ (y : Part). col - y .start) seat-part in
+        λ i. record { ahead = by-seat-count i; offset = by-seat-part i }
 
 -- the rounds from a place are those from its spot, whatever offset is kept, and where nothing lies ahead the place stays
 module _ (w : ℕ → ℕ) (t folds : List ℕ) (word : Bool) (width : ℕ) (down : Bool) (n : ℕ) (h : 0 < n) (p : Position) (offset : ℕ) {a : ℕ}

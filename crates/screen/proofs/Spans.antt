@@ -35,20 +35,21 @@ module _ (folds : List ℕ) (rows content : ℕ) (some : 0 < content) (most : co
       go NoRow e = omega arith
 
   from-first : (down : Bool) (v : Visible) → ((x : ℕ) → v ≡ Row x → x < rows) → (a b : ℕ) → closedFrom folds rows content v ≡ Of a b → cond down b a < rows
-  from-first down NoRow f a b e = let q : _≡_ {A = ℕ} 0 1 = cc in absurd (omega arith)
+  from-first down NoRow f a b e = let never : _≡_ {A = ℕ} 0 1 = cc in absurd (omega arith)
   from-first down (Row first) f a b e = go (hidden folds (first + 1)) down e
     where
       go : (s d : Bool) → cond s (Of first (lastBefore content (nextVisible folds rows first))) NoSpan ≡ Of a b → cond d b a < rows
-      go false d w = let q : _≡_ {A = ℕ} 0 1 = cc in absurd (omega arith)
-      go true true w = let q : lastBefore content (nextVisible folds rows first) ≡ b = cc in rw q at (last-inside first (f first refl))
-      go true false w = let q : first ≡ a = cc in rw q at (f first refl)
+      go false d w = let never : _≡_ {A = ℕ} 0 1 = cc in absurd (omega arith)
+      go true true w =
+          let last-before-is : lastBefore content (nextVisible folds rows first) ≡ b = cc in rw last-before-is at (last-inside first (f first refl))
+      go true false w = let first-is : first ≡ a = cc in rw first-is at (f first refl)
 
   pub end-within : (down : Bool) (row a b : ℕ) → row < rows → closedFoldAt folds rows content row ≡ Of a b → cond down b a < rows
   end-within down row a b h e = go (hidden folds row) refl
     where
       go : (s : Bool) → hidden folds row ≡ s → cond down b a < rows
       go true s = from-first down (prevVisible folds row) (λ x v. omega (arith, prev-within folds row x v)) a b (rw s at e)
-      go false s = from-first down (Row row) (λ x v. let q : row ≡ x = cc in omega arith) a b (rw s at e)
+      go false s = from-first down (Row row) (λ x v. let row-is : row ≡ x = cc in omega arith) a b (rw s at e)
 
 module _ (t : List ℕ) (l : Line) (col row : ℕ) where
   pub jump-own : IsLine t l → col ≤ 1048576 → row ≡ l .row → JumpedTo t (jumpedTo t (record { row = l .row; col = col }) row)
@@ -59,9 +60,9 @@ module _ (t : List ℕ) (l : Line) (col row : ℕ) where
       (m : Line) (len c : ℕ) → row < rowCount t → col ≤ 1048576 → (row ≡ l .row → ⊥) → m ≡ lineAt t row → len ≡ rowLen t (m .row) → c ≡ min col (len - 1) →
       JumpedTo t (jumpedTo t (record { row = l .row; col = col }) row) (record { row = m .row; start = m .start; col = c })
   jump-other m len c h n e q s w =
-      let r : m .row ≡ row = ap (λ (x : Line). x .row) q in
-      let k : c ≡ min col (rowLen t row - 1) = w ∙ ap (λ (x : ℕ). min col (x - 1)) (s ∙ ap (rowLen t) r) in
-      (rw (ne-eqb row (l .row) e) (λ i. record { row = r i; col = k i }), line-there t m row q h, omega (arith, w))
+      let row-is : m .row ≡ row = ap (λ (x : Line). x .row) q in
+      let c-is : c ≡ min col (rowLen t row - 1) = w ∙ ap (λ (x : ℕ). min col (x - 1)) (s ∙ ap (rowLen t) row-is) in
+      (rw (ne-eqb row (l .row) e) (λ i. record { row = row-is i; col = c-is i }), line-there t m row q h, omega (arith, w))
 
 -- the jump, by what the calls find
 module _ (t folds : List ℕ) (down : Bool) (p : Position) {rows content : ℕ} {s : Span} (all : rows ≡ rowCount t) (con : content ≡ contentRows t)

@@ -98,9 +98,9 @@ module _ {w : ℕ → ℕ} {word : Bool} {width : ℕ} {row : List ℕ} {col ind
 seek-empty : (w : ℕ → ℕ) (word : Bool) (width : ℕ) (row : List ℕ) (col index : ℕ) → length row ≡ 0 →
     record { index = 0; start = 0; end = 0 } ≡ partFor (layOf w word width row) col index
 seek-empty w word width row col index e =
-    let v = laid w (modeOf word) width row .void e in
-    let z : min index (segmentIndex (0 ∷ 0 ∷ []) col) ≡ 0 = omega arith in
-    rw (v, z)
+    let by-laid = laid w (modeOf word) width row .void e in
+    let least-is : min index (segmentIndex (0 ∷ 0 ∷ []) col) ≡ 0 = omega arith in
+    rw (by-laid, least-is)
 
 -- a walk that ends behind the row had nothing to walk
 pub seek-void :

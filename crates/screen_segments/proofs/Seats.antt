@@ -32,13 +32,18 @@ tiles-long z (s ∷ e ∷ rest) h t = omega arith
 
 pub laid : (w : ℕ → ℕ) (mode : Wrap) (width : ℕ) (row : List ℕ) → Laid (length row) (segmentsOf w isWhite mode width row)
 laid w mode width [] =
-    let e = wrap-empty w isWhite mode width in
-    rw e (record { pairs = refl; some = omega arith; tiles = λ h. absurd (omega arith); void = λ h. refl })
+    let by-wrap-empty = wrap-empty w isWhite mode width in
+    rw by-wrap-empty (record { pairs = refl; some = omega arith; tiles = λ h. absurd (omega arith); void = λ h. refl })
 laid w mode width (x ∷ row) =
     let segs = segmentsOf w isWhite mode width (x ∷ row) in
-    let t = wrap-tiles w isWhite mode width (x ∷ row) (omega arith) in
-    let p = wrap-even w isWhite mode width (x ∷ row) (omega arith) in
-    record { pairs = p; some = omega (arith, tiles-long (length (x ∷ row)) segs (omega arith) t); tiles = λ h. t; void = λ h. absurd (omega arith) }
+    let by-wrap-tiles = wrap-tiles w isWhite mode width (x ∷ row) (omega arith) in
+    let by-wrap-even = wrap-even w isWhite mode width (x ∷ row) (omega arith) in
+    record {
+      pairs = by-wrap-even;
+      some = omega (arith, tiles-long (length (x ∷ row)) segs (omega arith) by-wrap-tiles);
+      tiles = λ h. by-wrap-tiles;
+      void = λ h. absurd (omega arith);
+    }
 
 -- segment k stands between a and z, is not empty, and begins where all columns before it are in segments before it
 pub record Within (a z : ℕ) (segs : List ℕ) (k : ℕ) : Type 0 where
@@ -58,17 +63,21 @@ tiles-within a z (s ∷ []) k t h = absurd t
 tiles-within a z (s ∷ e ∷ rest) zero t h =
     record { low = omega (arith, t .0); long = t .1; high = rises e z rest (t .2); after = λ col l. omega arith }
 tiles-within a z (s ∷ e ∷ rest) (suc k) t h =
-    let n : 2 * suc k ≡ suc (suc (2 * k)) = omega arith in
-    let m : 2 * suc k + 1 ≡ suc (suc (2 * k + 1)) = omega arith in
-    let w = tiles-within e z rest k (t .2) (omega arith) in
+    let product-is : 2 * suc k ≡ suc (suc (2 * k)) = omega arith in
+    let sum-is : 2 * suc k + 1 ≡ suc (suc (2 * k + 1)) = omega arith in
+    let by-tiles-within = tiles-within e z rest k (t .2) (omega arith) in
     record {
-      low = rw n (omega (arith, t .0, t .1, w .low));
-      long = rw (m, n) (w .long);
-      high = rw m (w .high);
+      low = rw product-is (omega (arith, t .0, t .1, by-tiles-within .low));
+      long = rw (sum-is, product-is) (by-tiles-within .long);
+      high = rw sum-is (by-tiles-within .high);
       after =
           λ col l.
-          let l2 : getD rest (2 * k) 0 ≤ col = rw n at l in
-          omega (arith, pair-passed col s e rest (rw (le-ltb col e (omega (arith, w .low))) (and-false (leb s col))), w .after col l2);
+          let l2 : getD rest (2 * k) 0 ≤ col = rw product-is at l in
+          omega (
+            arith,
+            pair-passed col s e rest (rw (le-ltb col e (omega (arith, by-tiles-within .low))) (and-false (leb s col))),
+            by-tiles-within .after col l2,
+          );
     }
 
 module _ {len : ℕ} {segs : List ℕ} (l : Laid len segs) where
@@ -78,10 +87,14 @@ module _ {len : ℕ} {segs : List ℕ} (l : Laid len segs) where
     where
       go : Dec (0 < len) → segmentIndex segs (clampTo (getD segs (2 * j) 0) (getD segs (2 * j + 1) 0) offset len) ≡ j
       go (yes p) =
-          let w = tiles-within 0 len segs j (l .tiles p) (omega (arith, l .pairs)) in
-          rw (lt-ltb _ _ (w .long))
+          let by-tiles-within = tiles-within 0 len segs j (l .tiles p) (omega (arith, l .pairs)) in
+          rw (lt-ltb _ _ (by-tiles-within .long))
           (index-only len segs _ j (l .tiles p)
-          (record { there = omega (arith, l .pairs); low = omega (arith, w .long, w .high); high = omega (arith, w .long, w .high) }))
+          (record {
+            there = omega (arith, l .pairs);
+            low = omega (arith, by-tiles-within .long, by-tiles-within .high);
+            high = omega (arith, by-tiles-within .long, by-tiles-within .high);
+          }))
       go (no n) = omega (arith, ap (λ (s : List ℕ). length s / 2) (l .void (omega arith)))
 
   -- and stands inside the row
@@ -111,9 +124,9 @@ module _ {len : ℕ} {segs : List ℕ} (l : Laid len segs) where
     where
       go : Dec (0 < len) → getD segs (2 * j) 0 ≤ len
       go (yes p) =
-          let w = tiles-within 0 len segs j (l .tiles p) (omega (arith, l .pairs)) in
-          omega (arith, w .long, w .high)
+          let by-tiles-within = tiles-within 0 len segs j (l .tiles p) (omega (arith, l .pairs)) in
+          omega (arith, by-tiles-within .long, by-tiles-within .high)
       go (no n) =
-          let v = l .void (omega arith) in
-          let z : j ≡ 0 = omega (arith, ap (λ (s : List ℕ). length s / 2) v) in
-          rw (z, v) (omega arith)
+          let by-void = l .void (omega arith) in
+          let j-is : j ≡ 0 = omega (arith, ap (λ (s : List ℕ). length s / 2) by-void) in
+          rw (j-is, by-void) (omega arith)

@@ -105,9 +105,14 @@ lines-most : (t : List ℕ) (k : Caret) (rs : List (List ℕ)) → length (lines
 unfolding linesOf size
 lines-most t k [] = omega arith
 lines-most t k (row ∷ rest) =
-    let m = turned t k row in
-    let c = caretAfter k m in
-    omega (arith, length-append (lineOf (shownOf (keyPart row) m) c) (linesOf t c rest), line-most t k row c, lines-most t c rest)
+    let turned-here = turned t k row in
+    let caret-after = caretAfter k turned-here in
+    omega (
+      arith,
+      length-append (lineOf (shownOf (keyPart row) turned-here) caret-after) (linesOf t caret-after rest),
+      line-most t k row caret-after,
+      lines-most t caret-after rest,
+    )
 
 -- the room is enough: all lines of an input that is taken
 pub lines-fit : (t input : List ℕ) → length input ≤ 16384 → length (outputOf t input) ≤ 393240

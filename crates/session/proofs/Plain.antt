@@ -72,20 +72,21 @@ unfolding lineOf codes any
 line-plain what k h =
     let row = decimal (k .row) in
     let col = decimal (k .col) in
-    let a = what ++ (32 ∷ []) in
-    let b = a ++ row in
-    let c = b ++ (32 ∷ []) in
-    let to-row = plain-append a row (plain-append what (32 ∷ []) h refl) (plain-decimal (k .row)) in
-    let to-col = plain-append c col (plain-append b (32 ∷ []) to-row refl) (plain-decimal (k .col)) in
-    plain-append (c ++ col) (10 ∷ []) to-col refl
+    let joined = what ++ (32 ∷ []) in
+    let joined-on = joined ++ row in
+    let joined-further = joined-on ++ (32 ∷ []) in
+    let to-row = plain-append joined row (plain-append what (32 ∷ []) h refl) (plain-decimal (k .row)) in
+    let to-col = plain-append joined-further col (plain-append joined-on (32 ∷ []) to-row refl) (plain-decimal (k .col)) in
+    plain-append (joined-further ++ col) (10 ∷ []) to-col refl
 
 lines-plain : (t : List ℕ) (k : Caret) (rs : List (List ℕ)) → any isAbove (linesOf t k rs) ≡ false
 unfolding linesOf any
 lines-plain t k [] = refl
 lines-plain t k (row ∷ rest) =
-    let m = turned t k row in
-    plain-append (lineOf (shownOf (keyPart row) m) (caretAfter k m)) (linesOf t (caretAfter k m) rest)
-    (line-plain (shownOf (keyPart row) m) (caretAfter k m) (shown-plain (keyPart row) t k (countIn row))) (lines-plain t (caretAfter k m) rest)
+    let turned-here = turned t k row in
+    plain-append (lineOf (shownOf (keyPart row) turned-here) (caretAfter k turned-here)) (linesOf t (caretAfter k turned-here) rest)
+    (line-plain (shownOf (keyPart row) turned-here) (caretAfter k turned-here) (shown-plain (keyPart row) t k (countIn row)))
+    (lines-plain t (caretAfter k turned-here) rest)
 
 pub session-plain : (input : List ℕ) → any isAbove (sessionOf input) ≡ false
 unfolding sessionOf any codes

@@ -27,12 +27,12 @@ found-none (k ∷ l) p name h = go (isSame name (k .name)) (any isAbove (k .name
     go :
         (b c : Bool) → isSame name (k .name) ≡ b → any isAbove (k .name) ≡ c → (not c && allPlain l) ≡ true →
         (allPlain l ≡ true → found l name ≡ Key.Unknown) → cond b (k .key) (found l name) ≡ Key.Unknown
-    go true true s a q ih = let z : _≡_ {A = ℕ} 0 1 = cc in absurd (omega arith)
+    go true true s a q ih = let never : _≡_ {A = ℕ} 0 1 = cc in absurd (omega arith)
     go true false s a q ih =
-        let e : any isAbove name ≡ any isAbove (k .name) = ap (any isAbove) (same-true name (k .name) s) in
-        let z : _≡_ {A = ℕ} 0 1 = cc in
+        let test-is : any isAbove name ≡ any isAbove (k .name) = ap (any isAbove) (same-true name (k .name) s) in
+        let never : _≡_ {A = ℕ} 0 1 = cc in
         absurd (omega arith)
-    go false true s a q ih = let z : _≡_ {A = ℕ} 0 1 = cc in absurd (omega arith)
+    go false true s a q ih = let never : _≡_ {A = ℕ} 0 1 = cc in absurd (omega arith)
     go false false s a q ih = ih q
 
 table-plain : allPlain table ≡ true
@@ -48,7 +48,7 @@ pressed-plain name t n k q e = go (any isAbove name) refl
   where
     go : (b : Bool) → any isAbove name ≡ b → b ≡ false
     go true p =
-        let f = pressed-none name t n k p in
-        let z : _≡_ {A = ℕ} 0 1 = cc in
+        let by-pressed-none = pressed-none name t n k p in
+        let never : _≡_ {A = ℕ} 0 1 = cc in
         absurd (omega arith)
     go false p = refl

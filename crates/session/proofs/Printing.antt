@@ -24,7 +24,7 @@ module _ (input : List ℕ) where
 
   pub session-runs : {i : ℕ} → At i ≡ beginOf input → sessionOf input ≡ outputOf (pointsOf (drop i input)) input
   unfolding sessionOf
-  session-runs e = let b = begin-taken input e in rw (b .0, b .1)
+  session-runs e = let by-begin-taken = begin-taken input e in rw (by-begin-taken .0, by-begin-taken .1)
 
   pub session-short : {i : ℕ} → At i ≡ beginOf input → length input ≤ 16384
   session-short e = taken-short input (begin-taken input e .0)
@@ -40,10 +40,10 @@ module _ (input : List ℕ) where
 
 pub printed : {out t s : List ℕ} {r : ℕ} {out′ : List ℕ} → t ≡ s → length t ≤ length out → Wrote out 0 s r out′ → Printed out t r out′
 printed {out} {t} {s} {r} {out′} e h w =
-    let k : r ≤ length out′ = omega (arith, w .size, w .next, ap length e) in
+    let r-at-most : r ≤ length out′ = omega (arith, w .size, w .next, ap length e) in
     record {
       count = omega (arith, w .next, ap length e);
       front = w .left ∙ sets-eq s out 0 (omega (arith, ap length e)) ∙ rw (sym (w .next), e);
-      within = k;
-      counts = sym (length-take-le r out′ k);
+      within = r-at-most;
+      counts = sym (length-take-le r out′ r-at-most);
     }

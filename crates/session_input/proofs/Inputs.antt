@@ -35,7 +35,7 @@ module _ (input : List ℕ) where
   taken-short = go (ltb 16384 (length input)) refl
     where
       go : (b : Bool) → ltb 16384 (length input) ≡ b → (b || (isBad (decoding input) || not (hasStop (rows input)))) ≡ false → length input ≤ 16384
-      go true p q = let z : _≡_ {A = ℕ} 0 1 = cc in absurd (omega arith)
+      go true p q = let never : _≡_ {A = ℕ} 0 1 = cc in absurd (omega arith)
       go false p q = ltb-false 16384 (length input) p
 
   begin-cases : (b : Bool) → isRefused input ≡ b → beginOf input ≡ cond b Refused (At (textAt (rows input)))
@@ -49,7 +49,7 @@ module _ (input : List ℕ) where
       go true r = refl
       go false r =
           let bad : Refused ≡ At (textAt (rows input)) = e ∙ begin-cases false r in
-          let z : _≡_ {A = ℕ} 0 1 = cc in
+          let never : _≡_ {A = ℕ} 0 1 = cc in
           absurd (omega arith)
 
   pub begin-taken : {i : ℕ} → At i ≡ beginOf input → (isRefused input ≡ false) × (textAt (rows input) ≡ i)
@@ -58,6 +58,6 @@ module _ (input : List ℕ) where
       go : (b : Bool) → isRefused input ≡ b → (b ≡ false) × (textAt (rows input) ≡ i)
       go true r =
           let bad : At i ≡ Refused = e ∙ begin-cases true r in
-          let z : _≡_ {A = ℕ} 0 1 = cc in
+          let never : _≡_ {A = ℕ} 0 1 = cc in
           absurd (omega arith)
-      go false r = let f : textAt (rows input) ≡ i = cc (begin-cases false r) in (refl, f)
+      go false r = let text-is : textAt (rows input) ≡ i = cc (begin-cases false r) in (refl, text-is)

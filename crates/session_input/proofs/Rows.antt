@@ -20,9 +20,9 @@ rows-start l = rows-split l ∙ sym (split-from-start 10 l)
 
 pub rows-step : (l : List ℕ) (i e : ℕ) → i ≤ length l → Ends l i 10 e → splitFrom 10 l i ≡ take (e - i) (drop i l) ∷ splitFrom 10 l (e + 1)
 rows-step l i e h w =
-    let u : upTo 10 (drop i l) ≡ e - i = omega (arith, w .at) in
-    let f : i + (e - i) + 1 ≡ e + 1 = omega (arith, w .after) in
-    rw (← f, ← u) (split-from-step 10 l i h)
+    let up-to-is : upTo 10 (drop i l) ≡ e - i = omega (arith, w .at) in
+    let sum-is : i + (e - i) + 1 ≡ e + 1 = omega (arith, w .after) in
+    rw (← sum-is, ← up-to-is) (split-from-step 10 l i h)
 
 pub row-length : (l : List ℕ) (i e : ℕ) → Ends l i 10 e → length (take (e - i) (drop i l)) ≡ e - i
 row-length l i e w = length-take-le (e - i) (drop i l) (omega (arith, length-drop i l, w .within, w .after))
@@ -69,8 +69,8 @@ module _ {input : List ℕ} {i e : ℕ} (so-far : Sought input i) (h : i ≤ len
   pub sought-here : isStop (take (e - i) (drop i input)) ≡ true → At (e + 1) ≡ stopOf input
   unfolding stopOf
   sought-here p =
-      let b : textAt (rows input) ≡ e + 1 = omega (arith, so-far .begins, stop-at p, w .after) in
-      rw (so-far .stops ∙ has-here p, b)
+      let text-is : textAt (rows input) ≡ e + 1 = omega (arith, so-far .begins, stop-at p, w .after) in
+      rw (so-far .stops ∙ has-here p, text-is)
 
 pub sought-end : {input : List ℕ} {i : ℕ} → Sought input i → length input < i → Refused ≡ stopOf input
 unfolding stopOf hasStop

@@ -20,11 +20,11 @@ use Rattle.session_input.specs.Parts.{isBad, TextIn}
 good-tally : (r : Reading) (n : ℕ) → Points n ≡ tally r → isBad r ≡ false
 unfolding tally isBad
 good-tally (text t) n e = refl
-good-tally (bad p) n e = let z : _≡_ {A = ℕ} 0 1 = cc in absurd (omega arith)
+good-tally (bad p) n e = let never : _≡_ {A = ℕ} 0 1 = cc in absurd (omega arith)
 
 bad-tally : (r : Reading) (p : ℕ) → Checked·Bad p ≡ tally r → isBad r ≡ true
 unfolding tally isBad
-bad-tally (text t) p e = let z : _≡_ {A = ℕ} 0 1 = cc in absurd (omega arith)
+bad-tally (text t) p e = let never : _≡_ {A = ℕ} 0 1 = cc in absurd (omega arith)
 bad-tally (bad q) p e = refl
 
 pub check-good : (input : List ℕ) {n : ℕ} → Points n ≡ checked input → isBad (decoding input) ≡ false
@@ -50,20 +50,20 @@ module _ (d room : List ℕ) where
           (b : Bool) → leb (length t) (length room) ≡ b → Text n ≡ cond b (Text (length t)) (Refused 14) →
           room′ ≡ cond b (t ++ drop (length t) room) room → (take n room′ ≡ t) × (n ≤ length room′)
       go true p f l =
-          let m : length t ≡ n = cc in
+          let size-is : length t ≡ n = cc in
           let fits = leb-true (length t) (length room) p in
-          let front = ap (take n) l ∙ take-at t (drop (length t) room) n m in
+          let front = ap (take n) l ∙ take-at t (drop (length t) room) n size-is in
           (front, omega (arith, ap length l, length-append t (drop (length t) room)))
-      go false p f l = let z : _≡_ {A = ℕ} 0 1 = cc in absurd (omega arith)
-  decoded-cases (bad p) e q room′ left = let z : _≡_ {A = ℕ} 0 1 = cc in absurd (omega arith)
+      go false p f l = let never : _≡_ {A = ℕ} 0 1 = cc in absurd (omega arith)
+  decoded-cases (bad p) e q room′ left = let never : _≡_ {A = ℕ} 0 1 = cc in absurd (omega arith)
 
   bad-none : (r : Reading) (p : ℕ) → Bad p ≡ decoded r (length room) → textOf r ≡ []
   unfolding decoded textOf
   bad-none (text t) p e = go (leb (length t) (length room)) e
     where
       go : (b : Bool) → Bad p ≡ cond b (Text (length t)) (Refused 14) → t ≡ []
-      go true f = let z : _≡_ {A = ℕ} 0 1 = cc in absurd (omega arith)
-      go false f = let z : _≡_ {A = ℕ} 0 1 = cc in absurd (omega arith)
+      go true f = let never : _≡_ {A = ℕ} 0 1 = cc in absurd (omega arith)
+      go false f = let never : _≡_ {A = ℕ} 0 1 = cc in absurd (omega arith)
   bad-none (bad q) p e = refl
 
   short-never : (r : Reading) → decoding d ≡ r → (f : ℕ) → Refused f ≡ decoded r (length room) → length d ≤ length room → ⊥
@@ -71,9 +71,9 @@ module _ (d room : List ℕ) where
   short-never (text t) e f q h = go (leb (length t) (length room)) refl q
     where
       go : (b : Bool) → leb (length t) (length room) ≡ b → Refused f ≡ cond b (Text (length t)) (Refused 14) → ⊥
-      go true p g = let z : _≡_ {A = ℕ} 0 1 = cc in omega arith
+      go true p g = let never : _≡_ {A = ℕ} 0 1 = cc in omega arith
       go false p g = omega (arith, leb-false (length t) (length room) p, text-most d t e)
-  short-never (bad p) e f q h = let z : _≡_ {A = ℕ} 0 1 = cc in omega arith
+  short-never (bad p) e f q h = let never : _≡_ {A = ℕ} 0 1 = cc in omega arith
 
 -- the same of the part that the code lends
 module _ (input : List ℕ) (from : ℕ) (room room′ : List ℕ) (h : length input ≤ length room) where
@@ -85,8 +85,8 @@ module _ (input : List ℕ) (from : ℕ) (room room′ : List ℕ) (h : length i
 
   pub text-read : {n : ℕ} → Text n ≡ decoded (decoding part) (length room) → room′ ≡ decodedIn (decoding part) room → TextIn input from n room′
   text-read {n} e left =
-      let w = decoded-cases part room (decoding part) refl e room′ left in
-      record { front = w .0 ∙ ap pointsOf part-is; within = w .1; counts = sym (length-take-le n room′ (w .1)) }
+      let by-decoded-cases = decoded-cases part room (decoding part) refl e room′ left in
+      record { front = by-decoded-cases .0 ∙ ap pointsOf part-is; within = by-decoded-cases .1; counts = sym (length-take-le n room′ (by-decoded-cases .1)) }
 
   pub text-bad : {p : ℕ} → Bad p ≡ decoded (decoding part) (length room) → TextIn input from 0 room′
   text-bad {p} e = record { front = sym (bad-none part room (decoding part) p e) ∙ ap pointsOf part-is; within = omega arith; counts = refl }

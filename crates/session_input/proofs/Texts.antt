@@ -76,14 +76,14 @@ text-behind (row ∷ next ∷ rest) = go (isStop row) (text-behind (next ∷ res
     go : (b : Bool) → Behind after (textAt (next ∷ rest)) → Behind (row ++ (10 ∷ after)) (length row + 1 + cond b 0 (textAt (next ∷ rest)))
     go true w = inr (row, ap (λ (l : List ℕ). row ++ (10 ∷ l)) (sym (past 0 (length row + 1 + 0) (omega arith))))
     go false w =
-        let k = textAt (next ∷ rest) in
-        let n = length row + 1 + k in
-        let e = past k n (omega arith) in
-        ⊎-elim (λ none. inl (e ∙ none))
+        let the-text = textAt (next ∷ rest) in
+        let n = length row + 1 + the-text in
+        let by-past = past the-text n (omega arith) in
+        ⊎-elim (λ none. inl (by-past ∙ none))
         (λ some. inr (
           row ++ (10 ∷ some .0),
-          ap (λ (l : List ℕ). row ++ (10 ∷ l)) (some .1) ∙ sym (append-assoc row (10 ∷ some .0) (10 ∷ drop k after))
-              ∙ ap (λ (l : List ℕ). (row ++ (10 ∷ some .0)) ++ (10 ∷ l)) (sym e),
+          ap (λ (l : List ℕ). row ++ (10 ∷ l)) (some .1) ∙ sym (append-assoc row (10 ∷ some .0) (10 ∷ drop the-text after))
+              ∙ ap (λ (l : List ℕ). (row ++ (10 ∷ some .0)) ++ (10 ∷ l)) (sym by-past),
         ))
         w
 
@@ -93,15 +93,15 @@ input-behind input = subst (λ (l : List ℕ). Behind l (textAt (rows input))) (
 good-read : (r : Reading) → isBad r ≡ false → (t : List ℕ) × (r ≡ text t)
 unfolding isBad
 good-read (text t) e = (t, refl)
-good-read (bad n) e = let z : _≡_ {A = ℕ} 0 1 = cc in absurd (omega arith)
+good-read (bad n) e = let never : _≡_ {A = ℕ} 0 1 = cc in absurd (omega arith)
 
 taken-good : (input : List ℕ) → isRefused input ≡ false → isBad (decoding input) ≡ false
 unfolding isRefused
 taken-good input e = go (ltb 16384 (length input)) (isBad (decoding input)) e
   where
     go : (a b : Bool) → (a || (b || not (hasStop (rows input)))) ≡ false → b ≡ false
-    go true b p = let z : _≡_ {A = ℕ} 0 1 = cc in absurd (omega arith)
-    go false true p = let z : _≡_ {A = ℕ} 0 1 = cc in absurd (omega arith)
+    go true b p = let never : _≡_ {A = ℕ} 0 1 = cc in absurd (omega arith)
+    go false true p = let never : _≡_ {A = ℕ} 0 1 = cc in absurd (omega arith)
     go false false p = refl
 
 -- the text of an input that is not refused is UTF-8: its code points are what is read of it
@@ -109,7 +109,8 @@ pub text-good : (input : List ℕ) → isRefused input ≡ false → decoding (d
 unfolding Behind readText reading
 text-good input e =
     let n = textAt (rows input) in
-    let w = good-read (decoding input) (taken-good input e) in
+    let by-good-read = good-read (decoding input) (taken-good input e) in
     ⊎-elim (λ none. rw none)
-    (λ some. good-behind (some .0) 10 (drop n input) (w .0) (omega arith) (subst (λ (l : List ℕ). decoding l ≡ text (w .0)) (some .1) (w .1)))
+    (λ some. good-behind (some .0) 10 (drop n input) (by-good-read .0) (omega arith)
+    (subst (λ (l : List ℕ). decoding l ≡ text (by-good-read .0)) (some .1) (by-good-read .1)))
     (input-behind input)

@@ -50,7 +50,8 @@ module _ (t : List ℕ) (n : ℕ) (k : Caret) where
 
   rows-end : (down : Bool) → AtEnd t k → (c : Caret) → moveRows Narrow t [] 8 down n k ≡ To c → AtEnd t c
   unfolding landed
-  rows-end down at = moving-to (AtEnd t) (verticalRefusal t [] 8 k) (atTarget (moveVertical (widthAs Narrow) t [] 8 (deltaOf down n) (k .row) (k .col) (k .sticky))) there
+  rows-end down at =
+      moving-to (AtEnd t) (verticalRefusal t [] 8 k) (atTarget (moveVertical (widthAs Narrow) t [] 8 (deltaOf down n) (k .row) (k .col) (k .sticky))) there
     where
       there : verticalRefusal t [] 8 k ≡ 0 → AtEnd t (atTarget (moveVertical (widthAs Narrow) t [] 8 (deltaOf down n) (k .row) (k .col) (k .sticky)))
       there z =
@@ -58,7 +59,8 @@ module _ (t : List ℕ) (n : ℕ) (k : Caret) where
           rw (at .aims-past)
           (record {
             on-last =
-                vertical-last (widthAs Narrow) thin t brief 8 (omega arith) pastEnds (omega arith) [] (deltaOf down n) (k .row) (k .col) (own t [] 8 k z .in-row)
+                vertical-last (widthAs Narrow) thin t brief 8 (omega arith) pastEnds (omega arith) [] (deltaOf down n) (k .row) (k .col)
+                (own t [] 8 k z .in-row)
                 (at .on-last);
             aims-past = refl;
           })
@@ -82,7 +84,7 @@ module _ (t : List ℕ) (n : ℕ) (k : Caret) where
       go true q =
           let same : caretAt (k .row) (lastCol t (k .row)) (At pastEnds) ≡ c = cc in
           subst (AtEnd t) same (record { on-last = refl; aims-past = refl })
-      go false q = let z : _≡_ {A = ℕ} 0 1 = cc in absurd (omega arith)
+      go false q = let never : _≡_ {A = ℕ} 0 1 = cc in absurd (omega arith)
 
 run-ends : (t : List ℕ) (run : List Stroke) (k : Caret) → AtEnd t k → AtEnd t (afterRun t run k)
 unfolding afterRun

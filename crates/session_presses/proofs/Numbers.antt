@@ -44,14 +44,14 @@ unfolding moving
 moves f c = go (eqb f 0) refl
   where
     go : (b : Bool) → eqb f 0 ≡ b → Numbered (cond b (To c) (Refused f))
-    go true p q = let z : _≡_ {A = ℕ} 0 1 = cc in omega arith
-    go false p q = let z : f ≡ 0 = cc in eqb-false f 0 p z
+    go true p q = let never : _≡_ {A = ℕ} 0 1 = cc in omega arith
+    go false p q = let f-is : f ≡ 0 = cc in eqb-false f 0 p f-is
 
 -- the partner of a bracket is refused for its text alone
 placed-numbered : (t : List ℕ) (f : Found) → placed t f ≡ Partner·Refused 0 → ⊥
 unfolding placed
-placed-numbered t (At j) q = let z : _≡_ {A = ℕ} 0 1 = cc in omega arith
-placed-numbered t Nothing q = let z : _≡_ {A = ℕ} 0 1 = cc in omega arith
+placed-numbered t (At j) q = let never : _≡_ {A = ℕ} 0 1 = cc in omega arith
+placed-numbered t Nothing q = let never : _≡_ {A = ℕ} 0 1 = cc in omega arith
 
 partner-numbered : (t : List ℕ) (row col : ℕ) → matchingBracketPos t row col ≡ Partner·Refused 0 → ⊥
 unfolding matchingBracketPos
@@ -62,34 +62,34 @@ partner-numbered t row col = go (eqb (textRefusal t) 0) (ltb row (rowCount t) &&
 
     go : (b i : Bool) → eqb (textRefusal t) 0 ≡ b → cond b (cond i here None) (Partner·Refused (textRefusal t)) ≡ Partner·Refused 0 → ⊥
     go true true p q = placed-numbered t (partnerOf t (rowStart t row + col)) q
-    go true false p q = let z : _≡_ {A = ℕ} 0 1 = cc in omega arith
-    go false i p q = let z : textRefusal t ≡ 0 = cc in eqb-false (textRefusal t) 0 p z
+    go true false p q = let never : _≡_ {A = ℕ} 0 1 = cc in omega arith
+    go false i p q = let text-refusal-is : textRefusal t ≡ 0 = cc in eqb-false (textRefusal t) 0 p text-refusal-is
 
 key-numbered : (t : List ℕ) (row : ℕ) (f : Found) → keyTo t row f ≡ Partner·Refused 0 → ⊥
 unfolding keyTo
 key-numbered t row (At i) q = partner-numbered t row i q
-key-numbered t row Nothing q = let z : _≡_ {A = ℕ} 0 1 = cc in omega arith
+key-numbered t row Nothing q = let never : _≡_ {A = ℕ} 0 1 = cc in omega arith
 
 seeking-numbered : (f : ℕ) (s : Sought) → (s ≡ Sought·Refused 0 → ⊥) → Numbered (landed (seeking f s))
 unfolding seeking
 seeking-numbered f s h = go (eqb f 0) refl s h
   where
     go : (b : Bool) → eqb f 0 ≡ b → (s : Sought) → (s ≡ Sought·Refused 0 → ⊥) → Numbered (landed (cond b s (Sought·Refused f)))
-    go true e (Sought·Found x) h q = let z : _≡_ {A = ℕ} 0 1 = cc in omega arith
-    go true e (Missing x) h q = let z : _≡_ {A = ℕ} 0 1 = cc in omega arith
-    go true e (Sought·Refused g) h q = let z : g ≡ 0 = cc in h (rw z)
-    go false e s h q = let z : f ≡ 0 = cc in eqb-false f 0 e z
+    go true e (Sought·Found x) h q = let never : _≡_ {A = ℕ} 0 1 = cc in omega arith
+    go true e (Missing x) h q = let never : _≡_ {A = ℕ} 0 1 = cc in omega arith
+    go true e (Sought·Refused g) h q = let g-is : g ≡ 0 = cc in h (rw g-is)
+    go false e s h q = let f-is : f ≡ 0 = cc in eqb-false f 0 e f-is
 
 partner-to : (k : Caret) (p : Partner) → (p ≡ Partner·Refused 0 → ⊥) → partnerTo k p ≡ Sought·Refused 0 → ⊥
 unfolding partnerTo
-partner-to k (There x) h q = let z : _≡_ {A = ℕ} 0 1 = cc in omega arith
-partner-to k None h q = let z : _≡_ {A = ℕ} 0 1 = cc in omega arith
-partner-to k (Partner·Refused g) h q = let z : g ≡ 0 = cc in h (rw z)
+partner-to k (There x) h q = let never : _≡_ {A = ℕ} 0 1 = cc in omega arith
+partner-to k None h q = let never : _≡_ {A = ℕ} 0 1 = cc in omega arith
+partner-to k (Partner·Refused g) h q = let g-is : g ≡ 0 = cc in h (rw g-is)
 
 lands-on : (k : Caret) (f : Found) → landsOn k f ≡ Sought·Refused 0 → ⊥
 unfolding landsOn
-lands-on k (At i) q = let z : _≡_ {A = ℕ} 0 1 = cc in omega arith
-lands-on k Nothing q = let z : _≡_ {A = ℕ} 0 1 = cc in omega arith
+lands-on k (At i) q = let never : _≡_ {A = ℕ} 0 1 = cc in omega arith
+lands-on k Nothing q = let never : _≡_ {A = ℕ} 0 1 = cc in omega arith
 
 -- every move
 numbered : (t folds list : List ℕ) (tabstop : ℕ) (m : Move) (n : ℕ) (k : Caret) → Numbered (movedBy t folds list tabstop m n k)
@@ -100,8 +100,9 @@ numbered t folds list tabstop (Screen mode width down a) n k = moves _ _
 numbered t folds list tabstop (ScreenKept mode width down a) n k = moves _ _
 numbered t folds list tabstop (Viewport edge top height offset) n k = moves _ _
 numbered t folds list tabstop Bracket n k =
-    let f = firstBracket (rowAt t (k .row)) (k .col) in
-    seeking-numbered (refusalOf t k) (partnerTo k (keyTo t (k .row) f)) (partner-to k (keyTo t (k .row) f) (key-numbered t (k .row) f))
+    let first-bracket = firstBracket (rowAt t (k .row)) (k .col) in
+    seeking-numbered (refusalOf t k) (partnerTo k (keyTo t (k .row) first-bracket))
+    (partner-to k (keyTo t (k .row) first-bracket) (key-numbered t (k .row) first-bracket))
 numbered t folds list tabstop (Find x forward till skip) n k = seeking-numbered _ _ (lands-on k _)
 
 -- whether a key does something; all of a table do
@@ -125,14 +126,14 @@ found-unknown (key ∷ rest) name all q = go (isSame name (key .name)) (isAct (a
     go :
         (s a : Bool) → isAct (actOf (key .key)) ≡ a → (a && allActs rest) ≡ true → isAct (actOf (cond s (key .key) (found rest name))) ≡ false →
         (allActs rest ≡ true → isAct (actOf (found rest name)) ≡ false → isKnown rest name ≡ false) → (s || isKnown rest name) ≡ false
-    go true true e all q ih = let z : _≡_ {A = Bool} true false = sym e ∙ q in let y : _≡_ {A = ℕ} 0 1 = cc in absurd (omega arith)
-    go true false e all q ih = let y : _≡_ {A = ℕ} 0 1 = cc in absurd (omega arith)
+    go true true e all q ih = let never : _≡_ {A = Bool} true false = sym e ∙ q in let nonsense : _≡_ {A = ℕ} 0 1 = cc in absurd (omega arith)
+    go true false e all q ih = let never : _≡_ {A = ℕ} 0 1 = cc in absurd (omega arith)
     go false true e all q ih = ih all q
-    go false false e all q ih = let y : _≡_ {A = ℕ} 0 1 = cc in absurd (omega arith)
+    go false false e all q ih = let never : _≡_ {A = ℕ} 0 1 = cc in absurd (omega arith)
 
 module _ (t : List ℕ) (n : ℕ) (k : Caret) where
   held-zero : (c : Column) (m : Moved) → held c m ≡ Refused 0 → m ≡ Refused 0
-  held-zero c (To k) q = let z : _≡_ {A = ℕ} 0 1 = cc in absurd (omega arith)
+  held-zero c (To k) q = let never : _≡_ {A = ℕ} 0 1 = cc in absurd (omega arith)
   held-zero c (Refused f) q = q
 
   acted-unknown : (a : Act) → acted a t n k ≡ Refused 0 → isAct a ≡ false

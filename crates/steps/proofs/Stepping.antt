@@ -51,7 +51,7 @@ going-from f n p start own e =
 
 -- the row that `up` finds where it goes up no row
 pub up-start : (t : List ℕ) (l : Line) (row : ℕ) → l ≡ lineAt t (row - 0) → l .start ≡ rowStart t row
-up-start t l row e = let z : row - 0 ≡ row = omega arith in ap (λ (x : Line). x .start) e ∙ ap (rowStart t) z
+up-start t l row e = let row-less-zero : row - 0 ≡ row = omega arith in ap (λ (x : Line). x .start) e ∙ ap (rowStart t) row-less-zero
 
 -- one round of `<Space>`
 module _ {t : List ℕ} {row start at : ℕ} (s : Stands t row start at) where
@@ -96,8 +96,8 @@ module _ {t : List ℕ} {row at : ℕ} (s : Stands t row (rowStart t row) at) wh
   pub back-first : at ≡ 0 → (row ≡ 0) × (backspaceBack t (position row (at - rowStart t row)) ≡ position row (at - rowStart t row))
   unfolding backspaceBack
   back-first e =
-      let z = on-first (stands-at s) e in
-      (z .0, rw (le-ltb 0 (at - rowStart t row) (omega arith), le-ltb 0 row (omega arith)))
+      let by-on-first = on-first (stands-at s) e in
+      (by-on-first .0, rw (le-ltb 0 (at - rowStart t row) (omega arith), le-ltb 0 row (omega arith)))
 
   module _ (h : 0 < at) where
     pub back-on : (getD t (at - 1) 0 ≡ 10 → ⊥) → backspaceBack t (position row (at - rowStart t row)) ≡ position row (at - 1 - rowStart t row)

@@ -18,8 +18,8 @@ module _ (t : List ℕ) (r : ℕ) (h : 0 < r) (l : r < rowCount t) where
   -- where a row after the first starts
   pub start-after : rowStart t r ≡ rowStart t (r - 1) + rowLen t (r - 1) + 1
   start-after =
-      let d : r - 1 + 1 ≡ r = omega arith in
-      rw d at (next-start t (r - 1) (omega arith))
+      let difference-is : r - 1 + 1 ≡ r = omega arith in
+      rw difference-is at (next-start t (r - 1) (omega arith))
 
   -- the separator before it
   pub at-before : At t (r - 1) (rowLen t (r - 1)) (rowStart t r - 1)
@@ -85,13 +85,13 @@ module _ (t : List ℕ) where
   start-mono : (r k : ℕ) → r + k < rowCount t → rowStart t r ≤ rowStart t (r + k)
   start-mono r zero h = rw add-zero (omega arith)
   start-mono r (suc k) h =
-      let e : r + suc k ≡ r + k + 1 = omega arith in
-      rw e (omega (arith, start-mono r k (omega arith), next-start t (r + k) (omega arith)))
+      let sum-is : r + suc k ≡ r + k + 1 = omega arith in
+      rw sum-is (omega (arith, start-mono r k (omega arith), next-start t (r + k) (omega arith)))
 
   pub rows-apart : (r q : ℕ) → r < q → q < rowCount t → rowStart t r + rowLen t r < rowStart t q
   rows-apart r q h l =
-      let e : r + 1 + (q - (r + 1)) ≡ q = omega arith in
-      let m : rowStart t (r + 1) ≤ rowStart t q = rw e at (start-mono (r + 1) (q - (r + 1)) (omega arith)) in
+      let sum-is : r + 1 + (q - (r + 1)) ≡ q = omega arith in
+      let row-start-at-most : rowStart t (r + 1) ≤ rowStart t q = rw sum-is at (start-mono (r + 1) (q - (r + 1)) (omega arith)) in
       omega (arith, next-start t r (omega arith))
 
 -- so an offset has one row and one column

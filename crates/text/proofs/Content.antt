@@ -45,8 +45,8 @@ module _ (t : List ℕ) where
 
   pub content-nl : 0 < length t → getD t (length t - 1) 0 ≡ 10 → contentRows t + 1 ≡ rowCount t
   content-nl l e =
-      let b = behind-nl (at-last t) l e in
-      content-less (b .0) (omega arith)
+      let by-behind-nl = behind-nl (at-last t) l e in
+      content-less (by-behind-nl .0) (omega arith)
 
   pub content-char : 0 < length t → (getD t (length t - 1) 0 ≡ 10 → ⊥) → contentRows t ≡ rowCount t
   content-char l n = content-all (λ z. absurd (omega (arith, behind-char (at-last t) l n)))
@@ -60,10 +60,10 @@ module _ (t : List ℕ) (r : ℕ) (p : 0 < r) (h : r < rowCount t) where
       go (yes m) d = omega (arith, content-near t)
       go (no m) (yes e) = absurd (omega (arith, after-nl (at-start t r h) l e .in-row))
       go (no m) (no n) =
-          let q : rowCount t - 1 ≡ r = omega arith in
-          omega (arith, content-all t (λ z. absurd (omega (arith, on-char (at-start t r h) l n, ap (rowLen t) q))))
+          let row-count-less-one : rowCount t - 1 ≡ r = omega arith in
+          omega (arith, content-all t (λ z. absurd (omega (arith, on-char (at-start t r h) l n, ap (rowLen t) row-count-less-one))))
 
   pub content-no : length t ≤ rowStart t r → contentRows t ≡ r
   content-no l =
-      let q : rowCount t - 1 ≡ r = omega (arith, on-last (at-start t r h) l) in
-      omega (arith, content-less t (rw q (sym (on-end (at-start t r h) l))) (omega arith))
+      let row-count-less-one : rowCount t - 1 ≡ r = omega (arith, on-last (at-start t r h) l) in
+      omega (arith, content-less t (rw row-count-less-one (sym (on-end (at-start t r h) l))) (omega arith))

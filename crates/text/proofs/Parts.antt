@@ -34,13 +34,13 @@ from-row (x ∷ u) (suc k) h = go (ℕ-discrete x 10) (λ r p. from-row u r p)
   where
     go : Dec (x ≡ 10) → ((r : ℕ) → r < rowCount u → From u r) → From (x ∷ u) (suc k)
     go (yes e) ih =
-        let f = ih k (omega (arith, count-cons-nl x u e)) in
-        let s : rowStart (x ∷ u) (suc k) ≡ suc (rowStart u k) = rw (rows-nl x u e) (start-void (rows u) k) in
-        record { has = rw (s, rows-nl x u e) (f .has); within = omega (arith, f .within) }
+        let by-ih = ih k (omega (arith, count-cons-nl x u e)) in
+        let row-start-is : rowStart (x ∷ u) (suc k) ≡ suc (rowStart u k) = rw (rows-nl x u e) (start-void (rows u) k) in
+        record { has = rw (row-start-is, rows-nl x u e) (by-ih .has); within = omega (arith, by-ih .within) }
     go (no n) ih =
-        let f = ih (suc k) (omega (arith, count-cons-on x u n)) in
-        let s : rowStart (x ∷ u) (suc k) ≡ suc (rowStart u (suc k)) = rw (rows-on x u n) (on-start x (rows u) k (rows-pos u)) in
-        record { has = rw (s, rows-on x u n, on-later x (rows u) k (rows-pos u)) (f .has); within = omega (arith, f .within) }
+        let by-ih = ih (suc k) (omega (arith, count-cons-on x u n)) in
+        let row-start-is : rowStart (x ∷ u) (suc k) ≡ suc (rowStart u (suc k)) = rw (rows-on x u n) (on-start x (rows u) k (rows-pos u)) in
+        record { has = rw (row-start-is, rows-on x u n, on-later x (rows u) k (rows-pos u)) (by-ih .has); within = omega (arith, by-ih .within) }
 
 -- the first row is the front of the text
 first-front : (t : List ℕ) → rowAt t 0 ≡ take (rowLen t 0) t
@@ -62,8 +62,8 @@ in-first (x ∷ u) (suc c) h = go (ℕ-discrete x 10) (λ p. in-first u c p)
         rows (drop c u) ≡ drop (suc c) (rowAt (x ∷ u) 0) ∷ drop 1 (rows (x ∷ u))
     go (yes e) ih = absurd (omega (arith, ap (λ (l : List (List ℕ)). length (getD l 0 [])) (rows-nl x u e)))
     go (no n) ih =
-        let f : rowAt (x ∷ u) 0 ≡ x ∷ rowAt u 0 = rw (rows-on x u n) (on-head x (rows u)) in
-        rw (f, rows-on x u n, on-later x (rows u) 0 (rows-pos u)) (ih (omega (arith, ap length f)))
+        let row-is : rowAt (x ∷ u) 0 ≡ x ∷ rowAt u 0 = rw (rows-on x u n) (on-head x (rows u)) in
+        rw (row-is, rows-on x u n, on-later x (rows u) 0 (rows-pos u)) (ih (omega (arith, ap length row-is)))
 
 -- row r of the text
 module _ (t : List ℕ) (r : ℕ) (h : r < rowCount t) where

@@ -121,8 +121,8 @@ module _ {t : List ℕ} {row start at : ℕ} (s : Stands t row start at) where
 
   pub step-nl : at < length t → getD t at 0 ≡ 10 → Stands t (row + 1) (at + 1) (at + 1)
   step-nl h e =
-      let a = after-nl (stands-at s) h e in
-      at-stands a (at + 1) (omega (arith, a .offset))
+      let by-after-nl = after-nl (stands-at s) h e in
+      at-stands by-after-nl (at + 1) (omega (arith, by-after-nl .offset))
 
   -- one code point back
   pub back-char : 0 < at → (getD t (at - 1) 0 ≡ 10 → ⊥) → Stands t row start (at - 1)
@@ -130,8 +130,8 @@ module _ {t : List ℕ} {row start at : ℕ} (s : Stands t row start at) where
 
   pub back-nl : 0 < at → getD t (at - 1) 0 ≡ 10 → (at ≡ start) × (0 < row) × Stands t (row - 1) (rowStart t (row - 1)) (at - 1)
   back-nl h e =
-      let b = behind-nl (stands-at s) h e in
-      (omega (arith, s .from), b .1, at-stands (before-row (stands-at s) (b .0) (b .1)) (rowStart t (row - 1)) refl)
+      let by-behind-nl = behind-nl (stands-at s) h e in
+      (omega (arith, s .from), by-behind-nl .1, at-stands (before-row (stands-at s) (by-behind-nl .0) (by-behind-nl .1)) (rowStart t (row - 1)) refl)
 
   -- the row of the offset
   pub stands-row : rowOf t at ≡ row

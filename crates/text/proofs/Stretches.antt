@@ -38,8 +38,8 @@ passes t (suc k) row start at s w h e =
         Stands t (r + n) (rowStart t (r + n)) (at + 1 + k)) →
         Stands t (row + s) (rowStart t (row + s)) (at + suc k)
     go (yes n) ih =
-        let c : s + 1 ≡ suc (rowCount (take k (drop (at + 1) t))) = e ∙ ap rowCount split ∙ count-cons-nl (getD t at 0) (take k (drop (at + 1) t)) n in
-        let p = rows-pos (take k (drop (at + 1) t)) in
+        let s-plus-one : s + 1 ≡ suc (rowCount (take k (drop (at + 1) t))) = e ∙ ap rowCount split ∙ count-cons-nl (getD t at 0) (take k (drop (at + 1) t)) n in
+        let by-rows-pos = rows-pos (take k (drop (at + 1) t)) in
         place (row + 1 + (s - 1)) (omega arith) (ih (row + 1) (at + 1) (s - 1) (step-nl w (omega arith) n) (omega arith) (omega arith))
     go (no n) ih =
         place (row + s) refl

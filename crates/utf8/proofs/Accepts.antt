@@ -24,8 +24,8 @@ decoding-text b t =
 -- no two texts have one encoding
 pub utf8-one : (t u : List ℕ) → any notScalar t ≡ false → any notScalar u ≡ false → utf8 t ≡ utf8 u → t ≡ u
 utf8-one t u h k e =
-    let f : decoding (utf8 t) ≡ text t = encoded-reads t 0 h in
-    let g : decoding (utf8 t) ≡ text u = decoding-text (utf8 t) u .1 (k, sym e) in
+    let decoding-is : decoding (utf8 t) ≡ text t = encoded-reads t 0 h in
+    let text-is : decoding (utf8 t) ≡ text u = decoding-text (utf8 t) u .1 (k, sym e) in
     cc
 
 pub read-accepted : (b : List ℕ) (a : Accepted b) → decoding b ≡ text (a .text)
@@ -36,26 +36,28 @@ unfolding IsText
 accepted-text b is = go (decoding b) refl is
   where
     go : (r : Reading) → decoding b ≡ r → IsText r → Accepted b
-    go (text t) e i = let w = reads-encoded 0 b t e in record { text = t; scalar = w .0; same = w .1 }
+    go (text t) e i = let by-reads-encoded = reads-encoded 0 b t e in record { text = t; scalar = by-reads-encoded .0; same = by-reads-encoded .1 }
     go (bad n) e i = absurd i
 
 pub bad-refused : (b : List ℕ) (n : ℕ) → decoding b ≡ bad n → Accepted b → ⊥
 bad-refused b n e a =
-    let f = read-accepted b a in
-    let z : _≡_ {A = ℕ} 0 1 = cc in
+    let by-read-accepted = read-accepted b a in
+    let never : _≡_ {A = ℕ} 0 1 = cc in
     omega arith
 
 -- the place is that of the longest beginning
 pub bad-place : (b : List ℕ) (n : ℕ) → decoding b ≡ bad n → Place Accepted b n
 bad-place b n e =
-    let w = wrong-from b 0 0 0 0 0 (omega arith) n e in
-    let p : w .passed ≡ n = omega (arith, w .place) in
-    let q : n + 1 ≡ suc (w .passed) = omega arith in
+    let by-wrong-from = wrong-from b 0 0 0 0 0 (omega arith) n e in
+    let passed-is : by-wrong-from .passed ≡ n = omega (arith, by-wrong-from .place) in
+    let n-plus-one : n + 1 ≡ suc (by-wrong-from .passed) = omega arith in
     record {
-      inside = omega (arith, w .inside);
-      begins = subst (λ (m : ℕ). Begins Accepted (take m b)) p (w .rest, accepted-text (take (w .passed) b ++ w .rest) (w .begins));
+      inside = omega (arith, by-wrong-from .inside);
+      begins =
+          subst (λ (m : ℕ). Begins Accepted (take m b)) passed-is
+          (by-wrong-from .rest, accepted-text (take (by-wrong-from .passed) b ++ by-wrong-from .rest) (by-wrong-from .begins));
       longest =
           λ l g.
-          let a = subst (λ (m : ℕ). Accepted (take m b ++ g .0)) q (g .1) in
-          bad-refused (take (suc (w .passed)) b ++ g .0) n (w .longest (omega arith) (g .0)) a;
+          let here = subst (λ (m : ℕ). Accepted (take m b ++ g .0)) n-plus-one (g .1) in
+          bad-refused (take (suc (by-wrong-from .passed)) b ++ g .0) n (by-wrong-from .longest (omega arith) (g .0)) here;
     }

@@ -14,13 +14,13 @@ use Rattle.utf8.specs.Walks.{textOf, pointsOf, Holds}
 
 tally-points : (r : Reading) (n : ℕ) → tally r ≡ Points n → (r ≡ text (textOf r)) × (length (textOf r) ≡ n)
 unfolding tally textOf
-tally-points (text t) n e = let f : length t ≡ n = cc in (refl, f)
-tally-points (bad p) n e = let z : _≡_ {A = ℕ} 0 1 = cc in absurd (omega arith)
+tally-points (text t) n e = let size-is : length t ≡ n = cc in (refl, size-is)
+tally-points (bad p) n e = let never : _≡_ {A = ℕ} 0 1 = cc in absurd (omega arith)
 
 tally-bad : (r : Reading) (place : ℕ) → tally r ≡ Bad place → r ≡ bad place
 unfolding tally
-tally-bad (text t) place e = let z : _≡_ {A = ℕ} 0 1 = cc in absurd (omega arith)
-tally-bad (bad p) place e = let f : p ≡ place = cc in rw f
+tally-bad (text t) place e = let never : _≡_ {A = ℕ} 0 1 = cc in absurd (omega arith)
+tally-bad (bad p) place e = let p-is : p ≡ place = cc in rw p-is
 
 module _ (b room : List ℕ) where
   -- by what was read
@@ -45,23 +45,23 @@ module _ (b room : List ℕ) where
   module _ (n : ℕ) (e : checked b ≡ Points n) where
     pub check-holds : n ≤ length room → Holds b 0 0 room
     check-holds h =
-        let f = tally-points (decoding b) n e in
-        record { within = omega arith; rest = f .0; most = omega arith; front = refl; room = omega (arith, f .1) }
+        let by-tally-points = tally-points (decoding b) n e in
+        record { within = omega arith; rest = by-tally-points .0; most = omega arith; front = refl; room = omega (arith, by-tally-points .1) }
 
     pub check-text : n ≤ length room → Text n ≡ decoded (decoding b) (length room)
     check-text h =
-        let f = tally-points (decoding b) n e in
-        sym (text-fits (pointsOf b) (f .0) (omega (arith, f .1)) .0 ∙ rw (f .1))
+        let by-tally-points = tally-points (decoding b) n e in
+        sym (text-fits (pointsOf b) (by-tally-points .0) (omega (arith, by-tally-points .1)) .0 ∙ rw (by-tally-points .1))
 
     pub check-short : length room < n → (Refused 14 ≡ decoded (decoding b) (length room)) × (room ≡ decodedIn (decoding b) room)
     check-short h =
-        let f = tally-points (decoding b) n e in
-        let w = text-short (pointsOf b) (f .0) (omega (arith, f .1)) in
-        (sym (w .0), sym (w .1))
+        let by-tally-points = tally-points (decoding b) n e in
+        let by-text-short = text-short (pointsOf b) (by-tally-points .0) (omega (arith, by-tally-points .1)) in
+        (sym (by-text-short .0), sym (by-text-short .1))
 
   pub check-bad :
       (place : ℕ) → checked b ≡ Bad place → (Decoded·Bad place ≡ decoded (decoding b) (length room)) × (room ≡ decodedIn (decoding b) room)
-  check-bad place e = let w = bad-kept place (tally-bad (decoding b) place e) in (sym (w .0), sym (w .1))
+  check-bad place e = let by-bad-kept = bad-kept place (tally-bad (decoding b) place e) in (sym (by-bad-kept .0), sym (by-bad-kept .1))
 
   -- by what was written
   pub written-in : Holds b 0 0 room → (points : List ℕ) → points ≡ pointsOf b ++ drop (length (pointsOf b)) room → points ≡ decodedIn (decoding b) room

@@ -40,25 +40,27 @@ module _ (x at : ℕ) (s : List ℕ) where
 
   on-two : 0x80 ≤ x → x < 0x800 → readingFrom at (encoding x ++ s) ≡ onto x (readingFrom (at + length (encoding x)) s)
   on-two h k =
-      let a = 0xc0 + x / 64 in
-      let b = 0x80 + x % 64 in
-      let f = lead-two a (omega arith) (omega arith) in
-      let lo = above-low a b (omega arith) (omega arith) (λ e. absurd (omega arith)) (λ e. absurd (omega arith)) in
-      let hi = below-high a b (omega arith) (omega arith) (λ e. absurd (omega arith)) (λ e. absurd (omega arith)) in
-      rw (encoding-two x a b h k refl refl)
-      (read-two at a x s (f .0) b (f .1) lo hi (omega (arith, f .2)) ∙ read-from (at + 1 + 1) (at + 2) (omega arith))
+      let lead-byte = 0xc0 + x / 64 in
+      let second-byte = 0x80 + x % 64 in
+      let by-lead-two = lead-two lead-byte (omega arith) (omega arith) in
+      let lo = above-low lead-byte second-byte (omega arith) (omega arith) (λ e. absurd (omega arith)) (λ e. absurd (omega arith)) in
+      let hi = below-high lead-byte second-byte (omega arith) (omega arith) (λ e. absurd (omega arith)) (λ e. absurd (omega arith)) in
+      rw (encoding-two x lead-byte second-byte h k refl refl)
+      (read-two at lead-byte x s (by-lead-two .0) second-byte (by-lead-two .1) lo hi (omega (arith, by-lead-two .2))
+      ∙ read-from (at + 1 + 1) (at + 2) (omega arith))
 
   on-three :
       0x800 ≤ x → x < 0x10000 → (0xd800 ≤ x → 0xdfff < x) → readingFrom at (encoding x ++ s) ≡ onto x (readingFrom (at + length (encoding x)) s)
   on-three h k scalar =
-      let a = 0xe0 + x / 4096 in
-      let b = 0x80 + x / 64 % 64 in
-      let c = 0x80 + x % 64 in
-      let f = lead-three a (omega arith) (omega arith) in
-      let lo = above-low a b (omega arith) (omega arith) (λ e. omega arith) (λ e. absurd (omega arith)) in
-      let hi = below-high a b (omega arith) (omega arith) (λ e. low-surrogate e) (λ e. absurd (omega arith)) in
-      rw (encoding-three x a b c h k refl refl refl)
-      (read-three at a x s (f .0) b c (f .1) lo hi (omega arith) (omega arith) (omega (arith, f .2)) ∙ read-from (at + 1 + 1 + 1) (at + 3) (omega arith))
+      let lead-byte = 0xe0 + x / 4096 in
+      let second-byte = 0x80 + x / 64 % 64 in
+      let third-byte = 0x80 + x % 64 in
+      let by-lead-three = lead-three lead-byte (omega arith) (omega arith) in
+      let lo = above-low lead-byte second-byte (omega arith) (omega arith) (λ e. omega arith) (λ e. absurd (omega arith)) in
+      let hi = below-high lead-byte second-byte (omega arith) (omega arith) (λ e. low-surrogate e) (λ e. absurd (omega arith)) in
+      rw (encoding-three x lead-byte second-byte third-byte h k refl refl refl)
+      (read-three at lead-byte x s (by-lead-three .0) second-byte third-byte (by-lead-three .1) lo hi (omega arith) (omega arith)
+      (omega (arith, by-lead-three .2)) ∙ read-from (at + 1 + 1 + 1) (at + 3) (omega arith))
     where
       low-surrogate : 0xe0 + x / 4096 ≡ 0xed → 0x80 + x / 64 % 64 ≤ 0x9f
       low-surrogate e = go (decLt x 0xd800)
@@ -69,25 +71,29 @@ module _ (x at : ℕ) (s : List ℕ) where
 
   on-four : 0x10000 ≤ x → x ≤ 0x10ffff → readingFrom at (encoding x ++ s) ≡ onto x (readingFrom (at + length (encoding x)) s)
   on-four h k =
-      let a = 0xf0 + x / 262144 in
-      let b = 0x80 + x / 4096 % 64 in
-      let c = 0x80 + x / 64 % 64 in
-      let d = 0x80 + x % 64 in
-      let f = lead-four a (omega arith) (omega arith) in
-      let lo = above-low a b (omega arith) (omega arith) (λ e. absurd (omega arith)) (λ e. omega arith) in
-      let hi = below-high a b (omega arith) (omega arith) (λ e. absurd (omega arith)) (λ e. omega arith) in
-      let p : x / 4096 ≡ x / 262144 * 64 + x / 4096 % 64 = omega arith in
-      let q : x / 64 ≡ x / 4096 * 64 + x / 64 % 64 = omega arith in
-      let value : ((bitsOf a * 64 + (b - 0x80)) * 64 + (c - 0x80)) * 64 + (d - 0x80) ≡ x = omega (arith, f .2) in
-      rw (encoding-four x a b c d h refl refl refl refl)
-      (read-four at a x s (f .0) b c d (f .1) lo hi (omega arith) (omega arith) (omega arith) (omega arith) value
+      let lead-byte = 0xf0 + x / 262144 in
+      let second-byte = 0x80 + x / 4096 % 64 in
+      let third-byte = 0x80 + x / 64 % 64 in
+      let fourth-byte = 0x80 + x % 64 in
+      let by-lead-four = lead-four lead-byte (omega arith) (omega arith) in
+      let lo = above-low lead-byte second-byte (omega arith) (omega arith) (λ e. absurd (omega arith)) (λ e. omega arith) in
+      let hi = below-high lead-byte second-byte (omega arith) (omega arith) (λ e. absurd (omega arith)) (λ e. omega arith) in
+      let quotient-is : x / 4096 ≡ x / 262144 * 64 + x / 4096 % 64 = omega arith in
+      let sum-is : x / 64 ≡ x / 4096 * 64 + x / 64 % 64 = omega arith in
+      let value : ((bitsOf lead-byte * 64 + (second-byte - 0x80)) * 64 + (third-byte - 0x80)) * 64 + (fourth-byte - 0x80) ≡ x = omega (
+        arith,
+        by-lead-four .2,
+      ) in
+      rw (encoding-four x lead-byte second-byte third-byte fourth-byte h refl refl refl refl)
+      (read-four at lead-byte x s (by-lead-four .0) second-byte third-byte fourth-byte (by-lead-four .1) lo hi (omega arith) (omega arith)
+      (omega arith) (omega arith) value
       ∙ read-from (at + 1 + 1 + 1 + 1) (at + 4) (omega arith))
 
   pub encoded-on : isScalar x ≡ true → readingFrom at (encoding x ++ s) ≡ onto x (readingFrom (at + length (encoding x)) s)
   encoded-on is = go (decLt x 0x80) (decLt x 0x800) (decLt x 0x10000)
     where
       go : Dec (x < 0x80) → Dec (x < 0x800) → Dec (x < 0x10000) → readingFrom at (encoding x ++ s) ≡ onto x (readingFrom (at + length (encoding x)) s)
-      go (yes h) k l = let f = lead-one x h in rw (encoding-one x h) (read-one at x x s (f .0) (f .1) (f .2))
+      go (yes h) k l = let by-lead-one = lead-one x h in rw (encoding-one x h) (read-one at x x s (by-lead-one .0) (by-lead-one .1) (by-lead-one .2))
       go (no h) (yes k) l = on-two (omega arith) k
       go (no h) (no k) (yes l) = on-three (omega arith) l (scalar-above x is)
       go (no h) (no k) (no l) = on-four (omega arith) (scalar-most x is)
@@ -102,4 +108,4 @@ encoded-reads (x ∷ t) at e = go (isScalar x) refl e (λ h. encoded-reads t (at
         (b : Bool) → isScalar x ≡ b → (not b || any notScalar t) ≡ false →
         (any notScalar t ≡ false → readingFrom (at + length (encoding x)) (utf8 t) ≡ text t) → readingFrom at (encoding x ++ utf8 t) ≡ text (x ∷ t)
     go true p q ih = encoded-on x at (utf8 t) p ∙ rw (ih q)
-    go false p q ih = let z : _≡_ {A = ℕ} 0 1 = cc in absurd (omega arith)
+    go false p q ih = let never : _≡_ {A = ℕ} 0 1 = cc in absurd (omega arith)

@@ -74,16 +74,16 @@ pub counts-plain :
     (b : List ℕ) (m at n : ℕ) → Counts b at n → at + m ≤ length b → any isAbove (take m (drop at b)) ≡ false → Counts b (at + m) (n + m)
 counts-plain b zero at n w h e = rw (add-zero at, add-zero n) w
 counts-plain b (suc m) at n w h e =
-    let l : at < length b = omega arith in
-    let f = plain-first (getD b at 0) (take m (drop (at + 1) b)) (rw (drop-at b at l) at e) in
-    let v = counts-on w (at + 1) (getD b at 0) (begins-one b at l (f .0)) (omega arith) (omega arith) in
-    let p : at + suc m ≡ at + 1 + m = omega arith in
-    let q : n + suc m ≡ n + 1 + m = omega arith in
-    rw (p, q) (counts-plain b m (at + 1) (n + 1) v (omega arith) (f .1))
+    let at-below : at < length b = omega arith in
+    let by-plain-first = plain-first (getD b at 0) (take m (drop (at + 1) b)) (rw (drop-at b at at-below) at e) in
+    let by-counts-on = counts-on w (at + 1) (getD b at 0) (begins-one b at at-below (by-plain-first .0)) (omega arith) (omega arith) in
+    let sum-is : at + suc m ≡ at + 1 + m = omega arith in
+    let same-sum : n + suc m ≡ n + 1 + m = omega arith in
+    rw (sum-is, same-sum) (counts-plain b m (at + 1) (n + 1) by-counts-on (omega arith) (by-plain-first .1))
 
 pub counts-to :
     {b : List ℕ} {at n : ℕ} (until : ℕ) → Counts b at n → at ≤ until → until ≤ length b → any isAbove (take (until - at) (drop at b)) ≡ false →
     Counts b until (n + (until - at))
 counts-to {b} {at} {n} until w h k e =
-    let p : at + (until - at) ≡ until = omega arith in
-    subst (λ (i : ℕ). Counts b i (n + (until - at))) p (counts-plain b (until - at) at n w (omega arith) e)
+    let sum-is : at + (until - at) ≡ until = omega arith in
+    subst (λ (i : ℕ). Counts b i (n + (until - at))) sum-is (counts-plain b (until - at) at n w (omega arith) e)

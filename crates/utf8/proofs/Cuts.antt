@@ -40,22 +40,26 @@ reading-cut :
     reading left low high value at (s ++ (x ∷ u)) ≡ behind (reading left low high value at s) (onto x (readingFrom (at + length s + 1) u))
 unfolding reading behind
 reading-cut [] zero low high value at x u h k =
-    let e : at + 0 + 1 ≡ at + 1 = omega arith in
-    rw e (read-ascii at x u h)
+    let sum-is : at + 0 + 1 ≡ at + 1 = omega arith in
+    rw sum-is (read-ascii at x u h)
 reading-cut [] (suc left) low high value at x u h k = tail-low at x u left low high value (omega arith)
 reading-cut (a ∷ s) zero low high value at x u h k =
-    let e : at + suc (length s) + 1 ≡ at + 1 + length s + 1 = omega arith in
-    let r = onto x (readingFrom (at + 1 + length s + 1) u) in
-    let p = reading (tailsOf a) (lowOf a) (highOf a) (bitsOf a) (at + 1) s in
-    rw (e, reading-cut s (tailsOf a) (lowOf a) (highOf a) (bitsOf a) (at + 1) x u h (low-least a), behind-ended (tailsOf a) (bitsOf a) p r)
-    (behind-cond (isLead a) (ended (tailsOf a) (bitsOf a) p) r at)
+    let sum-is : at + suc (length s) + 1 ≡ at + 1 + length s + 1 = omega arith in
+    let onto-here = onto x (readingFrom (at + 1 + length s + 1) u) in
+    let reading-here = reading (tailsOf a) (lowOf a) (highOf a) (bitsOf a) (at + 1) s in
+    rw (
+      sum-is,
+      reading-cut s (tailsOf a) (lowOf a) (highOf a) (bitsOf a) (at + 1) x u h (low-least a),
+      behind-ended (tailsOf a) (bitsOf a) reading-here onto-here,
+    )
+    (behind-cond (isLead a) (ended (tailsOf a) (bitsOf a) reading-here) onto-here at)
 reading-cut (a ∷ s) (suc left) low high value at x u h k =
-    let e : at + suc (length s) + 1 ≡ at + 1 + length s + 1 = omega arith in
-    let r = onto x (readingFrom (at + 1 + length s + 1) u) in
+    let sum-is : at + suc (length s) + 1 ≡ at + 1 + length s + 1 = omega arith in
+    let onto-here = onto x (readingFrom (at + 1 + length s + 1) u) in
     let bits = value * 64 + (a - 0x80) in
-    let p = reading left 0x80 0xbf bits (at + 1) s in
-    rw (e, reading-cut s left 0x80 0xbf bits (at + 1) x u h (omega arith), behind-ended left bits p r)
-    (behind-cond (leb low a && leb a high) (ended left bits p) r at)
+    let reading-here = reading left 0x80 0xbf bits (at + 1) s in
+    rw (sum-is, reading-cut s left 0x80 0xbf bits (at + 1) x u h (omega arith), behind-ended left bits reading-here onto-here)
+    (behind-cond (leb low a && leb a high) (ended left bits reading-here) onto-here at)
 
 -- the whole is read part by part
 pub decoding-cut :
@@ -68,22 +72,22 @@ decoding-cut s x u h =
 onto-read : (x : ℕ) (r : Reading) (t : List ℕ) → onto x r ≡ text t → (u : List ℕ) × (r ≡ text u)
 unfolding onto
 onto-read x (text u) t e = (u, refl)
-onto-read x (bad n) t e = let z : _≡_ {A = ℕ} 0 1 = cc in absurd (omega arith)
+onto-read x (bad n) t e = let never : _≡_ {A = ℕ} 0 1 = cc in absurd (omega arith)
 
 behind-read : (l : List ℕ) (r : Reading) (t : List ℕ) → behind (text l) r ≡ text t → (u : List ℕ) × (r ≡ text u)
 unfolding behind
 behind-read [] r t e = (t, e)
-behind-read (y ∷ l) r t e = let w = onto-read y (behind (text l) r) t e in behind-read l r (w .0) (w .1)
+behind-read (y ∷ l) r t e = let by-onto-read = onto-read y (behind (text l) r) t e in behind-read l r (by-onto-read .0) (by-onto-read .1)
 
 behind-last : (p r : Reading) (t : List ℕ) → behind p r ≡ text t → (u : List ℕ) × (r ≡ text u)
 unfolding behind
 behind-last (text l) r t e = behind-read l r t e
-behind-last (bad n) r t e = let z : _≡_ {A = ℕ} 0 1 = cc in absurd (omega arith)
+behind-last (bad n) r t e = let never : _≡_ {A = ℕ} 0 1 = cc in absurd (omega arith)
 
 pub good-behind : (s : List ℕ) (x : ℕ) (u t : List ℕ) → x < 0x80 → decoding (s ++ (x ∷ u)) ≡ text t → decoding u ≡ text (pointsOf u)
 unfolding textOf
 good-behind s x u t h e =
-    let w = behind-last (decoding s) (onto x (readingFrom (0 + length s + 1) u)) t (sym (decoding-cut s x u h) ∙ e) in
-    let v = onto-read x (readingFrom (0 + length s + 1) u) (w .0) (w .1) in
-    let k = decoding-text u (v .0) .1 (reads-encoded (0 + length s + 1) u (v .0) (v .1)) in
-    rw k
+    let by-behind-last = behind-last (decoding s) (onto x (readingFrom (0 + length s + 1) u)) t (sym (decoding-cut s x u h) ∙ e) in
+    let by-onto-read = onto-read x (readingFrom (0 + length s + 1) u) (by-behind-last .0) (by-behind-last .1) in
+    let by-decoding-text = decoding-text u (by-onto-read .0) .1 (reads-encoded (0 + length s + 1) u (by-onto-read .0) (by-onto-read .1)) in
+    rw by-decoding-text

@@ -56,16 +56,16 @@ decoding-encoded t room n e = go (ltb 1048576 (length t)) (any notScalar t) (leb
     go :
         (b c d : Bool) → ltb 1048576 (length t) ≡ b → any notScalar t ≡ c → leb (length (utf8 t)) (length room) ≡ d →
         decoding (take n (encodedIn t room)) ≡ text t
-    go true c d p q r = let f = encode-long t room (ltb-true _ _ p) .0 in let z : _≡_ {A = ℕ} 0 1 = cc in absurd (omega arith)
-    go false true d p q r = let f = encode-wrong t room (ltb-false _ _ p) q .0 in let z : _≡_ {A = ℕ} 0 1 = cc in absurd (omega arith)
+    go true c d p q r = let by-encode-long = encode-long t room (ltb-true _ _ p) .0 in let never : _≡_ {A = ℕ} 0 1 = cc in absurd (omega arith)
+    go false true d p q r = let by-encode-wrong = encode-wrong t room (ltb-false _ _ p) q .0 in let never : _≡_ {A = ℕ} 0 1 = cc in absurd (omega arith)
     go false false false p q r =
-        let f = encode-short t room (ltb-false _ _ p) q (leb-false _ _ r) .0 in
-        let z : _≡_ {A = ℕ} 0 1 = cc in
+        let by-encode-short = encode-short t room (ltb-false _ _ p) q (leb-false _ _ r) .0 in
+        let never : _≡_ {A = ℕ} 0 1 = cc in
         absurd (omega arith)
     go false false true p q r =
-        let f = encode-text t room (ltb-false _ _ p) q (length (utf8 t)) (sets room 0 (utf8 t)) refl (leb-true _ _ r) refl in
-        let m : length (utf8 t) ≡ n = cc (f .0) in
+        let by-encode-text = encode-text t room (ltb-false _ _ p) q (length (utf8 t)) (sets room 0 (utf8 t)) refl (leb-true _ _ r) refl in
+        let size-is : length (utf8 t) ≡ n = cc (by-encode-text .0) in
         let at : 0 + length (utf8 t) ≡ length (utf8 t) = omega arith in
         let left : encodedIn t room ≡ utf8 t ++ drop (length (utf8 t)) room =
-        sym (f .1) ∙ sets-eq (utf8 t) room 0 (omega (arith, leb-true (length (utf8 t)) (length room) r)) ∙ rw at in
-        rw (left, take-at (utf8 t) (drop (length (utf8 t)) room) n m) (encoded-reads t 0 q)
+        sym (by-encode-text .1) ∙ sets-eq (utf8 t) room 0 (omega (arith, leb-true (length (utf8 t)) (length room) r)) ∙ rw at in
+        rw (left, take-at (utf8 t) (drop (length (utf8 t)) room) n size-is) (encoded-reads t 0 q)

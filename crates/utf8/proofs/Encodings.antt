@@ -24,7 +24,7 @@ scalar-most x e = go (leb x 0x10ffff) refl e
   where
     go : (b : Bool) → leb x 0x10ffff ≡ b → (b && (ltb x 0xd800 || ltb 0xdfff x)) ≡ true → x ≤ 0x10ffff
     go true p q = leb-true x 0x10ffff p
-    go false p q = let z : _≡_ {A = ℕ} 0 1 = cc in absurd (omega arith)
+    go false p q = let never : _≡_ {A = ℕ} 0 1 = cc in absurd (omega arith)
 
 pub scalar-above : (x : ℕ) → isScalar x ≡ true → 0xd800 ≤ x → 0xdfff < x
 scalar-above x e h = go (leb x 0x10ffff) (ltb x 0xd800) (ltb 0xdfff x) refl refl e
@@ -32,8 +32,8 @@ scalar-above x e h = go (leb x 0x10ffff) (ltb x 0xd800) (ltb 0xdfff x) refl refl
     go : (b c d : Bool) → ltb x 0xd800 ≡ c → ltb 0xdfff x ≡ d → (b && (c || d)) ≡ true → 0xdfff < x
     go b true d p q r = absurd (omega (arith, ltb-true x 0xd800 p))
     go b false true p q r = ltb-true 0xdfff x q
-    go true false false p q r = let z : _≡_ {A = ℕ} 0 1 = cc in absurd (omega arith)
-    go false false false p q r = let z : _≡_ {A = ℕ} 0 1 = cc in absurd (omega arith)
+    go true false false p q r = let never : _≡_ {A = ℕ} 0 1 = cc in absurd (omega arith)
+    go false false false p q r = let never : _≡_ {A = ℕ} 0 1 = cc in absurd (omega arith)
 
 -- a value and its bytes
 module _ (x : ℕ) where

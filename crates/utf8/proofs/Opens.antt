@@ -55,18 +55,18 @@ module _ (a : ℕ) where
   opens-two h k c l m =
       let least : 0x80 ≤ c = omega (arith, low-least a) in
       let most : c ≤ 0xbf = omega (arith, high-most a) in
-      let v = (a - 0xc0) * 64 + (c - 0x80) in
-      (scalar-low v (omega arith), encoding-two v a c (omega arith) (omega arith) (omega arith) (omega arith))
+      let sum = (a - 0xc0) * 64 + (c - 0x80) in
+      (scalar-low sum (omega arith), encoding-two sum a c (omega arith) (omega arith) (omega arith) (omega arith))
 
   opens-three : 0xe0 ≤ a → a < 0xf0 → Opens (a ∷ []) 2 (lowOf a) (highOf a) (a - 0xe0)
   unfolding Opens
   opens-three h k c l m d n o =
       let least : 0x80 ≤ c = omega (arith, low-least a) in
       let most : c ≤ 0xbf = omega (arith, high-most a) in
-      let v = ((a - 0xe0) * 64 + (c - 0x80)) * 64 + (d - 0x80) in
-      let z = three-least a c d least most n o h (λ e. omega (arith, low-e0 a e)) in (
+      let sum = ((a - 0xe0) * 64 + (c - 0x80)) * 64 + (d - 0x80) in
+      let by-three-least = three-least a c d least most n o h (λ e. omega (arith, low-e0 a e)) in (
         three-scalar a c d least most n o k (λ e. omega (arith, high-ed a e)),
-        encoding-three v a c d z (omega arith) (omega arith) (omega arith) (omega arith),
+        encoding-three sum a c d by-three-least (omega arith) (omega arith) (omega arith) (omega arith),
       )
 
   opens-four : 0xf0 ≤ a → a ≤ 0xf4 → Opens (a ∷ []) 3 (lowOf a) (highOf a) (a - 0xf0)
@@ -74,10 +74,10 @@ module _ (a : ℕ) where
   opens-four h k c l m d n o e p q =
       let least : 0x80 ≤ c = omega (arith, low-least a) in
       let most : c ≤ 0xbf = omega (arith, high-most a) in
-      let v = (((a - 0xf0) * 64 + (c - 0x80)) * 64 + (d - 0x80)) * 64 + (e - 0x80) in
-      let z = four-least a c d least most n o e p q h (λ w. omega (arith, low-f0 a w)) in (
-        scalar-high v (omega arith) (four-most a c d least most n o e p q k (λ w. omega (arith, high-f4 a w))),
-        encoding-four v a c d e z (omega arith) (omega arith) (omega arith) (omega arith),
+      let sum = (((a - 0xf0) * 64 + (c - 0x80)) * 64 + (d - 0x80)) * 64 + (e - 0x80) in
+      let by-four-least = four-least a c d least most n o e p q h (λ w. omega (arith, low-f0 a w)) in (
+        scalar-high sum (omega arith) (four-most a c d least most n o e p q k (λ w. omega (arith, high-f4 a w))),
+        encoding-four sum a c d e by-four-least (omega arith) (omega arith) (omega arith) (omega arith),
       )
 
   pub lead-opens : isLead a ≡ true → Opens (a ∷ []) (tailsOf a) (lowOf a) (highOf a) (bitsOf a)
@@ -86,8 +86,10 @@ module _ (a : ℕ) where
     where
       go : Dec (a < 0x80) → Dec (a < 0xc2) → Dec (a < 0xe0) → Dec (a < 0xf0) → Dec (0xf4 < a) → Opens (a ∷ []) (tailsOf a) (lowOf a) (highOf a) (bitsOf a)
       go (yes h) b c d e = rw (lead-one a h .1, lead-one a h .2) (scalar-low a (omega arith), encoding-one a h)
-      go (no h) (yes i) c d e = let f = lead-not-low a (omega arith) i in let z : _≡_ {A = ℕ} 0 1 = cc in absurd (omega arith)
-      go (no h) (no i) (yes j) d e = let f = lead-two a (omega arith) j in rw (f .1, f .2) (opens-two (omega arith) j)
-      go (no h) (no i) (no j) (yes k) e = let f = lead-three a (omega arith) k in rw (f .1, f .2) (opens-three (omega arith) k)
-      go (no h) (no i) (no j) (no k) (yes l) = let f = lead-not-high a l in let z : _≡_ {A = ℕ} 0 1 = cc in absurd (omega arith)
-      go (no h) (no i) (no j) (no k) (no l) = let f = lead-four a (omega arith) (omega arith) in rw (f .1, f .2) (opens-four (omega arith) (omega arith))
+      go (no h) (yes i) c d e = let by-lead-not-low = lead-not-low a (omega arith) i in let never : _≡_ {A = ℕ} 0 1 = cc in absurd (omega arith)
+      go (no h) (no i) (yes j) d e = let by-lead-two = lead-two a (omega arith) j in rw (by-lead-two .1, by-lead-two .2) (opens-two (omega arith) j)
+      go (no h) (no i) (no j) (yes k) e = let by-lead-three = lead-three a (omega arith) k in
+          rw (by-lead-three .1, by-lead-three .2) (opens-three (omega arith) k)
+      go (no h) (no i) (no j) (no k) (yes l) = let by-lead-not-high = lead-not-high a l in let never : _≡_ {A = ℕ} 0 1 = cc in absurd (omega arith)
+      go (no h) (no i) (no j) (no k) (no l) = let by-lead-four = lead-four a (omega arith) (omega arith) in
+          rw (by-lead-four .1, by-lead-four .2) (opens-four (omega arith) (omega arith))

@@ -26,9 +26,10 @@ finish : (left low high value at : ℕ) → low ≤ high → (c : List ℕ) × I
 unfolding reading IsText
 finish zero low high value at h = ([], tt)
 finish (suc left) low high value at h =
-    let r = finish left 0x80 0xbf (value * 64 + (low - 0x80)) (at + 1) (omega arith) in (
-      low ∷ r .0,
-      rw (le-leb low low (omega arith), le-leb low high h) (ended-text left (value * 64 + (low - 0x80)) (reading left 0x80 0xbf (value * 64 + (low - 0x80)) (at + 1) (r .0)) (r .1)),
+    let by-finish = finish left 0x80 0xbf (value * 64 + (low - 0x80)) (at + 1) (omega arith) in (
+      low ∷ by-finish .0,
+      rw (le-leb low low (omega arith), le-leb low high h)
+          (ended-text left (value * 64 + (low - 0x80)) (reading left 0x80 0xbf (value * 64 + (low - 0x80)) (at + 1) (by-finish .0)) (by-finish .1)),
     )
 
 -- s goes wrong at n, where its first byte stands at index at
@@ -42,7 +43,7 @@ pub record Wrong (left low high value at : ℕ) (s : List ℕ) (n : ℕ) : Type 
 
 bad-ended : (left value n : ℕ) (r : Reading) → ended left value r ≡ bad n → r ≡ bad n
 unfolding ended onto
-bad-ended zero value n (text t) e = let z : _≡_ {A = ℕ} 0 1 = cc in absurd (omega arith)
+bad-ended zero value n (text t) e = let never : _≡_ {A = ℕ} 0 1 = cc in absurd (omega arith)
 bad-ended zero value n (bad m) e = e
 bad-ended (suc left) value n r e = e
 
@@ -53,11 +54,11 @@ ended-bad (suc left) value n r e = e
 
 pub wrong-from : (s : List ℕ) (left low high value at : ℕ) → low ≤ high → (n : ℕ) → reading left low high value at s ≡ bad n → Wrong left low high value at s n
 unfolding reading IsText
-wrong-from [] zero low high value at h n e = let z : _≡_ {A = ℕ} 0 1 = cc in absurd (omega arith)
+wrong-from [] zero low high value at h n e = let never : _≡_ {A = ℕ} 0 1 = cc in absurd (omega arith)
 wrong-from [] (suc left) low high value at h n e =
-    let f : at ≡ n = cc in
-    let c = finish (suc left) low high value at h in
-    record { passed = 0; place = omega arith; inside = omega arith; rest = c .0; begins = c .1; longest = λ l. absurd (omega arith) }
+    let at-is : at ≡ n = cc in
+    let by-finish = finish (suc left) low high value at h in
+    record { passed = 0; place = omega arith; inside = omega arith; rest = by-finish .0; begins = by-finish .1; longest = λ l. absurd (omega arith) }
 wrong-from (a ∷ s) zero low high value at h n e =
     go (isLead a) refl e (wrong-from s (tailsOf a) (lowOf a) (highOf a) (bitsOf a) (at + 1) (low-high a) n)
   where
@@ -68,19 +69,19 @@ wrong-from (a ∷ s) zero low high value at h n e =
         (b : Bool) → isLead a ≡ b → cond b (ended (tailsOf a) (bitsOf a) (r s)) (bad at) ≡ bad n →
         (r s ≡ bad n → Wrong (tailsOf a) (lowOf a) (highOf a) (bitsOf a) (at + 1) s n) → Wrong 0 low high value at (a ∷ s) n
     go true l q ih =
-        let w = ih (bad-ended (tailsOf a) (bitsOf a) n (r s) q) in
+        let by-ih = ih (bad-ended (tailsOf a) (bitsOf a) n (r s) q) in
         record {
-          passed = suc (w .passed);
-          place = omega (arith, w .place);
-          inside = omega (arith, w .inside);
-          rest = w .rest;
-          begins = rw l (ended-text (tailsOf a) (bitsOf a) (r (take (w .passed) s ++ w .rest)) (w .begins));
+          passed = suc (by-ih .passed);
+          place = omega (arith, by-ih .place);
+          inside = omega (arith, by-ih .inside);
+          rest = by-ih .rest;
+          begins = rw l (ended-text (tailsOf a) (bitsOf a) (r (take (by-ih .passed) s ++ by-ih .rest)) (by-ih .begins));
           longest =
-              λ m u. rw l (ended-bad (tailsOf a) (bitsOf a) n (r (take (suc (w .passed)) s ++ u)) (w .longest (omega arith) u));
+              λ m u. rw l (ended-bad (tailsOf a) (bitsOf a) n (r (take (suc (by-ih .passed)) s ++ u)) (by-ih .longest (omega arith) u));
         }
     go false l q ih =
-        let f : at ≡ n = cc in
-        record { passed = 0; place = omega arith; inside = omega arith; rest = []; begins = tt; longest = λ m u. rw l (ap bad f) }
+        let at-is : at ≡ n = cc in
+        record { passed = 0; place = omega arith; inside = omega arith; rest = []; begins = tt; longest = λ m u. rw l (ap bad at-is) }
 wrong-from (a ∷ s) (suc left) low high value at h n e =
     go (leb low a && leb a high) refl e (wrong-from s left 0x80 0xbf (value * 64 + (a - 0x80)) (at + 1) (omega arith) n)
   where
@@ -94,16 +95,16 @@ wrong-from (a ∷ s) (suc left) low high value at h n e =
         (b : Bool) → (leb low a && leb a high) ≡ b → cond b (ended left bits (r s)) (bad at) ≡ bad n →
         (r s ≡ bad n → Wrong left 0x80 0xbf bits (at + 1) s n) → Wrong (suc left) low high value at (a ∷ s) n
     go true l q ih =
-        let w = ih (bad-ended left bits n (r s) q) in
+        let by-ih = ih (bad-ended left bits n (r s) q) in
         record {
-          passed = suc (w .passed);
-          place = omega (arith, w .place);
-          inside = omega (arith, w .inside);
-          rest = w .rest;
-          begins = rw l (ended-text left bits (r (take (w .passed) s ++ w .rest)) (w .begins));
-          longest = λ m u. rw l (ended-bad left bits n (r (take (suc (w .passed)) s ++ u)) (w .longest (omega arith) u));
+          passed = suc (by-ih .passed);
+          place = omega (arith, by-ih .place);
+          inside = omega (arith, by-ih .inside);
+          rest = by-ih .rest;
+          begins = rw l (ended-text left bits (r (take (by-ih .passed) s ++ by-ih .rest)) (by-ih .begins));
+          longest = λ m u. rw l (ended-bad left bits n (r (take (suc (by-ih .passed)) s ++ u)) (by-ih .longest (omega arith) u));
         }
     go false l q ih =
-        let f : at ≡ n = cc in
-        let c = finish (suc left) low high value at h in
-        record { passed = 0; place = omega arith; inside = omega arith; rest = c .0; begins = c .1; longest = λ m u. rw l (ap bad f) }
+        let at-is : at ≡ n = cc in
+        let by-finish = finish (suc left) low high value at h in
+        record { passed = 0; place = omega arith; inside = omega arith; rest = by-finish .0; begins = by-finish .1; longest = λ m u. rw l (ap bad at-is) }

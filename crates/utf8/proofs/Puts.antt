@@ -65,7 +65,7 @@ scalar-first x l e = go (isScalar x) refl e
   where
     go : (b : Bool) → isScalar x ≡ b → (not b || any notScalar l) ≡ false → (isScalar x ≡ true) × (any notScalar l ≡ false)
     go true p q = (p, q)
-    go false p q = let z : _≡_ {A = ℕ} 0 1 = cc in absurd (omega arith)
+    go false p q = let never : _≡_ {A = ℕ} 0 1 = cc in absurd (omega arith)
 
 sets-append : (x y out : List ℕ) (at : ℕ) → sets out at (x ++ y) ≡ sets (sets out at x) (at + length x) y
 sets-append [] y out at = rw add-zero
@@ -82,22 +82,22 @@ pub record Laying (t room : List ℕ) (at i : ℕ) (bytes : List ℕ) : Type 0 w
 module _ {t room bytes : List ℕ} {at i : ℕ} (w : Laying t room at i bytes) where
   pub laying-room : i < length t → length (utf8 t) ≤ length room → (getD t i 0 ≤ 0x10ffff) × (at + length (encoding (getD t i 0)) ≤ length bytes)
   laying-room h k =
-      let x = getD t i 0 in
+      let value = getD t i 0 in
       let rest = utf8 (drop (i + 1) t) in
-      let s = scalar-first x (drop (i + 1) t) (rw (drop-at t i h) at (w .scalar)) in
-      (scalar-most x (s .0), omega (arith, w .total, w .size, ap length (utf8-at t i h), length-append (encoding x) rest))
+      let by-scalar-first = scalar-first value (drop (i + 1) t) (rw (drop-at t i h) at (w .scalar)) in
+      (scalar-most value (by-scalar-first .0), omega (arith, w .total, w .size, ap length (utf8-at t i h), length-append (encoding value) rest))
 
   pub laying-on : i < length t → {at′ : ℕ} {bytes′ : List ℕ} → Put bytes at (encoding (getD t i 0)) at′ bytes′ → Laying t room at′ (i + 1) bytes′
   laying-on h {at′} {bytes′} p =
-      let x = getD t i 0 in
+      let value = getD t i 0 in
       let rest = utf8 (drop (i + 1) t) in
       record {
         within = omega arith;
-        scalar = scalar-first x (drop (i + 1) t) (rw (drop-at t i h) at (w .scalar)) .1;
-        total = omega (arith, w .total, p .next, ap length (utf8-at t i h), length-append (encoding x) rest);
+        scalar = scalar-first value (drop (i + 1) t) (rw (drop-at t i h) at (w .scalar)) .1;
+        total = omega (arith, w .total, p .next, ap length (utf8-at t i h), length-append (encoding value) rest);
         whole =
             rw (p .left, p .next)
-            (sym (sets-append (encoding x) rest bytes at) ∙ ap (sets bytes at) (sym (utf8-at t i h)) ∙ w .whole);
+            (sym (sets-append (encoding value) rest bytes at) ∙ ap (sets bytes at) (sym (utf8-at t i h)) ∙ w .whole);
         size = p .size ∙ w .size;
       }
 

@@ -49,9 +49,9 @@ decoded-most b room n e = go (decoding b) refl e
     go (text t) p q = fits (leb (length t) room) refl q
       where
         fits : (c : Bool) → leb (length t) room ≡ c → cond c (Text (length t)) (Refused 14) ≡ Text n → n ≤ length b
-        fits true h f = let m : length t ≡ n = cc in omega (arith, text-most b t p)
-        fits false h f = let z : _≡_ {A = ℕ} 0 1 = cc in absurd (omega arith)
-    go (bad place) p q = let z : _≡_ {A = ℕ} 0 1 = cc in absurd (omega arith)
+        fits true h f = let size-is : length t ≡ n = cc in omega (arith, text-most b t p)
+        fits false h f = let never : _≡_ {A = ℕ} 0 1 = cc in absurd (omega arith)
+    go (bad place) p q = let never : _≡_ {A = ℕ} 0 1 = cc in absurd (omega arith)
 
 pub bad-most : (b : List ℕ) (room place : ℕ) → decoded (decoding b) room ≡ Bad place → place ≤ length b
 unfolding decoded
@@ -61,9 +61,9 @@ bad-most b room place e = go (decoding b) refl e
     go (text t) p q = fits (leb (length t) room) q
       where
         fits : (c : Bool) → cond c (Text (length t)) (Refused 14) ≡ Bad place → place ≤ length b
-        fits true f = let z : _≡_ {A = ℕ} 0 1 = cc in absurd (omega arith)
-        fits false f = let z : _≡_ {A = ℕ} 0 1 = cc in absurd (omega arith)
-    go (bad n) p q = let m : n ≡ place = cc in omega (arith, bad-place b n p .inside)
+        fits true f = let never : _≡_ {A = ℕ} 0 1 = cc in absurd (omega arith)
+        fits false f = let never : _≡_ {A = ℕ} 0 1 = cc in absurd (omega arith)
+    go (bad n) p q = let n-is : n ≡ place = cc in omega (arith, bad-place b n p .inside)
 
 pub encoded-most : (t : List ℕ) (room n : ℕ) → encoded t room ≡ Bytes n → n ≤ 4194304
 unfolding encoded encodeRefusal
@@ -73,7 +73,7 @@ encoded-most t room n e = go (ltb 1048576 (length t)) (any notScalar t) (leb (le
         (b c d : Bool) → ltb 1048576 (length t) ≡ b →
         cond (eqb (cond b 1 (cond c 2 (cond d 0 14))) 0) (Bytes (length (utf8 t))) (Encoded·Refused (cond b 1 (cond c 2 (cond d 0 14)))) ≡ Bytes n →
         n ≤ 4194304
-    go true c d p q = let z : _≡_ {A = ℕ} 0 1 = cc in absurd (omega arith)
-    go false true d p q = let z : _≡_ {A = ℕ} 0 1 = cc in absurd (omega arith)
-    go false false true p q = let m : length (utf8 t) ≡ n = cc in omega (arith, utf8-most t, ltb-false 1048576 (length t) p)
-    go false false false p q = let z : _≡_ {A = ℕ} 0 1 = cc in absurd (omega arith)
+    go true c d p q = let never : _≡_ {A = ℕ} 0 1 = cc in absurd (omega arith)
+    go false true d p q = let never : _≡_ {A = ℕ} 0 1 = cc in absurd (omega arith)
+    go false false true p q = let size-is : length (utf8 t) ≡ n = cc in omega (arith, utf8-most t, ltb-false 1048576 (length t) p)
+    go false false false p q = let never : _≡_ {A = ℕ} 0 1 = cc in absurd (omega arith)

@@ -69,5 +69,5 @@ module _ {b : List ℕ} {r : Reading} {from at left least most value : ℕ} (w :
   pub follows-end : left ≤ 0 → r ≡ onto value (readingFrom at (drop at b))
   unfolding ended
   follows-end h =
-      let z : left ≡ 0 = omega arith in
-      (rw z at (w .same)) ∙ ap (onto value) (reading-fresh least most value at (drop at b))
+      let left-is : left ≡ 0 = omega arith in
+      (rw left-is at (w .same)) ∙ ap (onto value) (reading-fresh least most value at (drop at b))

@@ -15,21 +15,21 @@ use Rattle.utf8.specs.Walks.{pointsOf, Holds, Wrote}
 -- the first of a text that is read
 onto-text : (x : ℕ) (r : Reading) (l : List ℕ) → text l ≡ onto x r → (u : List ℕ) × (r ≡ text u) × (l ≡ x ∷ u)
 unfolding onto
-onto-text x (text u) l e = let f : l ≡ x ∷ u = cc in (u, refl, f)
-onto-text x (bad n) l e = let z : _≡_ {A = ℕ} 0 1 = cc in absurd (omega arith)
+onto-text x (text u) l e = let l-is : l ≡ x ∷ u = cc in (u, refl, l-is)
+onto-text x (bad n) l e = let never : _≡_ {A = ℕ} 0 1 = cc in absurd (omega arith)
 
 drop-first : (t : List ℕ) (n x : ℕ) (u : List ℕ) → drop n t ≡ x ∷ u → (n < length t) × (getD t n 0 ≡ x) × (drop (n + 1) t ≡ u)
 drop-first t n x u e = go (decLt n (length t))
   where
     go : Dec (n < length t) → (n < length t) × (getD t n 0 ≡ x) × (drop (n + 1) t ≡ u)
     go (yes h) =
-        let f : getD t n 0 ∷ drop (n + 1) t ≡ x ∷ u = sym (drop-at t n h) ∙ e in
-        let v : getD t n 0 ≡ x = cc in
-        let w : drop (n + 1) t ≡ u = cc in
-        (h, v, w)
+        let list-is : getD t n 0 ∷ drop (n + 1) t ≡ x ∷ u = sym (drop-at t n h) ∙ e in
+        let value-is : getD t n 0 ≡ x = cc in
+        let rest-is : drop (n + 1) t ≡ u = cc in
+        (h, value-is, rest-is)
     go (no h) =
-        let f : [] ≡ x ∷ u = sym (drop-of-length-le t {i = n} (omega arith)) ∙ e in
-        let z : _≡_ {A = ℕ} 0 1 = cc in
+        let value-is : [] ≡ x ∷ u = sym (drop-of-length-le t {i = n} (omega arith)) ∙ e in
+        let never : _≡_ {A = ℕ} 0 1 = cc in
         absurd (omega arith)
 
 drop-more : (n : ℕ) (p q : List ℕ) → drop n p ≡ drop n q → drop (n + 1) p ≡ drop (n + 1) q
@@ -55,11 +55,11 @@ pub going-then :
     {b room points : List ℕ} {before at n until : ℕ} {r : Spot} {points′ : List ℕ} → Going b room before at n points → Wrote b points n until r points′ →
     Going b room before (r .at) (r .count) points′
 going-then {b} {room} {points} {before} {at} {n} {until} {r} {points′} g w =
-    let m = r .count in
-    let e : m ≡ n + (m - n) = omega (arith, w .onward) in
-    let same : drop m points ≡ drop m room =
-    ap (λ (k : ℕ). drop k points) e ∙ sym (drop-drop (m - n) n points) ∙ ap (drop (m - n)) (g .kept) ∙ drop-drop (m - n) n room
-    ∙ ap (λ (k : ℕ). drop k room) (sym e) in
+    let count = r .count in
+    let m-is : count ≡ n + (count - n) = omega (arith, w .onward) in
+    let same : drop count points ≡ drop count room =
+    ap (λ (k : ℕ). drop k points) m-is ∙ sym (drop-drop (count - n) n points) ∙ ap (drop (count - n)) (g .kept) ∙ drop-drop (count - n) n room
+    ∙ ap (λ (k : ℕ). drop k room) (sym m-is) in
     record { holds = w .holds; onward = omega (arith, w .onward, g .onward); kept = w .kept ∙ same; size = w .size ∙ g .size }
 
 module _ {b room points : List ℕ} {before at n : ℕ} (g : Going b room before at n points) where
@@ -94,17 +94,17 @@ module _ {b room points : List ℕ} {before at n : ℕ} (g : Going b room before
   -- no sequence goes wrong
   pub going-bad : {place : ℕ} → readingFrom at (drop at b) ≡ bad place → ⊥
   going-bad e =
-      let f = g .holds .rest in
-      let z : _≡_ {A = ℕ} 0 1 = cc in
+      let rest = g .holds .rest in
+      let never : _≡_ {A = ℕ} 0 1 = cc in
       omega arith
 
 -- all are written
 pub going-end : {b room points : List ℕ} {at n : ℕ} → Going b room 0 at n points → length b ≤ at → points ≡ pointsOf b ++ drop (length (pointsOf b)) room
 unfolding reading
 going-end {b} {room} {points} {at} {n} g h =
-    let t = pointsOf b in
-    let none : text [] ≡ text (drop n t) = sym (ap (readingFrom at) (drop-of-length-le b h)) ∙ g .holds .rest in
-    let empty : [] ≡ drop n t = cc in
-    let all : n ≡ length t = omega (arith, g .holds .most, ap length empty, length-drop n t) in
-    let front : take n points ≡ t = g .holds .front ∙ take-all n t (omega arith) in
+    let the-points = pointsOf b in
+    let none : text [] ≡ text (drop n the-points) = sym (ap (readingFrom at) (drop-of-length-le b h)) ∙ g .holds .rest in
+    let empty : [] ≡ drop n the-points = cc in
+    let all : n ≡ length the-points = omega (arith, g .holds .most, ap length empty, length-drop n the-points) in
+    let front : take n points ≡ the-points = g .holds .front ∙ take-all n the-points (omega arith) in
     sym (take-append-drop n points) ∙ rw (front, g .kept, all)

@@ -25,8 +25,9 @@ landed-twice w t tabstop want row col a b back = go (ℕ-discrete b a)
     go (no n) = rw (ne-eqb b a n, ne-eqb b row (λ e. n (e ∙ sym (back e))))
 
 pub vertical-adds : (w : ℕ → ℕ) (t folds : List ℕ) (tabstop : ℕ) (down : Bool) (m n row col : ℕ) (sticky : Sticky) → 0 < m → 0 < n →
-    let p = moveVertical w t folds tabstop (deltaOf down m) row col sticky in
-    moveVertical w t folds tabstop (deltaOf down n) (p .row) (p .col) (At (p .want)) ≡ moveVertical w t folds tabstop (deltaOf down (m + n)) row col sticky
+    let move-vertical = moveVertical w t folds tabstop (deltaOf down m) row col sticky in
+    moveVertical w t folds tabstop (deltaOf down n) (move-vertical .row) (move-vertical .col)
+    (At (move-vertical .want)) ≡ moveVertical w t folds tabstop (deltaOf down (m + n)) row col sticky
 unfolding landed
 vertical-adds w t folds tabstop down m n row col sticky h k =
     let want = wantedCol w t tabstop row col sticky in

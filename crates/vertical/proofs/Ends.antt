@@ -27,7 +27,7 @@ module _ (w : ℕ → ℕ) (wide : (x : ℕ) → w x ≤ 1000) (t : List ℕ) (b
       rw end (omega arith)
 
   pub vertical-last : (folds : List ℕ) (z : ℤ) (row col : ℕ) → row < rowCount t → col ≡ lastCol t row →
-      let p = moveVertical w t folds tabstop z row col (At want) in p .col ≡ lastCol t (p .row)
+      let move-vertical = moveVertical w t folds tabstop z row col (At want) in move-vertical .col ≡ lastCol t (move-vertical .row)
   unfolding landed
   vertical-last folds z row col h e = go (ℕ-discrete target row)
     where

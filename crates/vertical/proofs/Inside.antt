@@ -55,5 +55,5 @@ landed-inside w t tabstop want row col target i h = go (ℕ-discrete target row)
     go (no n) = record { in-row = h; in-col = rw (ne-eqb target row n) (omega arith) }
 
 pub rows-inside : (w : ℕ → ℕ) (t folds : List ℕ) (tabstop row col : ℕ) (sticky : Sticky) (z : ℤ) → Inside t row col →
-    let p = moveVertical w t folds tabstop z row col sticky in Inside t (p .row) (p .col)
+    let move-vertical = moveVertical w t folds tabstop z row col sticky in Inside t (move-vertical .row) (move-vertical .col)
 rows-inside w t folds tabstop row col sticky z i = landed-inside w t tabstop _ row col _ i (vertical-within folds (rowCount t) z row (i .in-row))

@@ -16,7 +16,7 @@ decided-silent b (t ∷ ts) c e = go (speaks t c) e (decided-silent b ts c)
     go :
         (s : Bool) → (s || any (λ u. speaks u c) ts) ≡ false → (any (λ u. speaks u c) ts ≡ false → decided b ts c ≡ b) →
         decided (cond s (not (t .out)) b) ts c ≡ b
-    go true f ih = let z : _≡_ {A = Bool} true false = f in cc
+    go true f ih = let never : _≡_ {A = Bool} true false = f in cc
     go false f ih = ih f
 
 pub decided-append : (b : Bool) (ts us : List VimToken) (c : ℕ) → decided b (ts ++ us) c ≡ decided (decided b ts c) us c

@@ -39,7 +39,8 @@ unfolding any
 any-append [] b e f = f
 any-append (x ∷ a) b e f = go (notScalar x) e (any-append a b)
   where
-    go : (s : Bool) → (s || any notScalar a) ≡ false → (any notScalar a ≡ false → any notScalar b ≡ false → any notScalar (a ++ b) ≡ false) → (s || any notScalar (a ++ b)) ≡ false
+    go : (s : Bool) → (s || any notScalar a) ≡ false → (any notScalar a ≡ false → any notScalar b ≡ false → any notScalar (a ++ b) ≡ false) →
+        (s || any notScalar (a ++ b)) ≡ false
     go true g ih = absurd (true≢false g)
     go false g ih = ih g f
 
@@ -99,20 +100,20 @@ taken l z = list (leb (length l) 1024) refl (any notScalar l) refl
     tokens : (ts : List VimToken) (b : Bool) → vimReading l ≡ read ts → leb (length ts) 128 ≡ b → length l ≤ 1024 → readOf l ≡ answered (vimReading l) → Taken l
     tokens ts true r few short e = record { ts = ts; reads = r; few = leb-true (length ts) 128 few; short = short; is = e ∙ rw (r, few) }
     tokens ts false r few short e =
-        let w : _≡_ {A = ℕ} 8 0 = no-refusal 8 (readOf l) (e ∙ rw (r, few)) z in
+        let never : _≡_ {A = ℕ} 8 0 = no-refusal 8 (readOf l) (e ∙ rw (r, few)) z in
         absurd (omega arith)
 
     reading : (r : Reading) → vimReading l ≡ r → length l ≤ 1024 → readOf l ≡ answered (vimReading l) → Taken l
     reading (read ts) r short e = tokens ts (leb (length ts) 128) r refl short e
     reading (bad n) r short e =
-        let f : readOf l ≡ refusedAt 17 n = e ∙ rw r in
-        let w : _≡_ {A = ℕ} 17 0 = sym (ap (λ (q : VimRead). q .refusal) f) ∙ z in
+        let read-is : readOf l ≡ refusedAt 17 n = e ∙ rw r in
+        let never : _≡_ {A = ℕ} 17 0 = sym (ap (λ (q : VimRead). q .refusal) read-is) ∙ z in
         absurd (omega arith)
 
     list : (b : Bool) → leb (length l) 1024 ≡ b → (s : Bool) → any notScalar l ≡ s → Taken l
     list true h false s = reading (vimReading l) refl (leb-true (length l) 1024 h) (rw (h, s))
-    list true h true s = let w : _≡_ {A = ℕ} 7 0 = no-refusal 7 (readOf l) (rw (h, s)) z in absurd (omega arith)
-    list false h s e = let w : _≡_ {A = ℕ} 7 0 = no-refusal 7 (readOf l) (rw h) z in absurd (omega arith)
+    list true h true s = let never : _≡_ {A = ℕ} 7 0 = no-refusal 7 (readOf l) (rw (h, s)) z in absurd (omega arith)
+    list false h s e = let never : _≡_ {A = ℕ} 7 0 = no-refusal 7 (readOf l) (rw h) z in absurd (omega arith)
 
 module _ (l : List ℕ) (t : Taken l) where
   tokens : kept (readOf l .spec) ≡ t .ts
@@ -131,7 +132,7 @@ module _ (l : List ℕ) (t : Taken l) where
   same-again = ap (λ (ts : List VimToken). readOf (written ts)) tokens ∙ back ∙ sym (t .is)
 
 no-made : (f n : ℕ) → Refused f ≡ Made n → ⊥
-no-made f n e = let z : _≡_ {A = ℕ} 0 1 = cc in omega arith
+no-made f n e = let never : _≡_ {A = ℕ} 0 1 = cc in omega arith
 
 there :
     (spec : VimSpec) (room : List ℕ) (n : ℕ) → writtenOf spec room ≡ Made n → take n (writtenIn spec room) ≡ written (kept spec)
@@ -151,10 +152,10 @@ there spec room n e = go (eqb (writeRefusal spec room) 0) refl e
 
 pub again : (l : List ℕ) → readOf l .refusal ≡ 0 → statements.Again l
 again l z =
-    let t = taken l z in
+    let by-taken = taken l z in
     record {
-      same = same-again l t;
-      holds = λ c. ap (λ (r : VimRead). inVim (kept (r .spec)) c) (same-again l t);
-      shorter = rw (tokens l t) (again-reads l t .1);
+      same = same-again l by-taken;
+      holds = λ c. ap (λ (r : VimRead). inVim (kept (r .spec)) c) (same-again l by-taken);
+      shorter = rw (tokens l by-taken) (again-reads l by-taken .1);
       written-there = there (readOf l .spec);
     }

@@ -50,12 +50,12 @@ noComma (x ∷ p) = not (eqb x 44) && noComma p
 comma-append : (p q : List ℕ) → noComma p ≡ true → noComma q ≡ true → noComma (p ++ q) ≡ true
 unfolding noComma
 comma-append [] q a b = b
-comma-append (x ∷ p) q a b = let s = both (not (eqb x 44)) (noComma p) a in rw (s .0) (comma-append p q (s .1) b)
+comma-append (x ∷ p) q a b = let by-both = both (not (eqb x 44)) (noComma p) a in rw (by-both .0) (comma-append p q (by-both .1) b)
 
 white-append : (p q : List ℕ) → noWhite p ≡ true → noWhite q ≡ true → noWhite (p ++ q) ≡ true
 unfolding noWhite
 white-append [] q a b = b
-white-append (x ∷ p) q a b = let s = both (not (isWhite x)) (noWhite p) a in rw (s .0) (white-append p q (s .1) b)
+white-append (x ∷ p) q a b = let by-both = both (not (isWhite x)) (noWhite p) a in rw (by-both .0) (white-append p q (by-both .1) b)
 
 digits-comma : (ds : List ℕ) → allDigits ds ≡ true → noComma ds ≡ true
 unfolding noComma
@@ -66,15 +66,15 @@ split-comma : (p r : List ℕ) → noComma p ≡ true → split 44 (p ++ (44 ∷
 unfolding split onFirst noComma
 split-comma [] r h = refl
 split-comma (x ∷ p) r h =
-    let s = both (not (eqb x 44)) (noComma p) h in
-    rw (not-true (eqb x 44) (s .0)) (ap (onFirst x) (split-comma p r (s .1)))
+    let by-both = both (not (eqb x 44)) (noComma p) h in
+    rw (not-true (eqb x 44) (by-both .0)) (ap (onFirst x) (split-comma p r (by-both .1)))
 
 split-end : (p : List ℕ) → noComma p ≡ true → split 44 p ≡ p ∷ []
 unfolding split onFirst noComma
 split-end [] h = refl
 split-end (x ∷ p) h =
-    let s = both (not (eqb x 44)) (noComma p) h in
-    rw (not-true (eqb x 44) (s .0)) (ap (onFirst x) (split-end p (s .1)))
+    let by-both = both (not (eqb x 44)) (noComma p) h in
+    rw (not-true (eqb x 44) (by-both .0)) (ap (onFirst x) (split-end p (by-both .1)))
 
 -- a part that the first reader keeps as t
 pub record Kept (p : List ℕ) (t : VimToken) : Type 0 where
@@ -180,15 +180,16 @@ keeps p t ps k =
 parts-tokens : {l : List ℕ} {ts : List VimToken} → Parts l ts → allCommon ts ≡ true → tokens l ≡ firstTokens ts
 unfolding allCommon firstTokens tokensIn
 parts-tokens (last {p = p} {t = t} d) e =
-    let k = kept-part d (both (isCommon t) true e .0) in
-    ap tokensIn (split-end p (k .commas)) ∙ keeps p t [] k
+    let by-kept-part = kept-part d (both (isCommon t) true e .0) in
+    ap tokensIn (split-end p (by-kept-part .commas)) ∙ keeps p t [] by-kept-part
 parts-tokens caret e =
-    let k = kept-caret in
-    ap tokensIn (split-end (94 ∷ []) (k .commas)) ∙ keeps (94 ∷ []) (one false true 94) [] k
+    let by-kept-caret = kept-caret in
+    ap tokensIn (split-end (94 ∷ []) (by-kept-caret .commas)) ∙ keeps (94 ∷ []) (one false true 94) [] by-kept-caret
 parts-tokens (more {p = p} {l = l} {t = t} {ts = ts} d r) e =
-    let s = both (isCommon t) (allCommon ts) e in
-    let k = kept-part d (s .0) in
-    ap tokensIn (split-comma p l (k .commas)) ∙ keeps p t (split 44 l) k ∙ ap (λ (us : List Token). firstToken t ∷ us) (parts-tokens r (s .1))
+    let by-both = both (isCommon t) (allCommon ts) e in
+    let by-kept-part = kept-part d (by-both .0) in
+    ap tokensIn (split-comma p l (by-kept-part .commas)) ∙ keeps p t (split 44 l) by-kept-part
+    ∙ ap (λ (us : List Token). firstToken t ∷ us) (parts-tokens r (by-both .1))
 
 -- a part's token holds what it speaks of, and takes nothing out
 said : {p : List ℕ} {t : VimToken} (c : ℕ) → Part p t → isCommon t ≡ true → (tokenHolds (firstToken t) c ≡ speaks t c) × (t .out ≡ false)
@@ -229,13 +230,13 @@ parts-decided :
     {l : List ℕ} {ts : List VimToken} → Parts l ts → allCommon ts ≡ true → (b : Bool) (c : ℕ) → decided b ts c ≡ (b || anyToken (firstTokens ts) c)
 unfolding allCommon firstTokens
 parts-decided (last {t = t} d) e b c =
-    let w = said c d (both (isCommon t) true e .0) in
-    on-token t [] [] b c (w .0) (w .1) (λ a. none-left a c)
+    let by-said = said c d (both (isCommon t) true e .0) in
+    on-token t [] [] b c (by-said .0) (by-said .1) (λ a. none-left a c)
 parts-decided caret e b c = on-token (one false true 94) [] [] b c (caret-said c) refl (λ a. none-left a c)
 parts-decided (more {t = t} {ts = ts} d r) e b c =
-    let s = both (isCommon t) (allCommon ts) e in
-    let w = said c d (s .0) in
-    on-token t ts (firstTokens ts) b c (w .0) (w .1) (λ a. parts-decided r (s .1) a c)
+    let by-both = both (isCommon t) (allCommon ts) e in
+    let by-said = said c d (by-both .0) in
+    on-token t ts (firstTokens ts) b c (by-said .0) (by-said .1) (λ a. parts-decided r (by-both .1) a c)
 
 -- both readers hold the same characters
 pub both-alike : BothAlike

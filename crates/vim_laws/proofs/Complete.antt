@@ -34,10 +34,10 @@ number-on :
 unfolding value stepOf phaseOf
 number-on [] out v s ts a h r = r
 number-on (x ∷ ds) out v s ts a h r =
-    let w = v * 10 + (x - 48) in
-    on (Number out v) (Number out w) x (ds ++ s) ts
+    let sum = v * 10 + (x - 48) in
+    on (Number out v) (Number out sum) x (ds ++ s) ts
     (m.number-on out v x (digits-first x ds a) (omega (arith, value-least (v * 10 + (x - 48)) ds))) refl
-    (number-on ds out w s ts (digits-rest x ds a) h r)
+    (number-on ds out sum s ts (digits-rest x ds a) h r)
 
 -- those of a second one
 pub second-on :
@@ -46,12 +46,12 @@ pub second-on :
 unfolding value stepOf phaseOf
 second-on [] out char lo v s ts a k h r = r
 second-on (x ∷ ds) out char lo v s ts a k h r =
-    let w = v * 10 + (x - 48) in
+    let sum = v * 10 + (x - 48) in
     let most = most-above (v * 10 + (x - 48)) ds (digits-rest x ds a) h in
-    on (Second out char lo v) (Second out char lo w) x (ds ++ s) ts
+    on (Second out char lo v) (Second out char lo sum) x (ds ++ s) ts
     (m.in-second-digit out char lo v x (digits-first x ds a)
-    ∙ m.second-taken out char lo w (omega (arith, value-least (v * 10 + (x - 48)) ds)) (omega (arith, most))) refl
-    (second-on ds out char lo w s ts (digits-rest x ds a) k h r)
+    ∙ m.second-taken out char lo sum (omega (arith, value-least (v * 10 + (x - 48)) ds)) (omega (arith, most))) refl
+    (second-on ds out char lo sum s ts (digits-rest x ds a) k h r)
 
 -- a number from its first digit on
 number-whole :
@@ -112,7 +112,8 @@ item {out = out} σ s ts (single {c = c} (by-char h) b) f g after =
     (after (Sign out c) refl (rw (ne-eqb c 64 (λ z. b (ap (λ (x : ℕ). x ∷ []) z)))))
 item {out = out} σ s ts (between {p = p} {q = q} {lochar = char} {lo = lo} {hi = hi} d (by-number n) k) f g after =
     rw (append-assoc p (45 ∷ q) s)
-    (dashed out σ (q ++ s) ts d f (λ x e h. g x (starts p (45 ∷ q) x e) h) (second-whole q out char lo hi s ts n k (after (Second out char lo hi) (le-leb lo hi k) refl)))
+    (dashed out σ (q ++ s) ts d f (λ x e h. g x (starts p (45 ∷ q) x e) h)
+    (second-whole q out char lo hi s ts n k (after (Second out char lo hi) (le-leb lo hi k) refl)))
   where
     starts : (p q : List ℕ) (x : ℕ) → p ≡ x ∷ [] → getD (p ++ q) 0 0 ≡ x
     starts p q x e = rw e
@@ -140,7 +141,7 @@ part s ts (include i f) after =
 -- behind a part: the list's end, or a comma
 after-end : (t : VimToken) → After t [] (t ∷ [])
 unfolding reading
-after-end t σ c e = let w = closed-ends σ c in rw (w .0, w .1, e)
+after-end t σ c e = let by-closed-ends = closed-ends σ c in rw (by-closed-ends .0, by-closed-ends .1, e)
 
 after-comma : (t : VimToken) (l : List ℕ) (ts : List VimToken) → reading Part l ≡ read ts → After t (44 ∷ l) (t ∷ ts)
 unfolding reading phaseOf later onto
@@ -155,7 +156,7 @@ parts-read (more {l = l} {t = t} {ts = ts} d r) = part (44 ∷ l) (t ∷ ts) d (
 -- the start reads what has a first code point as a part
 start-part : (l : List ℕ) (ts : List VimToken) → reading Part l ≡ read ts → vimReading l ≡ read ts
 unfolding reading stepOf ends phaseOf tokenOf
-start-part [] ts e = let z : _≡_ {A = ℕ} 0 1 = cc in absurd (omega arith)
+start-part [] ts e = let never : _≡_ {A = ℕ} 0 1 = cc in absurd (omega arith)
 start-part (x ∷ l) ts e = e
 
 pub reads-complete : {l : List ℕ} {ts : List VimToken} → Reads l ts → vimReading l ≡ read ts

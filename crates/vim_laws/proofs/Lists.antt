@@ -17,10 +17,10 @@ use Rattle.vim_laws.proofs.Complete.{reads-complete}
 use Rattle.vim_laws.proofs.Places.{IsRead, Wrong, wrong-from}
 
 pub one-reading : (l : List ℕ) (ts us : List VimToken) → Reads l ts → Reads l us → ts ≡ us
-one-reading l ts us a b = let f = reads-complete a in let g = reads-complete b in cc
+one-reading l ts us a b = let by-reads-complete = reads-complete a in let by-reads-complete-b = reads-complete b in cc
 
 pub bad-refused : (l : List ℕ) (n : ℕ) → vimReading l ≡ bad n → Accepted l → ⊥
-bad-refused l n e (ts, a) = let f = reads-complete a in let z : _≡_ {A = ℕ} 0 1 = cc in omega arith
+bad-refused l n e (ts, a) = let by-reads-complete = reads-complete a in let never : _≡_ {A = ℕ} 0 1 = cc in omega arith
 
 accepted-read : (l : List ℕ) → IsRead (vimReading l) → Accepted l
 unfolding IsRead
@@ -33,7 +33,7 @@ accepted-read l is = go (vimReading l) refl is
 -- a list that goes wrong at its start's state goes wrong as its first part does
 wrong-list : (l : List ℕ) (n : ℕ) → vimReading l ≡ bad n → Wrong Part l n
 unfolding reading stepOf tokenOf ends phaseOf
-wrong-list [] n e = let z : _≡_ {A = ℕ} 0 1 = cc in absurd (omega arith)
+wrong-list [] n e = let never : _≡_ {A = ℕ} 0 1 = cc in absurd (omega arith)
 wrong-list (x ∷ l) n e = wrong-from (x ∷ l) at-part n e
 
 start-read : (l : List ℕ) → IsRead (reading Part l) → IsRead (vimReading l)
@@ -47,11 +47,11 @@ start-bad x l n e = e
 
 pub bad-place : (l : List ℕ) (n : ℕ) → vimReading l ≡ bad n → Place Accepted l n
 bad-place l n e =
-    let w = wrong-list l n e in
+    let by-wrong-list = wrong-list l n e in
     record {
-      inside = w .inside;
-      begins = (w .rest, accepted-read (take n l ++ w .rest) (start-read (take n l ++ w .rest) (w .begins)));
-      longest = λ h g. never l n h (g .0) (w .longest h (g .0)) (g .1);
+      inside = by-wrong-list .inside;
+      begins = (by-wrong-list .rest, accepted-read (take n l ++ by-wrong-list .rest) (start-read (take n l ++ by-wrong-list .rest) (by-wrong-list .begins)));
+      longest = λ h g. never l n h (g .0) (by-wrong-list .longest h (g .0)) (g .1);
     }
   where
     never : (l : List ℕ) (n : ℕ) → n < length l → (u : List ℕ) → reading Part (take (suc n) l ++ u) ≡ bad n → Accepted (take (n + 1) l ++ u) → ⊥

@@ -81,20 +81,20 @@ most-tail v h = go (ℕ-discrete v 0) (ℕ-discrete v 1) (ℕ-discrete v 2) (dec
   where
     go : Dec (v ≡ 0) → Dec (v ≡ 1) → Dec (v ≡ 2) → Dec (24 < v) → Dec (v ≡ 25) → Tail v
     go (yes e) o t q r =
-        let m = most-two v (λ z. omega arith) (omega arith) in
-        record { ds = 50 ∷ 53 ∷ 53 ∷ []; all = refl; is = omega (arith, m); most = omega (arith, m) }
+        let by-most-two = most-two v (λ z. omega arith) (omega arith) in
+        record { ds = 50 ∷ 53 ∷ 53 ∷ []; all = refl; is = omega (arith, by-most-two); most = omega (arith, by-most-two) }
     go (no z) (yes e) t q r =
-        let m = most-one v e in
-        record { ds = 57 ∷ 57 ∷ []; all = refl; is = omega (arith, m); most = omega (arith, m) }
+        let by-most-one = most-one v e in
+        record { ds = 57 ∷ 57 ∷ []; all = refl; is = omega (arith, by-most-one); most = omega (arith, by-most-one) }
     go (no z) (no o) (yes e) q r =
-        let m = most-two v o (omega arith) in
-        record { ds = 53 ∷ 53 ∷ []; all = refl; is = omega (arith, m); most = omega (arith, m) }
+        let by-most-two = most-two v o (omega arith) in
+        record { ds = 53 ∷ 53 ∷ []; all = refl; is = omega (arith, by-most-two); most = omega (arith, by-most-two) }
     go (no z) (no o) (no t) (no q) r =
-        let m = most-mid v (omega arith) (omega arith) in
-        record { ds = 57 ∷ []; all = refl; is = omega (arith, m); most = omega (arith, m) }
+        let by-most-mid = most-mid v (omega arith) (omega arith) in
+        record { ds = 57 ∷ []; all = refl; is = omega (arith, by-most-mid); most = omega (arith, by-most-mid) }
     go (no z) (no o) (no t) (yes q) (yes e) =
-        let m = most-last v e in
-        record { ds = 53 ∷ []; all = refl; is = omega (arith, m); most = omega (arith, m) }
+        let by-most-last = most-last v e in
+        record { ds = 53 ∷ []; all = refl; is = omega (arith, by-most-last); most = omega (arith, by-most-last) }
     go (no z) (no o) (no t) (yes q) (no r) =
-        let m = most-else v (omega arith) in
-        record { ds = []; all = refl; is = sym m; most = omega (arith, m) }
+        let by-most-else = most-else v (omega arith) in
+        record { ds = []; all = refl; is = sym by-most-else; most = omega (arith, by-most-else) }

@@ -35,7 +35,7 @@ sign-item out c h = go (ℕ-discrete c 64)
 
 digit-at : (v : ℕ) {ds : List ℕ} → Numeral ds v → ds ≡ 64 ∷ [] → ⊥
 unfolding allDigits
-digit-at v n e = let z : _≡_ {A = Bool} true false = sym (n .all) ∙ ap allDigits e in true≢false z
+digit-at v n e = let never : _≡_ {A = Bool} true false = sym (n .all) ∙ ap allDigits e in true≢false never
 
 free-range : (out : Bool) {p : List ℕ} {char : Bool} {c : ℕ} (q : List ℕ) → End p char c → Free out p → Free out (p ++ q)
 free-range out {p = p} q e f z w = f z (sym (first-stays p q (end-some e)) ∙ w)
@@ -53,7 +53,7 @@ spelt-closed (at-second {out = out} {ds = ds} {lo = lo} {v = v} d f n a) e =
 spelt-closed (at-done {out = out} {c = c} d f h k) e = part-of out (between d (by-char h) k) (free-range out (45 ∷ c ∷ []) d f)
 
 no-bad : {n : ℕ} {ts : List VimToken} → bad n ≡ read ts → ⊥
-no-bad e = let z : _≡_ {A = ℕ} 0 1 = cc in omega arith
+no-bad e = let never : _≡_ {A = ℕ} 0 1 = cc in omega arith
 
 later-read : (r : Reading) (ts : List VimToken) → later r ≡ read ts → r ≡ read ts
 unfolding later
@@ -99,16 +99,16 @@ sound (x ∷ s) {σ = σ} {p = p} w ts e =
     go :
         Dec (phaseOf (stepOf σ x) ≡ 0) → Dec (phaseOf (stepOf σ x) ≡ 1) →
         ((q : List ℕ) → Spelt (stepOf σ x) q → (us : List VimToken) → r ≡ read us → Parts (q ++ s) us) → Parts (p ++ (x ∷ s)) ts
-    go (yes z) d ih = let f : bad 0 ≡ read ts = rw (eq-eqb (phaseOf (stepOf σ x)) 0 z) at e in absurd (no-bad f)
+    go (yes z) d ih = let bad-is : bad 0 ≡ read ts = rw (eq-eqb (phaseOf (stepOf σ x)) 0 z) at e in absurd (no-bad bad-is)
     go (no n) (yes z) ih =
-        let f : later (onto (tokenOf σ) r) ≡ read ts = rw (ne-eqb (phaseOf (stepOf σ x)) 0 n, eq-eqb (phaseOf (stepOf σ x)) 1 z) at e in
-        let o = onto-read (tokenOf σ) r ts (later-read (onto (tokenOf σ) r) ts f) in
-        let c = step-comma σ x z in
-        let q = ih [] (subst (λ (τ : State). Spelt τ []) (sym (c .2)) at-part) (o .rest) (o .read-rest) in
-        rw (c .0, o .is) (more (spelt-closed w (c .1)) q)
+        let later-is : later (onto (tokenOf σ) r) ≡ read ts = rw (ne-eqb (phaseOf (stepOf σ x)) 0 n, eq-eqb (phaseOf (stepOf σ x)) 1 z) at e in
+        let by-onto-read = onto-read (tokenOf σ) r ts (later-read (onto (tokenOf σ) r) ts later-is) in
+        let by-step-comma = step-comma σ x z in
+        let by-ih = ih [] (subst (λ (τ : State). Spelt τ []) (sym (by-step-comma .2)) at-part) (by-onto-read .rest) (by-onto-read .read-rest) in
+        rw (by-step-comma .0, by-onto-read .is) (more (spelt-closed w (by-step-comma .1)) by-ih)
     go (no n) (no k) ih =
-        let f : later r ≡ read ts = rw (ne-eqb (phaseOf (stepOf σ x)) 0 n, ne-eqb (phaseOf (stepOf σ x)) 1 k) at e in
-        subst (λ (l : List ℕ). Parts l ts) (append-assoc p (x ∷ []) s) (ih (p ++ (x ∷ [])) (step-spelt x w n k) ts (later-read r ts f))
+        let later-is : later r ≡ read ts = rw (ne-eqb (phaseOf (stepOf σ x)) 0 n, ne-eqb (phaseOf (stepOf σ x)) 1 k) at e in
+        subst (λ (l : List ℕ). Parts l ts) (append-assoc p (x ∷ []) s) (ih (p ++ (x ∷ [])) (step-spelt x w n k) ts (later-read r ts later-is))
 
 -- the start reads a list that has a first code point as a part
 pub reads-sound : (l : List ℕ) (ts : List VimToken) → vimReading l ≡ read ts → Reads l ts

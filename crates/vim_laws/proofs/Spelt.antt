@@ -93,8 +93,8 @@ start-spelt x live = go (ℕ-discrete x 94)
     go : Dec (x ≡ 94) → Spelt (startOf x) (x ∷ [])
     go (yes e) = rw (m.start-caret x e, e) at-caret
     go (no n) =
-        let s = m.start-first x n in
-        rw s (first-spelt false x (λ z w. n w) (λ z. live (ap phaseOf s ∙ z)))
+        let by-start-first = m.start-first x n in
+        rw by-start-first (first-spelt false x (λ z w. n w) (λ z. live (ap phaseOf by-start-first ∙ z)))
 
 behind-spelt :
     (out char : Bool) (p : List ℕ) (lo x : ℕ) → End p char lo → Free out p → (phaseOf (behind out char lo x) ≡ 0 → ⊥) →
@@ -136,15 +136,17 @@ module _ (x : ℕ) where
           rw (m.number-on out v x d (omega arith), front-append out ds (x ∷ []))
           (at-number (more-digits x n d (omega arith)) (λ z w. f z (sym (first-stays ds (x ∷ []) (n .some)) ∙ w)))
       go false d w =
-          let s = m.number-behind out v x d in
-          rw s (behind-spelt out false ds v x (by-number n) f (λ z. live (ap phaseOf s ∙ z)) (λ z. within (ap phaseOf s ∙ z)))
+          let by-number-behind = m.number-behind out v x d in
+          rw by-number-behind
+          (behind-spelt out false ds v x (by-number n) f (λ z. live (ap phaseOf by-number-behind ∙ z)) (λ z. within (ap phaseOf by-number-behind ∙ z)))
   step-spelt (at-sign {out = out} {c = c} h f) live within = behind-spelt out true (c ∷ []) c x (by-char h) f live within
   step-spelt (at-dash {out = out} {char = char} {p = p} {lo = lo} e f) live within = go (isDigit x) refl (decLt x lo) (decLt 127 x)
     where
       go : (b : Bool) → isDigit x ≡ b → Dec (x < lo) → Dec (127 < x) → Spelt (dashStep out char lo x) (front out (p ++ (45 ∷ [])) ++ (x ∷ []))
       go true d y z =
-          let s = m.dash-digit out char lo x d in
-          rw (s, join out p (45 ∷ []) x) (second-spelt out char p (x ∷ []) lo (x - 48) e f (λ k. one-digit x d) (λ w. live (ap phaseOf s ∙ w)))
+          let by-dash-digit = m.dash-digit out char lo x d in
+          rw (by-dash-digit, join out p (45 ∷ []) x)
+          (second-spelt out char p (x ∷ []) lo (x - 48) e f (λ k. one-digit x d) (λ w. live (ap phaseOf by-dash-digit ∙ w)))
       go false d (yes y) z = absurd (live (ap phaseOf (m.dash-below out char lo x d y)))
       go false d (no y) (yes z) = absurd (live (ap phaseOf (m.dash-above out char lo x d (omega arith) z)))
       go false d (no y) (no z) =
@@ -154,9 +156,9 @@ module _ (x : ℕ) where
     where
       go : (b : Bool) → isDigit x ≡ b → Dec (x ≡ 44) → Dec (v < lo) → Spelt (secondStep out char lo v x) (front out (p ++ (45 ∷ ds)) ++ (x ∷ []))
       go true d y z =
-          let s = m.in-second-digit out char lo v x d in
-          rw (s, join out p (45 ∷ ds) x)
-          (second-spelt out char p (ds ++ (x ∷ [])) lo (v * 10 + (x - 48)) e f (λ k. more-digits x n d k) (λ w. live (ap phaseOf s ∙ w)))
+          let by-in-second-digit = m.in-second-digit out char lo v x d in
+          rw (by-in-second-digit, join out p (45 ∷ ds) x)
+          (second-spelt out char p (ds ++ (x ∷ [])) lo (v * 10 + (x - 48)) e f (λ k. more-digits x n d k) (λ w. live (ap phaseOf by-in-second-digit ∙ w)))
       go false d (yes y) (yes z) = absurd (live (ap phaseOf (m.in-second-below out char lo v x d y z)))
       go false d (yes y) (no z) = absurd (within (ap phaseOf (m.in-second-comma out char lo v x d y (omega arith))))
       go false d (no y) z = absurd (live (ap phaseOf (m.in-second-other out char lo v x d y)))

@@ -84,13 +84,13 @@ number-written {ds = ds} {v = v} n = go (decLt v 10) (decLt v 100)
 -- an end
 end-written : {p : List ℕ} {char : Bool} {c : ℕ} → End p char c → Short (λ q. End q char c) p (endText char c)
 unfolding endText
-end-written (by-number n) = let w = number-written n in (by-number (w .0), w .1)
+end-written (by-number n) = let by-number-written = number-written n in (by-number (by-number-written .0), by-number-written .1)
 end-written (by-char h) = (by-char h, omega arith)
 
 -- a number is no `@` and does not begin with `^`
 number-at : {ds : List ℕ} {v : ℕ} → Number ds v → ds ≡ 64 ∷ [] → ⊥
 unfolding allDigits
-number-at n e = let z : _≡_ {A = Bool} true false = sym (n .all) ∙ ap allDigits e in true≢false z
+number-at n e = let never : _≡_ {A = Bool} true false = sym (n .all) ∙ ap allDigits e in true≢false never
 
 number-caret : (ds : List ℕ) → 0 < length ds → allDigits ds ≡ true → getD ds 0 0 ≡ 94 → ⊥
 number-caret [] s a e = omega arith
@@ -103,18 +103,20 @@ end-at (by-char h) f = f
 
 end-caret : {p : List ℕ} {char : Bool} {c : ℕ} → End p char c → (getD p 0 0 ≡ 94 → ⊥) → getD (endText char c) 0 0 ≡ 94 → ⊥
 unfolding endText
-end-caret {c = c} (by-number n) f = let w = number-written n .0 in number-caret (decimal c) (w .some) (w .all)
+end-caret {c = c} (by-number n) f = let by-number-written = number-written n .0 in number-caret (decimal c) (by-number-written .some) (by-number-written .all)
 end-caret (by-char h) f = f
 
 -- an item
 item-written : {out : Bool} {p : List ℕ} {t : VimToken} → Item out p t → Short (λ q. Item out q t) p (itemText t)
 unfolding itemText
 item-written every-letter = (every-letter, omega arith)
-item-written (single e f) = let w = end-written e in (single (w .0) (end-at e f), w .1)
+item-written (single e f) = let by-end-written = end-written e in (single (by-end-written .0) (end-at e f), by-end-written .1)
 item-written (between {p = p} {q = q} {lochar = a} {hichar = b} {lo = lo} {hi = hi} d e k) =
-    let v = end-written d in
-    let w = end-written e in
-    (between (v .0) (w .0) k, omega (arith, length-append p (45 ∷ q), length-append (endText a lo) (45 ∷ endText b hi), v .1, w .1))
+    let by-end-written = end-written d in
+    let by-end-written-e = end-written e in (
+      between (by-end-written .0) (by-end-written-e .0) k,
+      omega (arith, length-append p (45 ∷ q), length-append (endText a lo) (45 ∷ endText b hi), by-end-written .1, by-end-written-e .1),
+    )
 
 -- one that includes
 item-caret : {p : List ℕ} {t : VimToken} → Item false p t → (getD p 0 0 ≡ 94 → ⊥) → getD (itemText t) 0 0 ≡ 94 → ⊥
@@ -132,11 +134,12 @@ item-out (between d e k) = refl
 
 part-written : {p : List ℕ} {t : VimToken} → Part p t → Short (λ q. Part q t) p (tokenText t)
 part-written (exclude {p = p} {t = t} i) =
-    let w = item-written i in
-    subst (λ (q : List ℕ). Part q t × (length q ≤ length (94 ∷ p))) (sym (token-out t (item-out i))) (exclude (w .0), omega (arith, w .1))
+    let by-item-written = item-written i in
+    subst (λ (q : List ℕ). Part q t × (length q ≤ length (94 ∷ p))) (sym (token-out t (item-out i)))
+    (exclude (by-item-written .0), omega (arith, by-item-written .1))
 part-written (include {p = p} {t = t} i f) =
-    let w = item-written i in
-    subst (λ (q : List ℕ). Part q t × (length q ≤ length p)) (sym (token-in t (item-out i))) (include (w .0) (item-caret i f), w .1)
+    let by-item-written = item-written i in
+    subst (λ (q : List ℕ). Part q t × (length q ≤ length p)) (sym (token-in t (item-out i))) (include (by-item-written .0) (item-caret i f), by-item-written .1)
 
 -- parts
 behind-parts : {l : List ℕ} {ts : List VimToken} → Parts l ts → behind ts ≡ 44 ∷ written ts
@@ -151,15 +154,17 @@ caret-written = (caret, omega arith)
 
 parts-written : {l : List ℕ} {ts : List VimToken} → Parts l ts → Short (λ q. Parts q ts) l (written ts)
 unfolding written
-parts-written (last {t = t} d) = let w = part-written d in rw (written-one t) (last (w .0), w .1)
+parts-written (last {t = t} d) = let by-part-written = part-written d in rw (written-one t) (last (by-part-written .0), by-part-written .1)
 parts-written caret = caret-written
 parts-written (more {p = p} {l = l} {t = t} {ts = ts} d r) =
-    let v = part-written d in
-    let w = parts-written r in
-    rw (behind-parts r)
-    (more (v .0) (w .0), omega (arith, length-append p (44 ∷ l), length-append (tokenText t) (44 ∷ written ts), v .1, w .1))
+    let by-part-written = part-written d in
+    let by-parts-written = parts-written r in
+    rw (behind-parts r) (
+      more (by-part-written .0) (by-parts-written .0),
+      omega (arith, length-append p (44 ∷ l), length-append (tokenText t) (44 ∷ written ts), by-part-written .1, by-parts-written .1),
+    )
 
 pub reads-written : {l : List ℕ} {ts : List VimToken} → Reads l ts → Short (λ q. Reads q ts) l (written ts)
 unfolding written
 reads-written empty = (empty, omega arith)
-reads-written (parts d) = let w = parts-written d in (parts (w .0), w .1)
+reads-written (parts d) = let by-parts-written = parts-written d in (parts (by-parts-written .0), by-parts-written .1)

@@ -24,8 +24,8 @@ digit-high x e = go (leb x 57) refl e
     go : (b : Bool) → leb x 57 ≡ b → (leb 48 x && b) ≡ true → x ≤ 57
     go true w f = leb-true x 57 w
     go false w f =
-        let y : _≡_ {A = Bool} false true = rw and-false at f in
-        absurd (true≢false (sym y))
+        let never : _≡_ {A = Bool} false true = rw and-false at f in
+        absurd (true≢false (sym never))
 
 -- the greatest number
 module _ (v : ℕ) where

@@ -54,17 +54,17 @@ after i ts (bad n) = bad (i + n)
 after-none : (r : Reading) → r ≡ after 0 [] r
 unfolding after
 after-none (read us) = refl
-after-none (bad n) = let e : n ≡ 0 + n = omega arith in ap bad e
+after-none (bad n) = let n-is : n ≡ 0 + n = omega arith in ap bad n-is
 
 after-later : (i : ℕ) (ts : List VimToken) (r : Reading) → after i ts (later r) ≡ after (i + 1) ts r
 unfolding after later
 after-later i ts (read us) = refl
-after-later i ts (bad n) = let e : i + suc n ≡ i + 1 + n = omega arith in ap bad e
+after-later i ts (bad n) = let sum-is : i + suc n ≡ i + 1 + n = omega arith in ap bad sum-is
 
 after-onto : (i : ℕ) (ts : List VimToken) (t : VimToken) (r : Reading) → after i ts (later (onto t r)) ≡ after (i + 1) (ts ++ (t ∷ [])) r
 unfolding after later onto
 after-onto i ts t (read us) = ap read (sym (append-assoc ts (t ∷ []) us))
-after-onto i ts t (bad n) = let e : i + suc n ≡ i + 1 + n = omega arith in ap bad e
+after-onto i ts t (bad n) = let sum-is : i + suc n ≡ i + 1 + n = omega arith in ap bad sum-is
 
 -- the pass so far: the table holds the tokens before index i, if there are at most 128
 pub record Run (l : List ℕ) (σ : State) (i n : ℕ) (spec : VimSpec) : Type 0 where
@@ -97,17 +97,17 @@ module _ {l : List ℕ} {σ : State} {i n : ℕ} {spec : VimSpec} (run : Run l �
     pub run-dead : k ≡ 0 → vimReading l ≡ bad i
     unfolding after
     run-dead z =
-        let e : reading σ (drop i l) ≡ bad 0 = to ∙ rw z in
-        let f : i + 0 ≡ i = omega arith in
-        run .same ∙ ap (after i (run .ts)) e ∙ ap bad f
+        let reading-is : reading σ (drop i l) ≡ bad 0 = to ∙ rw z in
+        let i-plus-zero : i + 0 ≡ i = omega arith in
+        run .same ∙ ap (after i (run .ts)) reading-is ∙ ap bad i-plus-zero
 
     pub run-on : (k ≡ 0 → ⊥) → (k ≡ 1 → ⊥) → Run l σ′ (i + 1) n spec
     run-on z w =
-        let e : reading σ (drop i l) ≡ later (reading σ′ (drop (i + 1) l)) = to ∙ rw (ne-eqb k 0 z, ne-eqb k 1 w) in
+        let reading-is : reading σ (drop i l) ≡ later (reading σ′ (drop (i + 1) l)) = to ∙ rw (ne-eqb k 0 z, ne-eqb k 1 w) in
         record {
           ts = run .ts;
           inside = omega arith;
-          same = run .same ∙ ap (after i (run .ts)) e ∙ after-later i (run .ts) (reading σ′ (drop (i + 1) l));
+          same = run .same ∙ ap (after i (run .ts)) reading-is ∙ after-later i (run .ts) (reading σ′ (drop (i + 1) l));
           count = run .count;
           fewer = omega (arith, run .fewer);
           start = λ y. absurd (step-no-start σ (getD l i 0) (sym (ap phaseOf s) ∙ y));
@@ -116,10 +116,11 @@ module _ {l : List ℕ} {σ : State} {i n : ℕ} {spec : VimSpec} (run : Run l �
 
     comma : k ≡ 1 → vimReading l ≡ after (i + 1) (run .ts ++ (tokenOf σ ∷ [])) (reading σ′ (drop (i + 1) l))
     comma z =
-        let e : reading σ (drop i l) ≡ later (onto (tokenOf σ) (reading σ′ (drop (i + 1) l))) = to ∙ rw z in
-        run .same ∙ ap (after i (run .ts)) e ∙ after-onto i (run .ts) (tokenOf σ) (reading σ′ (drop (i + 1) l))
+        let reading-is : reading σ (drop i l) ≡ later (onto (tokenOf σ) (reading σ′ (drop (i + 1) l))) = to ∙ rw z in
+        run .same ∙ ap (after i (run .ts)) reading-is ∙ after-onto i (run .ts) (tokenOf σ) (reading σ′ (drop (i + 1) l))
 
-    pub run-part : k ≡ 1 → (spec′ : VimSpec) → (n < 128 → spec′ ≡ record { tokens = set (spec .tokens) n (tokenOf σ); len = n + 1 }) → Run l σ′ (i + 1) (n + 1) spec′
+    pub run-part : k ≡ 1 → (spec′ : VimSpec) → (n < 128 → spec′ ≡ record { tokens = set (spec .tokens) n (tokenOf σ); len = n + 1 }) →
+        Run l σ′ (i + 1) (n + 1) spec′
     run-part z spec′ w =
         record {
           ts = run .ts ++ (tokenOf σ ∷ []);
@@ -133,9 +134,9 @@ module _ {l : List ℕ} {σ : State} {i n : ℕ} {spec : VimSpec} (run : Run l �
       where
         push : n + 1 ≤ 128 → spec′ ≡ table (run .ts ++ (tokenOf σ ∷ []))
         push few =
-            let e : spec ≡ table (run .ts) = run .holds (omega arith) in
+            let spec-is : spec ≡ table (run .ts) = run .holds (omega arith) in
             w (omega arith)
-            ∙ ap (λ (x : VimSpec). record { tokens = set (x .tokens) n (tokenOf σ); len = n + 1 }) e
+            ∙ ap (λ (x : VimSpec). record { tokens = set (x .tokens) n (tokenOf σ); len = n + 1 }) spec-is
             ∙ ap (λ (m : ℕ). record { tokens = set (table (run .ts) .tokens) m (tokenOf σ); len = m + 1 }) (run .count)
             ∙ table-push (run .ts) (tokenOf σ) (omega (arith, run .count))
 
@@ -147,15 +148,15 @@ module _ {l : List ℕ} {σ : State} {i n : ℕ} {spec : VimSpec} (run : Run l �
     pub run-cut : ends σ ≡ false → refusedAt 17 i ≡ answered (vimReading l)
     unfolding after answered
     run-cut e =
-        let f : i + 0 ≡ i = omega arith in
-        let r : reading σ (drop i l) ≡ bad 0 = here ∙ rw e in
-        sym (ap answered (run .same ∙ ap (after i (run .ts)) r ∙ ap bad f))
+        let i-plus-zero : i + 0 ≡ i = omega arith in
+        let reading-is : reading σ (drop i l) ≡ bad 0 = here ∙ rw e in
+        sym (ap answered (run .same ∙ ap (after i (run .ts)) reading-is ∙ ap bad i-plus-zero))
 
     pub run-none : ends σ ≡ true → phaseOf σ ≡ 2 → record { refusal = 0; place = 0; spec = spec } ≡ answered (vimReading l)
     unfolding after answered
     run-none e z =
-        let r : reading σ (drop i l) ≡ read [] = here ∙ rw (e, z) in
-        let is : vimReading l ≡ read (run .ts ++ []) = run .same ∙ ap (after i (run .ts)) r in
+        let reading-is : reading σ (drop i l) ≡ read [] = here ∙ rw (e, z) in
+        let is : vimReading l ≡ read (run .ts ++ []) = run .same ∙ ap (after i (run .ts)) reading-is in
         let none : length (run .ts ++ []) ≤ 128 = omega (arith, length-append (run .ts) [], run .count, run .start z) in
         let few : n ≤ 128 = omega (arith, run .start z) in
         rw (is, le-leb (length (run .ts ++ [])) 128 none, append-nil (run .ts), run .holds few)
@@ -163,8 +164,8 @@ module _ {l : List ℕ} {σ : State} {i n : ℕ} {spec : VimSpec} (run : Run l �
     whole : ends σ ≡ true → (phaseOf σ ≡ 2 → ⊥) → vimReading l ≡ read (run .ts ++ (tokenOf σ ∷ []))
     unfolding after
     whole e z =
-        let r : reading σ (drop i l) ≡ read (tokenOf σ ∷ []) = here ∙ rw (e, ne-eqb (phaseOf σ) 2 z) in
-        run .same ∙ ap (after i (run .ts)) r
+        let reading-is : reading σ (drop i l) ≡ read (tokenOf σ ∷ []) = here ∙ rw (e, ne-eqb (phaseOf σ) 2 z) in
+        run .same ∙ ap (after i (run .ts)) reading-is
 
     pub run-many : ends σ ≡ true → (phaseOf σ ≡ 2 → ⊥) → 128 ≤ n → refusedAt 8 0 ≡ answered (vimReading l)
     unfolding answered

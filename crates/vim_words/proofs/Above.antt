@@ -51,10 +51,10 @@ reads-low (parts p) = parts-low p
 
 -- of a list that is read
 pub read-tokens : (l : List ℕ) (z : readOf l .refusal ≡ 0) → kept (readOf l .spec) ≡ taken l z .ts
-read-tokens l z = let t = taken l z in ap (λ (r : VimRead). kept (r .spec)) (t .is) ∙ table-kept (t .ts)
+read-tokens l z = let by-taken = taken l z in ap (λ (r : VimRead). kept (r .spec)) (by-taken .is) ∙ table-kept (by-taken .ts)
 
 pub read-low : (l : List ℕ) → readOf l .refusal ≡ 0 → lowEnds (kept (readOf l .spec)) ≡ true
-read-low l z = let t = taken l z in ap lowEnds (read-tokens l z) ∙ reads-low (reads-sound l (t .ts) (t .reads))
+read-low l z = let by-taken = taken l z in ap lowEnds (read-tokens l z) ∙ reads-low (reads-sound l (by-taken .ts) (by-taken .reads))
 
 and-true : (a : Bool) → a ≡ (a && true)
 and-true true = refl
@@ -89,8 +89,8 @@ pub above : (ts : List VimToken) (x : ℕ) → lowEnds ts ≡ true → 256 ≤ x
 unfolding decided lowEnds lastLetters
 above [] x low h b = refl
 above (t ∷ ts) x low h b =
-    let w = both (leb (t .hi) 255) (lowEnds ts) low in
-    ap (λ (d : Bool). decided d ts x) (says-above t x (w .0) h b) ∙ above ts x (w .1) h (cond (eqb (t .kind) 1) (not (t .out)) b)
+    let by-both = both (leb (t .hi) 255) (lowEnds ts) low in
+    ap (λ (d : Bool). decided d ts x) (says-above t x (by-both .0) h b) ∙ above ts x (by-both .1) h (cond (eqb (t .kind) 1) (not (t .out)) b)
 
 -- the flags of a list's tokens, and the letters above
 pub flags-hold :

@@ -35,8 +35,8 @@ use Rattle.vim_words.proofs.Refusing.{answer-first, answer-given}
 module _ (list : List ℕ) (ts : List VimToken) (z : readOf list .refusal ≡ 0) (r : Reads list ts) (common : allCommon ts ≡ true) where
   same-word : (x : ℕ) → inVimList list x ≡ inList list x
   same-word x =
-      let t = taken list z in
-      ap (λ (us : List VimToken). inVim us x) (read-tokens list z ∙ one-reading list (t .ts) ts (reads-sound list (t .ts) (t .reads)) r)
+      let by-taken = taken list z in
+      ap (λ (us : List VimToken). inVim us x) (read-tokens list z ∙ one-reading list (by-taken .ts) ts (reads-sound list (by-taken .ts) (by-taken .reads)) r)
       ∙ sym (both-alike list ts r common x)
 
 -- a list that is not refused leaves the refusal of text, caret and folds

@@ -32,8 +32,8 @@ pub entered-none : (t own : List ℕ) (k : Caret) (e : Entry) → e ≡ entryOf 
     Accepted t (here k) e × (foldRefusal own (rowCount t) ≡ 0)
 entered-none t own k e is z =
     let none = folds-none e own z in
-    let a = entered t (here k) e is (none .0) in
-    (a, rw (sym (a .all-rows)) (none .1))
+    let by-entered = entered t (here k) e is (none .0) in
+    (by-entered, rw (sym (by-entered .all-rows)) (none .1))
 
 -- the list
 pub read-ready : (list : List ℕ) (r : VimRead) → r ≡ readOf list → r .refusal ≡ 0 → (r .spec .len ≤ 128) × (lowEnds (kept (r .spec)) ≡ true)

@@ -68,10 +68,10 @@ module _ (ts : List VimToken) (n i : ℕ) (m : n ≤ length ts) where
       i < n → (old new : List ℕ) → Spoken (take n ts) i old → Told (getD ts i noToken) old new → Spoken (take n ts) (i + 1) new
   unfolding decided
   spoken-next h old new so-far told c l =
-      let t = getD ts i noToken in
+      let value = getD ts i noToken in
       so-far c l
       ∙ ap (λ (us : List VimToken). decided (not (eqb (getD old c 0) 0)) us c) (drop-at-take ts n i noToken h m)
-      ∙ ap (λ (b : Bool). decided b (drop (i + 1) (take n ts)) c) (sym (one-more (speaks t c) (t .out) (getD old c 0)))
+      ∙ ap (λ (b : Bool). decided b (drop (i + 1) (take n ts)) c) (sym (one-more (speaks value c) (value .out) (getD old c 0)))
       ∙ ap (λ (f : ℕ). decided (not (eqb f 0)) (drop (i + 1) (take n ts)) c) (sym (told .each c l))
 
   pub spoken-end : n ≤ i → (flags : List ℕ) → Spoken (take n ts) i flags → Flags (take n ts) flags

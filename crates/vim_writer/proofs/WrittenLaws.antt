@@ -85,7 +85,8 @@ module _ (t : VimToken) where
 behind-append : (ts us : List VimToken) → behind (ts ++ us) ≡ behind ts ++ behind us
 unfolding behind
 behind-append [] us = refl
-behind-append (t ∷ ts) us = ap (λ (l : List ℕ). 44 ∷ l) (ap (λ (l : List ℕ). tokenText t ++ l) (behind-append ts us) ∙ sym (append-assoc (tokenText t) (behind ts) (behind us)))
+behind-append (t ∷ ts) us =
+    ap (λ (l : List ℕ). 44 ∷ l) (ap (λ (l : List ℕ). tokenText t ++ l) (behind-append ts us) ∙ sym (append-assoc (tokenText t) (behind ts) (behind us)))
 
 behind-one : (t : VimToken) → behind (t ∷ []) ≡ 44 ∷ tokenText t
 unfolding behind
@@ -137,8 +138,8 @@ module _ (ts : List VimToken) (i : ℕ) (h : i < length ts) where
 
 pub take-longer : (ts : List VimToken) (i n : ℕ) → i ≤ n → length (written (take i ts)) ≤ length (written (take n ts))
 take-longer ts i n h =
-    let e : n ≡ i + (n - i) = omega arith in
-    let cut : take n ts ≡ take i ts ++ take (n - i) (drop i ts) = ap (λ (k : ℕ). take k ts) e ∙ take-add i (n - i) ts in
+    let n-is : n ≡ i + (n - i) = omega arith in
+    let cut : take n ts ≡ take i ts ++ take (n - i) (drop i ts) = ap (λ (k : ℕ). take k ts) n-is ∙ take-add i (n - i) ts in
     subst (λ (l : List VimToken). length (written (take i ts)) ≤ length (written l)) (sym cut) (written-longer (take i ts) (take (n - i) (drop i ts)))
 
 pub take-most : (ts : List VimToken) (i : ℕ) → i ≤ length ts → length (written (take i ts)) ≤ 23 * i
@@ -151,9 +152,9 @@ module _ {room o p : List ℕ} {at b : ℕ} (ts : List VimToken) (i : ℕ) (h : 
   put-first z v =
       let none : written (take i ts) ≡ [] = rw z in
       let both : Wrote room 0 (written (take i ts) ++ tokenText (getD ts i noToken)) b p = wrote-then w v in
-      let s : written (take i ts) ++ tokenText (getD ts i noToken) ≡ written (take (i + 1) ts) =
+      let joined-is : written (take i ts) ++ tokenText (getD ts i noToken) ≡ written (take (i + 1) ts) =
       ap (λ (l : List ℕ). l ++ tokenText (getD ts i noToken)) none ∙ sym (written-first ts i h z) in
-      subst (λ (l : List ℕ). Wrote room 0 l b p) s both
+      subst (λ (l : List ℕ). Wrote room 0 l b p) joined-is both
 
   pub put-next :
       {c : ℕ} {q : List ℕ} → (i ≡ 0 → ⊥) → Wrote o at (44 ∷ []) b p → Wrote p b (tokenText (getD ts i noToken)) c q →
@@ -196,7 +197,8 @@ wrote-front {out = out} {o = o} {b = b} {s = s} w h =
     rw (left, w .next, at) (take-append-seam s (drop (length s) out))
 
 -- the room that the token at i takes is there
-module _ (ts : List VimToken) (n i at m : ℕ) (h : i < n) (k : n ≤ length ts) (r : length (written (take n ts)) ≤ m) (w : at ≡ 0 + length (written (take i ts))) where
+module _ (ts : List VimToken) (n i at m : ℕ) (h : i < n) (k : n ≤ length ts) (r : length (written (take n ts)) ≤ m)
+    (w : at ≡ 0 + length (written (take i ts))) where
   pub room-first : i ≡ 0 → at + length (tokenText (getD ts i noToken)) ≤ m
   unfolding written
   room-first z =

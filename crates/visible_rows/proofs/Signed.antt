@@ -18,7 +18,7 @@ use Rattle.visible_rows.specs.Visible.{stepRow, shownRow, verticalRow, d
 -- a number that is not below 0 can be read unsigned
 pub unsigned-fits : (z : ℤ) → SFits w64 z → ltZ z (pos 0) ≡ false → T (nonNeg (toZ w64 (ofZ w64 z))) × Fits w64 (natAbs (toZ w64 (ofZ w64 z)))
 unsigned-fits (pos n) f e = rw (toZ-ofZ f) (tt, record { fits = omega (arith, f .sfits) })
-unsigned-fits (negsuc n) f e = let z : _≡_ {A = ℕ} 0 1 = cc in absurd (omega arith)
+unsigned-fits (negsuc n) f e = let never : _≡_ {A = ℕ} 0 1 = cc in absurd (omega arith)
 
 -- 0 less a number is its negative
 module _ (z : ℤ) (f : SFits w64 z) (g : SFits w64 (negℤ z)) where
@@ -69,18 +69,18 @@ module _ (down : Bool) (count : ℕ) (h : count ≤ 4294967295) where
   delta-asked z e = rw (read-delta z e) (delta-back-fits down)
 
 below : (z : ℤ) → ltZ z (pos 0) ≡ true → ltZ (negℤ z) (pos 0) ≡ false
-below (pos n) e = let f = le-ltb n 0 (omega arith) in let z : _≡_ {A = ℕ} 0 1 = cc in absurd (omega arith)
+below (pos n) e = let by-le-ltb = le-ltb n 0 (omega arith) in let never : _≡_ {A = ℕ} 0 1 = cc in absurd (omega arith)
 below (negsuc n) e = le-ltb (suc n) 0 (omega arith)
 
 down-is : (folds : List ℕ) (rows row : ℕ) (z : ℤ) → ltZ z (pos 0) ≡ false → rounds (stepRow folds rows true) (natAbs z) row ≡ verticalRow folds rows z row
 unfolding verticalRow
 down-is folds rows row (pos n) e = refl
-down-is folds rows row (negsuc n) e = let z : _≡_ {A = ℕ} 0 1 = cc in absurd (omega arith)
+down-is folds rows row (negsuc n) e = let never : _≡_ {A = ℕ} 0 1 = cc in absurd (omega arith)
 
 up-is : (folds : List ℕ) (rows row : ℕ) (z : ℤ) → ltZ z (pos 0) ≡ true →
     rounds (stepRow folds rows false) (natAbs (negℤ z)) (shownRow folds rows row) ≡ verticalRow folds rows z row
 unfolding verticalRow
-up-is folds rows row (pos n) e = let f = le-ltb n 0 (omega arith) in let z : _≡_ {A = ℕ} 0 1 = cc in absurd (omega arith)
+up-is folds rows row (pos n) e = let by-le-ltb = le-ltb n 0 (omega arith) in let never : _≡_ {A = ℕ} 0 1 = cc in absurd (omega arith)
 up-is folds rows row (negsuc n) e = refl
 
 -- a step is so many rounds: the sign tells the way, and the number without it is the count

@@ -88,16 +88,16 @@ free-less {folds} {rows} true {row} {free} f h =
       within = omega (arith, f .within);
       shown =
           λ k p l.
-          let e : row + 1 + k ≡ row + (k + 1) = omega arith in
-          rw e (f .shown (k + 1) (omega arith) (omega arith));
+          let sum-is : row + 1 + k ≡ row + (k + 1) = omega arith in
+          rw sum-is (f .shown (k + 1) (omega arith) (omega arith));
     }
 free-less {folds} {rows} false {row} {free} f h =
     record {
       within = omega (arith, f .within);
       shown =
           λ k p l.
-          let e : row - 1 - k ≡ row - (k + 1) = omega arith in
-          rw e (f .shown (k + 1) (omega arith) (omega arith));
+          let difference-is : row - 1 - k ≡ row - (k + 1) = omega arith in
+          rw difference-is (f .shown (k + 1) (omega arith) (omega arith));
     }
 
 -- the hop by them, and past them
@@ -106,13 +106,13 @@ module _ {folds : List ℕ} {rows : ℕ} {down : Bool} {row free : ℕ} (f : Fre
   hop-free x e h =
       record {
         found = ap Row e ∙ sym (toward-next folds rows down row (omega (arith, f .within)) (f .shown 1 (omega arith) h));
-        onward = λ y q. let z : x ≡ y = cc in rw (sym z ∙ e) (free-less down f h);
+        onward = λ y q. let x-is : x ≡ y = cc in rw (sym x-is ∙ e) (free-less down f h);
       }
 
 pub hop-past : {folds : List ℕ} {rows : ℕ} {down : Bool} {row x : ℕ} (free : ℕ) → toward folds rows down row ≡ Row x → Free folds rows down x free →
     HopTo folds rows down row (record { next = Row x; free = free })
-hop-past {folds} {rows} {down} {row} {x} free e f = record { found = sym e; onward = λ y q. let z : x ≡ y = cc in rw (sym z) f }
+hop-past {folds} {rows} {down} {row} {x} free e f = record { found = sym e; onward = λ y q. let x-is : x ≡ y = cc in rw (sym x-is) f }
 
 pub hop-none : {folds : List ℕ} {rows : ℕ} {down : Bool} {row : ℕ} → toward folds rows down row ≡ NoRow →
     HopTo folds rows down row (record { next = NoRow; free = 0 })
-hop-none e = record { found = sym e; onward = λ y q. let z : _≡_ {A = ℕ} 0 1 = cc in absurd (omega arith) }
+hop-none e = record { found = sym e; onward = λ y q. let never : _≡_ {A = ℕ} 0 1 = cc in absurd (omega arith) }

@@ -23,7 +23,7 @@ none-left true b e = e
 none-left false b e = refl
 
 none-right : (a b : Bool) → (a || b) ≡ false → b ≡ false
-none-right true b e = absurd (let z : _≡_ {A = ℕ} 0 1 = cc in omega arith)
+none-right true b e = absurd (let never : _≡_ {A = ℕ} 0 1 = cc in omega arith)
 none-right false b e = e
 
 module _ (w v : ℕ → ℕ) where

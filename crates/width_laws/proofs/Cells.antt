@@ -36,8 +36,9 @@ module _ (w v : ℕ → ℕ) where
   from-same white word width left i [] a = refl
   from-same white word width (suc left) i (x ∷ row) a = from-same white word width left (suc i) row (a .1)
   from-same white word width zero i (x ∷ row) a =
-      let k = firstSegment v white word width (x ∷ row) in
-      rw (first-same white word width (x ∷ row) a) (ap (λ (l : List ℕ). i ∷ (i + k) ∷ l) (from-same white word width (k - 1) (suc i) row (a .1)))
+      let first-segment = firstSegment v white word width (x ∷ row) in
+      rw (first-same white word width (x ∷ row) a)
+      (ap (λ (l : List ℕ). i ∷ (i + first-segment) ∷ l) (from-same white word width (first-segment - 1) (suc i) row (a .1)))
 
   pub segments-same : (white : ℕ → Bool) (mode : Wrap) (width : ℕ) (row : List ℕ) → Agree w v row →
       segmentsOf w white mode width row ≡ segmentsOf v white mode width row

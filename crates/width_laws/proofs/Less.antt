@@ -22,9 +22,9 @@ tab-later tab a b p h = go (decLt b (a + (tab - a % tab)))
     -- b lies before the end of the tab from a
     near : b < a + (tab - a % tab) → b % tab ≡ a % tab + (b - a)
     near l =
-        let r : a % tab + (b - a) < tab = omega (arith, mod-lt a p) in
-        let e : b ≡ a / tab * tab + (a % tab + (b - a)) = omega (arith, div-add-mod' a tab) in
-        ap (λ (n : ℕ). n % tab) e ∙ digits-mod (a / tab) r
+        let sum-below : a % tab + (b - a) < tab = omega (arith, mod-lt a p) in
+        let b-is : b ≡ a / tab * tab + (a % tab + (b - a)) = omega (arith, div-add-mod' a tab) in
+        ap (λ (n : ℕ). n % tab) b-is ∙ digits-mod (a / tab) sum-below
 
     go : Dec (b < a + (tab - a % tab)) → a + (tab - a % tab) ≤ b + (tab - b % tab)
     go (yes l) = omega (arith, near l, mod-lt a p, mod-lt b p)
@@ -52,7 +52,8 @@ module _ {w v : ℕ → ℕ} (least : (x : ℕ) → w x ≤ v x) where
   cursor-less tabstop row i = go (eqb (getD row i 0) 9)
     where
       go : (tabbed : Bool) →
-          cond tabbed (visualCol w tabstop row (i + 1) - 1) (visualCol w tabstop row i) ≤ cond tabbed (visualCol v tabstop row (i + 1) - 1) (visualCol v tabstop row i)
+          cond tabbed (visualCol w tabstop row (i + 1) - 1) (visualCol w tabstop row i) ≤ cond tabbed (visualCol v tabstop row (i + 1) - 1)
+          (visualCol v tabstop row i)
       go true = omega (arith, column-less tabstop row (i + 1))
       go false = column-less tabstop row i
 

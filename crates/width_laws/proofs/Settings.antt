@@ -41,29 +41,29 @@ agree l none = agree-without wide narrow isAmbiguous (λ x e. sym (wide-same x e
 
 on-row : (row : List ℕ) → Without row → SameOnRow row
 on-row row none =
-    let a = agree row none in
+    let by-agree = agree row none in
     record {
-      char-cols = λ visual tabstop. ap (columnOf (columnRefusal row tabstop)) (char-same wide narrow tabstop row a visual);
-      visual-cols = λ col tabstop. ap (columnOf (columnRefusal row tabstop)) (visual-same wide narrow tabstop row a col);
-      cursor-cols = λ col tabstop. ap (columnOf (columnRefusal row tabstop)) (cursor-same wide narrow tabstop row a col);
-      chars-at = λ start end offset. ap (columnOf (rowRefusal row)) (char-at-same wide narrow row start end offset a);
-      cells-at = λ start col. ap (columnOf (rowRefusal row)) (cells-at-same wide narrow row start col a);
-      segments = λ mode width. segments-same wide narrow isWhite mode width row a;
+      char-cols = λ visual tabstop. ap (columnOf (columnRefusal row tabstop)) (char-same wide narrow tabstop row by-agree visual);
+      visual-cols = λ col tabstop. ap (columnOf (columnRefusal row tabstop)) (visual-same wide narrow tabstop row by-agree col);
+      cursor-cols = λ col tabstop. ap (columnOf (columnRefusal row tabstop)) (cursor-same wide narrow tabstop row by-agree col);
+      chars-at = λ start end offset. ap (columnOf (rowRefusal row)) (char-at-same wide narrow row start end offset by-agree);
+      cells-at = λ start col. ap (columnOf (rowRefusal row)) (cells-at-same wide narrow row start col by-agree);
+      segments = λ mode width. segments-same wide narrow isWhite mode width row by-agree;
     }
 
 on-text : (t : List ℕ) → Without t → SameOnText t
 on-text t none =
-    let a = agree t none in
+    let by-agree = agree t none in
     record {
       rows = λ folds tabstop down n k.
           ap (λ (p : Target). moving (verticalRefusal t folds tabstop k) (atTarget p))
-          (vertical-same wide narrow t a folds tabstop (deltaOf down n) (k .row) (k .col) (k .sticky));
+          (vertical-same wide narrow t by-agree folds tabstop (deltaOf down n) (k .row) (k .col) (k .sticky));
       screen = λ folds tabstop mode width down n k.
           ap (λ (p : Target). moving (verticalRefusal t folds tabstop k) (atTarget p))
-          (screen-same wide narrow t a folds tabstop mode width down n (k .row) (k .col) (k .sticky));
+          (screen-same wide narrow t by-agree folds tabstop mode width down n (k .row) (k .col) (k .sticky));
       kept = λ folds tabstop mode width down n k.
           ap (λ (p : Kept). moving (verticalRefusal t folds tabstop k) (atKept p))
-          (kept-same wide narrow t a folds tabstop mode width down n (k .row) (k .col) (k .sticky) (k .offset));
+          (kept-same wide narrow t by-agree folds tabstop mode width down n (k .row) (k .col) (k .sticky) (k .offset));
     }
 
 pub same-without : SameWithout

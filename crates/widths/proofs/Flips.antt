@@ -19,7 +19,7 @@ pub flips-below : (x b : ℕ) (bs : List ℕ) → T (climbs b bs) → x ≤ b �
 unfolding flips
 flips-below x b [] t h = refl
 flips-below x b (a ∷ bs) t h =
-    let l = ltb→lt b a (and-left (ltb b a) (climbs a bs) t) in
+    let by-ltb-lt = ltb→lt b a (and-left (ltb b a) (climbs a bs) t) in
     rw (lt-leb a x (omega arith)) (flips-below x a bs (and-right (ltb b a) (climbs a bs) t) (omega arith))
 
 pub not-not : (b : Bool) → not (not b) ≡ b

@@ -42,23 +42,23 @@ first-of word (x ∷ t) e = go (eqb x 10) e
   where
     go : (b : Bool) → leb 3 (cond b 3 (charClass word x)) ≡ true → eqb (cond b 3 (charClass word x)) 3 ≡ true
     go true w = refl
-    go false w = let z : _≡_ {A = ℕ} 0 1 = cc (sym w ∙ char-says word true x .1) in absurd (omega arith)
+    go false w = let never : _≡_ {A = ℕ} 0 1 = cc (sym w ∙ char-says word true x .1) in absurd (omega arith)
 
 -- the first row of a closed fold is not behind the row that it is at
 pub fold-first : (folds : List ℕ) (rows content row a b : ℕ) → closedFoldAt folds rows content row ≡ Of a b → a ≤ row
 fold-first folds rows content row a b e = go (hidden folds row) refl
   where
     from : (v : Visible) → ((x : ℕ) → v ≡ Row x → x ≤ row) → closedFrom folds rows content v ≡ Of a b → a ≤ row
-    from NoRow f w = let q : _≡_ {A = ℕ} 0 1 = cc in absurd (omega arith)
+    from NoRow f w = let never : _≡_ {A = ℕ} 0 1 = cc in absurd (omega arith)
     from (Row x) f w = pick (hidden folds (x + 1)) w
       where
         pick : (s : Bool) → cond s (Of x (lastBefore content (nextVisible folds rows x))) NoSpan ≡ Of a b → a ≤ row
-        pick true v = let p : x ≡ a = cc in rw p at (f x refl)
-        pick false v = let q : _≡_ {A = ℕ} 0 1 = cc in absurd (omega arith)
+        pick true v = let x-is : x ≡ a = cc in rw x-is at (f x refl)
+        pick false v = let never : _≡_ {A = ℕ} 0 1 = cc in absurd (omega arith)
 
     go : (s : Bool) → hidden folds row ≡ s → a ≤ row
     go true s = from (prevVisible folds row) (λ x v. omega (arith, prev-within folds row x v)) (rw s at e)
-    go false s = from (Row row) (λ x v. let q : row ≡ x = cc in omega arith) (rw s at e)
+    go false s = from (Row row) (λ x v. let row-is : row ≡ x = cc in omega arith) (rw s at e)
 
 module _ {c : List ℕ} (k : Classes c) where
   -- the one law, of a slice that holds classes
@@ -69,8 +69,8 @@ module _ {c : List ℕ} (k : Classes c) where
   first-empty e = rw (k .same) (first-of (k .word) (k .text) (rw (k .same) at e))
 
   pub some-rows : (0 < rowsOf c) × (contentOf c ≤ rowsOf c) × (0 < contentOf c)
-  some-rows = let d = held true in let n = content-near (k .text) in
-      (omega (arith, d .rows), omega (arith, d .rows, d .content-rows), omega (arith, d .content-rows))
+  some-rows = let by-held = held true in let by-content-near = content-near (k .text) in
+      (omega (arith, by-held .rows), omega (arith, by-held .rows, by-held .content-rows), omega (arith, by-held .content-rows))
 
   module _ (folds : List ℕ) (i : ℕ) (h : i + 1 ≤ length c) where
     in-text : i ≤ length (k .text)
@@ -84,8 +84,8 @@ module _ {c : List ℕ} (k : Classes c) where
 
     module _ (big : Bool) (m : Motion) (stop : Bool) (j : ℕ) where
       turn-in : (r : Turned) (v : first.Turn) → Turns (k .text) r v → r ≡ On j → j + 1 ≤ length c
-      turn-in (On x) v w e = let z : x ≡ j = cc in omega (arith, w .1, held true .long)
-      turn-in (Off x) v w e = let z : _≡_ {A = ℕ} 0 1 = cc in absurd (omega arith)
+      turn-in (On x) v w e = let x-is : x ≡ j = cc in omega (arith, w .1, held true .long)
+      turn-in (Off x) v w e = let never : _≡_ {A = ℕ} 0 1 = cc in absurd (omega arith)
 
       pub on-in : roundOf c folds big m stop i ≡ On j → j + 1 ≤ length c
       on-in e = turn-in (roundOf c folds big m stop i) _ (round-same (held big) folds m stop i in-text) e
@@ -104,10 +104,10 @@ module _ {c folds : List ℕ} {rows content : ℕ} {p : Spot} (w : Ready c folds
 
   pub ready-row : (p .row < rows) × (0 < content) × (content ≤ rows)
   ready-row =
-      let s = some-rows (w .classes) in (
+      let by-some-rows = some-rows (w .classes) in (
         omega (arith, row-in (w .classes) folds (p .at) (w .inside), w .stands .row-is, w .all-rows),
-        omega (arith, s .2, w .content-rows),
-        omega (arith, s .1, w .content-rows, w .all-rows),
+        omega (arith, by-some-rows .2, w .content-rows),
+        omega (arith, by-some-rows .1, w .content-rows, w .all-rows),
       )
 
   -- the closed fold at the spot's row
@@ -119,9 +119,9 @@ module _ {c folds : List ℕ} {rows content : ℕ} {p : Spot} (w : Ready c folds
 
   pub span-rows : {r : Span} → r ≡ closedFoldAt folds rows content (p .row) → (a b : ℕ) → r ≡ Of a b → (a ≤ p .row) × (b < rowsOf c)
   span-rows e a b q =
-      let s = ready-row in (
+      let by-ready-row = ready-row in (
         fold-first folds rows content (p .row) a b (sym e ∙ q),
-        omega (arith, span-within folds rows content (p .row) a b (sym e ∙ q) (s .0) (s .1) (s .2) .1, w .all-rows),
+        omega (arith, span-within folds rows content (p .row) a b (sym e ∙ q) (by-ready-row .0) (by-ready-row .1) (by-ready-row .2) .1, w .all-rows),
       )
 
 -- the end of a row that is not empty has a place before it
@@ -130,8 +130,8 @@ last-there {c} k r h e = go (endOf c r) refl
   where
     go : (n : ℕ) → endOf c r ≡ n → 0 < endOf c r
     go zero z =
-        let b : isEnd c 0 ≡ true = rw z at (end-there c r h .1) in
-        let w : _≡_ {A = ℕ} 0 1 = cc (sym (first-empty k b) ∙ rw z at e) in absurd (omega arith)
+        let is-end : isEnd c 0 ≡ true = rw z at (end-there c r h .1) in
+        let never : _≡_ {A = ℕ} 0 1 = cc (sym (first-empty k is-end) ∙ rw z at e) in absurd (omega arith)
     go (suc n) z = omega arith
 
 -- a motion from a row and a column
@@ -151,10 +151,10 @@ module _ {c folds : List ℕ} {p : Position} (w : Asked c folds p) where
 -- a row begins at or before each of its places
 pub start-low : {c : List ℕ} → Classes c → (i : ℕ) → i + 1 ≤ length c → startOf c (rowOf c i) ≤ i
 start-low {c} k i h =
-    let d = held k true in
-    let low : i ≤ length (k .text) = omega (arith, d .long) in
-    let a = row-there (k .text) i low in
-    omega (arith, ap (startOf c) (d .row i low), start-place d _ (a .in-row), a .offset)
+    let by-held = held k true in
+    let low : i ≤ length (k .text) = omega (arith, by-held .long) in
+    let by-row-there = row-there (k .text) i low in
+    omega (arith, ap (startOf c) (by-held .row i low), start-place by-held _ (by-row-there .in-row), by-row-there .offset)
 
 pub position-is : (c : List ℕ) (row s j m : ℕ) → row ≡ rowOf c j → s ≡ startOf c row → j ≡ m → position row (j - s) ≡ positionOf c m
 position-is c row s j m e f g =

@@ -51,8 +51,8 @@ module _ {t : List ℕ} {tell : ℕ → ℕ} {c : List ℕ} {big : Bool} (d : De
     end-kind : isEnd c stop ≡ true
     unfolding named
     end-kind =
-        let e : Places.kindAt t tell (pos t stop) ≡ 3 = ap (Places.kindAt t tell) (at-pos end-at) ∙ kind-past in
-        sym (d .ends stop (at-le end-at)) ∙ sym (named-same (kind c big stop) 4) ∙ eq-eqb _ 3 (sym (d .kinds stop (at-le end-at)) ∙ e)
+        let kind-at-is : Places.kindAt t tell (pos t stop) ≡ 3 = ap (Places.kindAt t tell) (at-pos end-at) ∙ kind-past in
+        sym (d .ends stop (at-le end-at)) ∙ sym (named-same (kind c big stop) 4) ∙ eq-eqb _ 3 (sym (d .kinds stop (at-le end-at)) ∙ kind-at-is)
 
     pub end-place : endOf c r ≡ stop
     end-place =
@@ -63,22 +63,23 @@ module _ {t : List ℕ} {tell : ℕ → ℕ} {c : List ℕ} {big : Bool} (d : De
     last-by : (b : Bool) → isEmpty c stop ≡ b → (pos t (cond b stop (stop - 1)) ≡ position r (rowLen t r - 1)) × (cond b stop (stop - 1) ≤ length t)
     unfolding Places.onEmptyRow
     last-by true e =
-        let w : (eqb (rowLen t r) 0 && eqb (rowLen t r) 0) ≡ true = sym (ap (Places.onEmptyRow t) (at-pos end-at)) ∙ d .empties stop (at-le end-at) ∙ e in
-        let z : rowLen t r ≡ 0 = both (eqb (rowLen t r) 0) refl w in
+        let test-is : (eqb (rowLen t r) 0 && eqb (rowLen t r) 0) ≡ true = sym (ap (Places.onEmptyRow t) (at-pos end-at)) ∙ d .empties stop (at-le end-at) ∙ e in
+        let row-len-is : rowLen t r ≡ 0 = both (eqb (rowLen t r) 0) refl test-is in
         let same : rowLen t r - 1 ≡ rowLen t r = omega arith in
         (rw same (at-pos end-at), at-le end-at)
       where
         both : (b : Bool) → eqb (rowLen t r) 0 ≡ b → (b && b) ≡ true → rowLen t r ≡ 0
         both true q w = eqb-true (rowLen t r) 0 q
-        both false q w = let z : _≡_ {A = ℕ} 0 1 = cc in absurd (omega arith)
+        both false q w = let never : _≡_ {A = ℕ} 0 1 = cc in absurd (omega arith)
     last-by false e =
-        let w : (eqb (rowLen t r) 0 && eqb (rowLen t r) 0) ≡ false = sym (ap (Places.onEmptyRow t) (at-pos end-at)) ∙ d .empties stop (at-le end-at) ∙ e in
-        let n : rowLen t r ≡ 0 → ⊥ = none (eqb (rowLen t r) 0) refl w in
-        let a = at-col end-at (rowLen t r - 1) (stop - 1) (omega arith) (omega (arith, n)) in
-        (at-pos a, at-le a)
+        let test-is : (eqb (rowLen t r) 0 && eqb (rowLen t r) 0) ≡ false = sym (ap (Places.onEmptyRow t) (at-pos end-at))
+        ∙ d .empties stop (at-le end-at) ∙ e in
+        let row-len-not : rowLen t r ≡ 0 → ⊥ = none (eqb (rowLen t r) 0) refl test-is in
+        let by-at-col = at-col end-at (rowLen t r - 1) (stop - 1) (omega arith) (omega (arith, row-len-not)) in
+        (at-pos by-at-col, at-le by-at-col)
       where
         none : (b : Bool) → eqb (rowLen t r) 0 ≡ b → (b && b) ≡ false → rowLen t r ≡ 0 → ⊥
-        none true q w v = let z : _≡_ {A = ℕ} 0 1 = cc in omega arith
+        none true q w v = let never : _≡_ {A = ℕ} 0 1 = cc in omega arith
         none false q w v = eqb-false (rowLen t r) 0 q v
 
     pub last-place : (pos t (lastOf c r) ≡ position r (rowLen t r - 1)) × (lastOf c r ≤ length t)
@@ -87,7 +88,7 @@ module _ {t : List ℕ} {tell : ℕ → ℕ} {c : List ℕ} {big : Bool} (d : De
   pub start-place : (r : ℕ) → r < rowCount t → startOf c r ≡ rowStart t r
   start-place zero h = sym (start-zero t)
   start-place (suc r) h =
-      let w = rw (add-one r) at (next-start t r (omega arith)) in omega (arith, end-place r (omega arith), w)
+      let here = rw (add-one r) at (next-start t r (omega arith)) in omega (arith, end-place r (omega arith), here)
 
   first-place : (r : ℕ) → r < rowCount t → (pos t (startOf c r) ≡ position r 0) × (startOf c r ≤ length t)
   first-place r h = rw (start-place r h) (at-pos (at-start t r h), at-le (at-start t r h))
@@ -102,19 +103,19 @@ module _ {t : List ℕ} {tell : ℕ → ℕ} {c : List ℕ} {big : Bool} (d : De
 
     rows-of : (a b : ℕ) → foldAt c folds i ≡ Of a b → (a < rowCount t) × (b < rowCount t)
     rows-of a b e =
-        let k = content-near t in
+        let by-content-near = content-near t in
         span-within folds (rowCount t) (contentRows t) (Offsets.rowOf t i) a b (same-fold ∙ e) (row-there t i h .in-row) (omega arith) (omega arith)
 
     pub fwd-same : (first.jumpFwd t folds (pos t i) ≡ pos t (jumpFwd c folds i)) × (jumpFwd c folds i ≤ length t)
     fwd-same = rw same-fold (go (foldAt c folds i) refl)
       where
         go : (s : Span) → foldAt c folds i ≡ s → (first.toLast t (pos t i) s ≡ pos t (toLast c i s)) × (toLast c i s ≤ length t)
-        go (Of a b) e = let l = last-place b (rows-of a b e .1) in (sym (l .0), l .1)
+        go (Of a b) e = let by-last-place = last-place b (rows-of a b e .1) in (sym (by-last-place .0), by-last-place .1)
         go NoSpan e = (refl, h)
 
     pub back-same : (first.jumpBack t folds (pos t i) ≡ pos t (jumpBack c folds i)) × (jumpBack c folds i ≤ length t)
     back-same = rw same-fold (go (foldAt c folds i) refl)
       where
         go : (s : Span) → foldAt c folds i ≡ s → (first.toFirst (pos t i) s ≡ pos t (toFirst c i s)) × (toFirst c i s ≤ length t)
-        go (Of a b) e = let l = first-place a (rows-of a b e .0) in (sym (l .0), l .1)
+        go (Of a b) e = let by-first-place = first-place a (rows-of a b e .0) in (sym (by-first-place .0), by-first-place .1)
         go NoSpan e = (refl, h)

@@ -45,15 +45,17 @@ module _ {t : List ℕ} {tell : ℕ → ℕ} {c : List ℕ} {big : Bool} (d : De
         Turns t (roundOf c folds big m stop i) (first.roundOf t folds tell big m stop (pos t i))
     unfolding roundOf first.roundOf
     round-same Fwd stop i h =
-        let j = fwd-same d folds i h in rw (j .0) (turn-same (jumpFwd c folds i) (j .1) (nextStart c big (jumpFwd c folds i)) _ (start-same d _ (j .1)))
+        let by-fwd-same = fwd-same d folds i h in
+        rw (by-fwd-same .0) (turn-same (jumpFwd c folds i) (by-fwd-same .1) (nextStart c big (jumpFwd c folds i)) _ (start-same d _ (by-fwd-same .1)))
     round-same Back stop i h =
-        let j = back-same d folds i h in rw (j .0) (turn-same (jumpBack c folds i) (j .1) (prevStart c big (jumpBack c folds i)) _ (front-of d _ (j .1)))
-    round-same End stop i h = let j = fwd-same d folds i h in rw (j .0) (end-turn stop (jumpFwd c folds i) (j .1))
+        let by-back-same = back-same d folds i h in
+        rw (by-back-same .0) (turn-same (jumpBack c folds i) (by-back-same .1) (prevStart c big (jumpBack c folds i)) _ (front-of d _ (by-back-same .1)))
+    round-same End stop i h = let by-fwd-same = fwd-same d folds i h in rw (by-fwd-same .0) (end-turn stop (jumpFwd c folds i) (by-fwd-same .1))
     round-same EndBack stop i h = turn-same i h (prevEnd c big i) (Words.prevWordEnd t tell (pos t i)) (ends-of d i h)
 
     after-same : (a : Turned) (b : Turn) (f : ℕ → ℕ) (g : Position → Position) → Turns t a b →
         ((j : ℕ) → j ≤ length t → (g (pos t j) ≡ pos t (f j)) × (f j ≤ length t)) → (first.after b g ≡ pos t (after a f)) × (after a f ≤ length t)
-    after-same (On j) b f g w k = let l = k j (w .1) in (ap (λ (x : Turn). first.after x g) (w .0) ∙ l .0, l .1)
+    after-same (On j) b f g w k = let here = k j (w .1) in (ap (λ (x : Turn). first.after x g) (w .0) ∙ here .0, here .1)
     after-same (Off j) b f g w k = (ap (λ (x : Turn). first.after x g) (w .0), w .1)
 
     counted-same : (m : Motion) (n i : ℕ) → i ≤ length t →

@@ -55,7 +55,7 @@ module _ {t : List ℕ} {tell : ℕ → ℕ} {c : List ℕ} {big : Bool} (d : De
       go : (a : Halted) (b : Halt) → Halts t (Inside d) (over (soft c big q)) a b → Below q a → Meets t (At (Hops.behind a)) (Words.frontOf t b)
       go (Stood j) b w l = (ap (Words.frontOf t) (w .0), w .1)
       go (Done j) b w l =
-          let m = before-end d q h e in
+          let by-before-end = before-end d q h e in
           let less : j < q = apart (ℕ-discrete j q) in
           (ap (Words.frontOf t) (w .0) ∙ rw (d .next j (omega arith)), omega arith)
         where
@@ -128,6 +128,6 @@ module _ {t : List ℕ} {tell : ℕ → ℕ} {c : List ℕ} {big : Bool} (d : De
           (not b && not (eqb (soft c big (i + 1)) (soft c big i)))
       by true e = refl
       by false e =
-          let n = no-space i h e in
-          let l = before-end d i h n in
-          rw (d .beside i h n, class-of d (i + 1) (omega arith), class-of d i h, named-same (soft c big (i + 1)) (soft c big i))
+          let by-no-space = no-space i h e in
+          let by-before-end = before-end d i h by-no-space in
+          rw (d .beside i h by-no-space, class-of d (i + 1) (omega arith), class-of d i h, named-same (soft c big (i + 1)) (soft c big i))

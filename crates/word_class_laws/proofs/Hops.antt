@@ -80,7 +80,7 @@ module _ {t : List ℕ} {tell : ℕ → ℕ} {c : List ℕ} {big : Bool} (d : De
   step-on NoStep f g h = refl
 
   low : (i j : ℕ) → forward c i ≡ At j → j ≤ length t
-  low i j e = let l = forward-on c i j e in omega (arith, l .1, end-is d)
+  low i j e = let by-forward-on = forward-on c i j e in omega (arith, by-forward-on .1, end-is d)
 
   real : (i : ℕ) → i ≤ length t → isEnd c i ≡ false → eqb (kind c big i) 4 ≡ false
   real i h e = d .ends i h ∙ e
@@ -102,8 +102,8 @@ module _ {t : List ℕ} {tell : ℕ → ℕ} {c : List ℕ} {big : Bool} (d : De
   pub start-same : (i : ℕ) → i ≤ length t → Meets t (Hops.nextStart c big i) (Words.nextWordStart t tell big (pos t i))
   unfolding Hops.nextStart Words.nextWordStart named
   start-same i h =
-      let e : eqb (Places.kindAt t tell (pos t i)) 3 ≡ isEnd c i = kind-test d i h 4 ∙ d .ends i h in
-      rw (e, d .on i h) (by (isEnd c i) refl)
+      let test-is : eqb (Places.kindAt t tell (pos t i)) 3 ≡ isEnd c i = kind-test d i h 4 ∙ d .ends i h in
+      rw (test-is, d .on i h) (by (isEnd c i) refl)
     where
       by : (b : Bool) → isEnd c i ≡ b →
           Meets t (cond b (further (forward c i) (Hops.fromEnd c big) NoStep) (further (forward c (runEnd c big i)) (Hops.overSpace c big) (At (contentEnd c))))

@@ -46,9 +46,9 @@ module _ (word : ℕ → Bool) (t : List ℕ) where
 
   rows : rowCount t ≡ rowsOf c
   rows =
-      let e : length c ≡ length t + 1 = at.long word t in
-      let k = row-end-next c (length t) (omega arith) (at.last-ends word t (length t) refl) in
-      omega (arith, ap (rowOf c) e, k, row-from word true t (length t) (omega arith), stands-row (last-stands t), rows-pos t)
+      let size-is : length c ≡ length t + 1 = at.long word t in
+      let by-row-end-next = row-end-next c (length t) (omega arith) (at.last-ends word t (length t) refl) in
+      omega (arith, ap (rowOf c) size-is, by-row-end-next, row-from word true t (length t) (omega arith), stands-row (last-stands t), rows-pos t)
 
   end-is : textEnd c ≡ length t
   end-is = omega (arith, at.long word t)

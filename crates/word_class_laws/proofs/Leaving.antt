@@ -47,7 +47,7 @@ module _ {t : List ℕ} {tell : ℕ → ℕ} {c : List ℕ} {big : Bool} (d : De
     out j o w e (At q) s = turn q low ∙ rw (fails (isEnd c (j + 1)) refl)
       where
         low : q ≤ length t
-        low = let l = forward-on c j q s in omega (arith, l .1, end-is d)
+        low = let by-forward-on = forward-on c j q s in omega (arith, by-forward-on .1, end-is d)
 
         both : (a b : Bool) → b ≡ false → (a && b) ≡ false
         both true b f = f
@@ -55,11 +55,11 @@ module _ {t : List ℕ} {tell : ℕ → ℕ} {c : List ℕ} {big : Bool} (d : De
 
         fails : (b : Bool) → isEnd c (j + 1) ≡ b → stays (pos t q) ≡ false
         fails true f =
-            let z = next-row d k real j q (o .inside) (run-char d k real j o) f s in
+            let by-next-row = next-row d k real j q (o .inside) (run-char d k real j o) f s in
             both (eqb (Places.kindAt t tell (pos t q)) (named k)) (eqb (Offsets.rowOf t q) (Offsets.rowOf t from))
-            (ne-eqb (Offsets.rowOf t q) (Offsets.rowOf t from) (λ v. omega (arith, z, w, v)))
+            (ne-eqb (Offsets.rowOf t q) (Offsets.rowOf t from) (λ v. omega (arith, by-next-row, w, v)))
         fails false f =
-            let m = before-end d j (o .inside) (run-char d k real j o) in
+            let by-before-end = before-end d j (o .inside) (run-char d k real j o) in
             let same : q ≡ j + 1 = cc (sym s ∙ next-char d k real j (o .inside) (run-char d k real j o) f) in
             let e2 : eqb (kind c big (j + 1)) k ≡ false = rw (lt-ltb j (textEnd c) (omega (arith, end-is d))) at e in
             rw (kind-test d q low k, same, e2)
@@ -78,9 +78,9 @@ module _ {t : List ℕ} {tell : ℕ → ℕ} {c : List ℕ} {big : Bool} (d : De
             Places.further (Places.stepForward t (pos t j)) whole (Stuck (pos t j)) ≡
             leaving (place (cond b (walk (runs c big k) (λ i. At (i + 1)) n (j + 1)) (Done j)))
         by true e ih =
-            let p = on-run d k real j o e in
-            let m = before-end d j (o .inside) (run-char d k real j o) in
-            rw (run-steps d k real j o e .0) (ih p (same-row d k real j (o .inside) (run-char d k real j o) ∙ w) (omega arith))
+            let by-on-run = on-run d k real j o e in
+            let by-before-end = before-end d j (o .inside) (run-char d k real j o) in
+            rw (run-steps d k real j o e .0) (ih by-on-run (same-row d k real j (o .inside) (run-char d k real j o) ∙ w) (omega arith))
         by false e ih = rw (d .on j (o .inside)) (out j o w e (forward c j) refl)
 
   pub leave-same : (i : ℕ) → InRun d k real i →

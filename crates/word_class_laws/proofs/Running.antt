@@ -40,7 +40,7 @@ module _ {t : List ℕ} {tell : ℕ → ℕ} {c : List ℕ} {big : Bool} (d : De
       over-end NoStep w f = refl
       over-end (At q) w f =
           off (pos t q) (ne-eqb (Offsets.rowOf t q) (Offsets.rowOf t j)
-          (λ e. let z = next-row d k real j q (o .inside) (run-char d k real j o) f w in omega (arith, e, z)))
+          (λ e. let by-next-row = next-row d k real j q (o .inside) (run-char d k real j o) f w in omega (arith, e, by-next-row)))
 
       stops : isEnd c (j + 1) ≡ true → runs c big k j ≡ false
       stops f =
@@ -65,9 +65,12 @@ module _ {t : List ℕ} {tell : ℕ → ℕ} {c : List ℕ} {big : Bool} (d : De
 
   pub run-steps : (j : ℕ) → InRun d k real j → runs c big k j ≡ true → Steps t (InRun d k real) (λ i. length t - i) (Places.stepForward t) j (At (j + 1))
   run-steps j o e =
-      let p = on-run j o e in
-      let low = before-end d j (o .inside) (run-char d k real j o) in
-      (d .on j (o .inside) ∙ ap (went t) (next-char d k real j (o .inside) (run-char d k real j o) (run-char d k real (j + 1) p)), p, omega arith)
+      let by-on-run = on-run j o e in
+      let low = before-end d j (o .inside) (run-char d k real j o) in (
+        d .on j (o .inside) ∙ ap (went t) (next-char d k real j (o .inside) (run-char d k real j o) (run-char d k real (j + 1) by-on-run)),
+        by-on-run,
+        omega arith,
+      )
 
   pub run-same : (i : ℕ) → InRun d k real i →
       Halts t (InRun d k real) (runs c big k) (walk (runs c big k) (λ j. At (j + 1)) (length c + 1) i) (first.run t tell (named k) (pos t i))

@@ -31,7 +31,7 @@ use Rattle.word_class_laws.proofs.Points.{named-same}
 use Rattle.word_class_laws.proofs.Walks.{pos-in, Halts, Steps, walks}
 
 pub clash : {A : Type 0} {b : Bool} → b ≡ true → b ≡ false → A
-clash e f = let z : _≡_ {A = ℕ} 0 1 = cc (sym e ∙ f) in absurd (omega arith)
+clash e f = let never : _≡_ {A = ℕ} 0 1 = cc (sym e ∙ f) in absurd (omega arith)
 
 -- the row's end as a space, by either numbers
 soften : (k : ℕ) → Places.soft (named k) ≡ named (cond (eqb k 4) 2 k)
@@ -61,14 +61,15 @@ module _ {t : List ℕ} {tell : ℕ → ℕ} {c : List ℕ} {big : Bool} (d : De
     where
       go : Dec (i < length t) → i < length t
       go (yes l) = l
-      go (no m) = let z : i ≡ length t = omega arith in clash (rw z (d .last)) e
+      go (no m) = let i-is : i ≡ length t = omega arith in clash (rw i-is (d .last)) e
 
   -- a step on
   forward-steps : (i : ℕ) → i ≤ length t → Steps t Inside (λ j. length t - j) (Places.stepForward t) i (forward c i)
   forward-steps i h = go (forward c i) refl (d .on i h)
     where
       go : (r : Reach) → forward c i ≡ r → Places.stepForward t (pos t i) ≡ went t r → Steps t Inside (λ j. length t - j) (Places.stepForward t) i r
-      go (At j) e w = let l = forward-on c i j e in (w, omega (arith, l .1, end-is), omega (arith, l .0, l .1, end-is))
+      go (At j) e w = let by-forward-on =
+          forward-on c i j e in (w, omega (arith, by-forward-on .1, end-is), omega (arith, by-forward-on .0, by-forward-on .1, end-is))
       go NoStep e w = w
 
   -- over kinds
@@ -103,25 +104,25 @@ module _ {t : List ℕ} {tell : ℕ → ℕ} {c : List ℕ} {big : Bool} (d : De
     -- the next place of the row, or the next row's first
     pub next-char : (j : ℕ) → j ≤ length t → isEnd c j ≡ false → isEnd c (j + 1) ≡ false → forward c j ≡ At (j + 1)
     next-char j h e f =
-        let l = before-end j h e in
-        let m = before-end (j + 1) (omega arith) f in
+        let by-before-end = before-end j h e in
+        let by-before-end-f = before-end (j + 1) (omega arith) f in
         forward-next c j (rw (e, f)) ∙ rw (lt-ltb (j + 1) (textEnd c) (omega (arith, end-is)))
 
     pub same-row : (j : ℕ) → j ≤ length t → isEnd c j ≡ false → Offsets.rowOf t (j + 1) ≡ Offsets.rowOf t j
     same-row j h e =
-        let l = before-end j h e in
+        let by-before-end = before-end j h e in
         d .row (j + 1) (omega arith) ∙ row-char-next c j (omega (arith, d .long)) e ∙ sym (d .row j h)
 
     pub next-row : (j q : ℕ) → j ≤ length t → isEnd c j ≡ false → isEnd c (j + 1) ≡ true → forward c j ≡ At q → Offsets.rowOf t q ≡ Offsets.rowOf t j + 1
     next-row j q h e f w =
-        let l = before-end j h e in
+        let by-before-end = before-end j h e in
         let on = forward-on c j q w in
         let two : j + 1 + 1 ≡ j + 2 = omega arith in
-        let s : forward c j ≡ cond (ltb (j + 2) (textEnd c)) (At (j + 2)) NoStep = forward-over c j (rw (e, f)) in
-        let r : rowOf c (j + 2) ≡ rowOf c (j + 1) + 1 = rw two at (row-end-next c (j + 1) (omega (arith, d .long)) f) in
-        go (ltb (j + 2) (textEnd c)) (sym w ∙ s) on r (row-char-next c j (omega (arith, d .long)) e)
+        let forward-is : forward c j ≡ cond (ltb (j + 2) (textEnd c)) (At (j + 2)) NoStep = forward-over c j (rw (e, f)) in
+        let row-is : rowOf c (j + 2) ≡ rowOf c (j + 1) + 1 = rw two at (row-end-next c (j + 1) (omega (arith, d .long)) f) in
+        go (ltb (j + 2) (textEnd c)) (sym w ∙ forward-is) on row-is (row-char-next c j (omega (arith, d .long)) e)
       where
         go : (b : Bool) → At q ≡ cond b (At (j + 2)) NoStep → (j < q) × (q < textEnd c) → rowOf c (j + 2) ≡ rowOf c (j + 1) + 1 → rowOf c (j + 1) ≡ rowOf c j →
             Offsets.rowOf t q ≡ Offsets.rowOf t j + 1
-        go true v on r s = let z : q ≡ j + 2 = cc in omega (arith, d .row q (omega (arith, on .1, end-is)), ap (rowOf c) z, d .row j h)
-        go false v on r s = let z : _≡_ {A = ℕ} 0 1 = cc in absurd (omega arith)
+        go true v on r s = let q-is : q ≡ j + 2 = cc in omega (arith, d .row q (omega (arith, on .1, end-is)), ap (rowOf c) q-is, d .row j h)
+        go false v on r s = let never : _≡_ {A = ℕ} 0 1 = cc in absurd (omega arith)

@@ -58,22 +58,22 @@ module _ (word : ℕ → Bool) (t : List ℕ) where
 
         go : Dec (j + 1 < length t) → Places.nextRow t (Offsets.rowOf t i) ≡ went t (cond (ltb (j + 1) (textEnd c)) (At (j + 1)) NoStep)
         go (yes k) =
-            let y = next-yes t (Offsets.rowOf t i) j there k in
-            rw (near (j + 1) k) (goes (record { row = Offsets.rowOf t i + 1; at = j + 1 }) (y .0) (y .1))
+            let by-next-yes = next-yes t (Offsets.rowOf t i) j there k in
+            rw (near (j + 1) k) (goes (record { row = Offsets.rowOf t i + 1; at = j + 1 }) (by-next-yes .0) (by-next-yes .1))
         go (no m) = rw (far (j + 1) (omega arith)) (sym (next-no t (Offsets.rowOf t i) j there (omega arith)))
 
     from-char : (l : i < length t) (n : getD t i 0 ≡ 10 → ⊥) → Stand word t (i + 1) → Places.stepForward t (pos t i) ≡ went t (forward c i)
     from-char l n (atLast k) =
         let two : i + 2 ≡ i + 1 + 1 = omega arith in
-        let o = forward-over c i (rw (char-ends word t i l n, last-ends word t (i + 1) (omega arith))) in
-        rw (o, far (i + 2) (omega arith)) (sym (last-forward t spot (spot-of t i h) l n k))
+        let by-forward-over = forward-over c i (rw (char-ends word t i l n, last-ends word t (i + 1) (omega arith))) in
+        rw (by-forward-over, far (i + 2) (omega arith)) (sym (last-forward t spot (spot-of t i h) l n k))
     from-char l n (atBreak k e) =
         let two : i + 2 ≡ i + 1 + 1 = omega arith in
-        let o = forward-over c i (rw (char-ends word t i l n, break-ends word t (i + 1) k e)) in
-        rw (o, two) (sym (row-forward t spot (spot-of t i h) l n k e) ∙ behind (i + 1) (omega arith) (char-spot t spot (spot-of t i h) l n) k e)
+        let by-forward-over = forward-over c i (rw (char-ends word t i l n, break-ends word t (i + 1) k e)) in
+        rw (by-forward-over, two) (sym (row-forward t spot (spot-of t i h) l n k e) ∙ behind (i + 1) (omega arith) (char-spot t spot (spot-of t i h) l n) k e)
     from-char l n (atChar k m) =
-        let o = forward-next c i (rw (char-ends word t i l n, char-ends word t (i + 1) k m)) in
-        rw (o, near (i + 1) k)
+        let by-forward-next = forward-next c i (rw (char-ends word t i l n, char-ends word t (i + 1) k m)) in
+        rw (by-forward-next, near (i + 1) k)
         (goes (record { row = Offsets.rowOf t i; at = i + 1 }) (char-forward t spot (spot-of t i h) l n k m) (char-spot t spot (spot-of t i h) l n))
 
     on-by : Stand word t i → Places.stepForward t (pos t i) ≡ went t (forward c i)
@@ -89,8 +89,8 @@ module _ (word : ℕ → Bool) (t : List ℕ) where
     next-by k (atLast l) = absurd (omega arith)
     next-by k (atBreak l e) =
         let there : Ends t (Offsets.rowOf t i) i = record { stands = spot-of t i h; within = l; nl = e } in
-        let y = next-yes t (Offsets.rowOf t i) i there k in
-        sym (nl-inc t spot (spot-of t i h) l e) ∙ goes (record { row = Offsets.rowOf t i + 1; at = i + 1 }) (y .0) (y .1)
+        let by-next-yes = next-yes t (Offsets.rowOf t i) i there k in
+        sym (nl-inc t spot (spot-of t i h) l e) ∙ goes (record { row = Offsets.rowOf t i + 1; at = i + 1 }) (by-next-yes .0) (by-next-yes .1)
     next-by k (atChar l n) = goes (record { row = Offsets.rowOf t i; at = i + 1 }) (char-inc t spot (spot-of t i h) l n) (char-spot t spot (spot-of t i h) l n)
 
     pub next : i + 1 < length t → Places.inc t (pos t i) ≡ To (pos t (i + 1))
@@ -98,8 +98,8 @@ module _ (word : ℕ → Bool) (t : List ℕ) where
 
     -- the place behind a character is the next column of its row
     beside-by : isEnd c i ≡ false → Stand word t i → position (pos t i .row) (pos t i .col + 1) ≡ pos t (i + 1)
-    beside-by k (atLast l) = let z : _≡_ {A = ℕ} 0 1 = cc (sym k ∙ last-ends word t i (omega arith)) in absurd (omega arith)
-    beside-by k (atBreak l e) = let z : _≡_ {A = ℕ} 0 1 = cc (sym k ∙ break-ends word t i l e) in absurd (omega arith)
+    beside-by k (atLast l) = let never : _≡_ {A = ℕ} 0 1 = cc (sym k ∙ last-ends word t i (omega arith)) in absurd (omega arith)
+    beside-by k (atBreak l e) = let never : _≡_ {A = ℕ} 0 1 = cc (sym k ∙ break-ends word t i l e) in absurd (omega arith)
     beside-by k (atChar l n) =
         sym (char-col t spot (spot-of t i h) l n) ∙ spot-pos t (record { row = Offsets.rowOf t i; at = i + 1 }) (char-spot t spot (spot-of t i h) l n)
 
@@ -110,12 +110,12 @@ module _ (word : ℕ → Bool) (t : List ℕ) where
   back-by : (i : ℕ) → suc i ≤ length t → Dec (getD t i 0 ≡ 10) → Places.dec t (pos t (suc i)) ≡ To (pos t i)
   back-by i h (yes e) =
       let one : suc i - 1 ≡ i = omega arith in
-      let b = back-row t (record { row = Offsets.rowOf t (suc i); at = suc i }) (spot-of t (suc i) h) (omega arith) (rw one e) in
-      rw one at (goes (record { row = Offsets.rowOf t (suc i) - 1; at = suc i - 1 }) (b .1) (b .2))
+      let by-back-row = back-row t (record { row = Offsets.rowOf t (suc i); at = suc i }) (spot-of t (suc i) h) (omega arith) (rw one e) in
+      rw one at (goes (record { row = Offsets.rowOf t (suc i) - 1; at = suc i - 1 }) (by-back-row .1) (by-back-row .2))
   back-by i h (no n) =
       let one : suc i - 1 ≡ i = omega arith in
-      let b = back-char t (record { row = Offsets.rowOf t (suc i); at = suc i }) (spot-of t (suc i) h) (omega arith) (rw one n) in
-      rw one at (goes (record { row = Offsets.rowOf t (suc i); at = suc i - 1 }) (b .0) (b .1))
+      let by-back-char = back-char t (record { row = Offsets.rowOf t (suc i); at = suc i }) (spot-of t (suc i) h) (omega arith) (rw one n) in
+      rw one at (goes (record { row = Offsets.rowOf t (suc i); at = suc i - 1 }) (by-back-char .0) (by-back-char .1))
 
   pub back : (i : ℕ) → i ≤ length t → Places.dec t (pos t i) ≡ went t (backward i)
   back zero h = sym (back-none t (record { row = Offsets.rowOf t zero; at = zero }) (spot-of t zero h) refl)
@@ -128,16 +128,16 @@ module _ (word : ℕ → Bool) (t : List ℕ) where
   by-last : Dec (0 < length t) → Dec (getD t (length t - 1) 0 ≡ 10) → Places.endOfBuffer t ≡ pos t (contentEnd c)
   unfolding contentEnd
   by-last (no m) d =
-      let e = end-char t (λ z. absurd (m z)) in
+      let by-end-char = end-char t (λ z. absurd (m z)) in
       let empty : lastEmpty c ≡ false = rw (end-is, le-ltb 0 (length t) (omega arith)) in
-      rw (empty, end-is) (sym (e .0) ∙ spot-pos t (record { row = contentRows t - 1; at = length t }) (e .1))
+      rw (empty, end-is) (sym (by-end-char .0) ∙ spot-pos t (record { row = contentRows t - 1; at = length t }) (by-end-char .1))
   by-last (yes z) (no n) =
-      let e = end-char t (λ w. n) in
-      rw (void z n, end-is) (sym (e .0) ∙ spot-pos t (record { row = contentRows t - 1; at = length t }) (e .1))
+      let by-end-char = end-char t (λ w. n) in
+      rw (void z n, end-is) (sym (by-end-char .0) ∙ spot-pos t (record { row = contentRows t - 1; at = length t }) (by-end-char .1))
   by-last (yes z) (yes q) =
-      let e = end-nl t z q in
+      let by-end-nl = end-nl t z q in
       let empty : lastEmpty c ≡ true = rw (end-is, last-fresh word t z, eq-eqb _ 10 q, lt-ltb 0 (length t) z) in
-      rw (empty, end-is) (sym (e .0) ∙ spot-pos t (record { row = contentRows t - 1; at = length t - 1 }) (e .1))
+      rw (empty, end-is) (sym (by-end-nl .0) ∙ spot-pos t (record { row = contentRows t - 1; at = length t - 1 }) (by-end-nl .1))
 
   pub content : Places.endOfBuffer t ≡ pos t (contentEnd c)
   content = by-last (decLt 0 (length t)) (ℕ-discrete (getD t (length t - 1) 0) 10)

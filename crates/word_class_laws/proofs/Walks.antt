@@ -24,7 +24,7 @@ use Rattle.word_class_laws.specs.Determines.{pos}
 
 -- the position of a place is one of the text
 pub pos-in : (t : List ℕ) (i : ℕ) → i ≤ length t → In t (pos t i)
-pos-in t i h = let a = row-there t i h in record { in-row = a .in-row; in-col = a .in-col }
+pos-in t i h = let by-row-there = row-there t i h in record { in-row = by-row-there .in-row; in-col = by-row-there .in-col }
 
 -- where a walk over the text ended, by where one over the classes did: at a place of its own kind `ok`
 abbrev pub Halts : List ℕ → (ℕ → Type 0) → (ℕ → Bool) → Halted → Halt → Type 0
@@ -57,6 +57,6 @@ module _ (t : List ℕ) (ok : ℕ → Type 0) (test : ℕ → Bool) (ahead : ℕ
           Halts t ok test (cond b (further r (walk test step n) (Stood i)) (Done i)) (whole (pos t i))
       by false e r s w ih = (w, o, e)
       by true e (At j) s w ih =
-          let k = s e in
-          subst (λ (x : Halt). Halts t ok test (walk test step n j) x) (sym (w ∙ rw (k .0))) (ih j (k .1) (k .2))
+          let here = s e in
+          subst (λ (x : Halt). Halts t ok test (walk test step n j) x) (sym (w ∙ rw (here .0))) (ih j (here .1) (here .2))
       by true e NoStep s w ih = (w ∙ rw (s e), o)

@@ -84,16 +84,16 @@ pub start-one : (c : List ℕ) (r i : ℕ) → 0 < i → i ≤ length c → isEn
 start-one c r zero z h e q = absurd (omega arith)
 start-one c r (suc i) z h e q =
     let one : suc i - 1 ≡ i = omega arith in
-    let w : isEnd c i ≡ true = rw one at e in
-    let k = row-end-next c i (omega arith) w in
-    by r (sym q ∙ rw (add-one i) at k)
+    let is-end : isEnd c i ≡ true = rw one at e in
+    let by-row-end-next = row-end-next c i (omega arith) is-end in
+    by r (sym q ∙ rw (add-one i) at by-row-end-next)
   where
     by : (s : ℕ) → s ≡ rowOf c i + 1 → suc i ≡ startOf c s
     by zero v = absurd (omega arith)
     by (suc s) v = let one : suc i - 1 ≡ i = omega arith in omega (arith, end-one c s i (omega arith) (rw one at e) (omega arith))
 
 pub start-first : (c : List ℕ) (r i : ℕ) → i ≡ 0 → rowOf c i ≡ r → i ≡ startOf c r
-start-first c r i e q = let z : r ≡ 0 = sym q ∙ rw e (row-first c) in rw (z, e)
+start-first c r i e q = let r-is : r ≡ 0 = sym q ∙ rw e (row-first c) in rw (r-is, e)
 
 -- an end place of every row
 pub end-there : (c : List ℕ) (r : ℕ) → r < rowsOf c → (endOf c r < length c) × (isEnd c (endOf c r) ≡ true) × (rowOf c (endOf c r) ≡ r)
@@ -105,18 +105,18 @@ end-there (x ∷ c) zero h = go (leb 3 x) refl (λ l. end-there c zero l)
         (cond b 0 (suc (endOf c zero)) < suc (length c)) × (isEnd (x ∷ c) (cond b 0 (suc (endOf c zero))) ≡ true) ×
         (rowOf (x ∷ c) (cond b 0 (suc (endOf c zero))) ≡ 0)
     go true k ih = (omega arith, k, refl)
-    go false k ih = let l : 0 < rowsOf c = rw k at h in let w = ih l in (omega (arith, w .0), w .1, rw k (w .2))
+    go false k ih = let rows-some : 0 < rowsOf c = rw k at h in let by-ih = ih rows-some in (omega (arith, by-ih .0), by-ih .1, rw k (by-ih .2))
 end-there (x ∷ c) (suc r) h = go (leb 3 x) refl (λ s l. end-there c s l)
   where
     go : (b : Bool) → leb 3 x ≡ b → ((s : ℕ) → s < rowsOf c → (endOf c s < length c) × (isEnd c (endOf c s) ≡ true) × (rowOf c (endOf c s) ≡ s)) →
         (suc (endOf c (cond b r (suc r))) < suc (length c)) × (isEnd c (endOf c (cond b r (suc r))) ≡ true) ×
         (rowOf (x ∷ c) (suc (endOf c (cond b r (suc r)))) ≡ suc r)
     go true k ih =
-        let l : suc r < suc (rowsOf c) = rw k at h in
-        let w = ih r (omega arith) in (omega (arith, w .0), w .1, rw k (ap suc (w .2)))
+        let one-more-below : suc r < suc (rowsOf c) = rw k at h in
+        let by-ih = ih r (omega arith) in (omega (arith, by-ih .0), by-ih .1, rw k (ap suc (by-ih .2)))
     go false k ih =
-        let l : suc r < rowsOf c = rw k at h in
-        let w = ih (suc r) l in (omega (arith, w .0), w .1, rw k (w .2))
+        let one-more-below : suc r < rowsOf c = rw k at h in
+        let by-ih = ih (suc r) one-more-below in (omega (arith, by-ih .0), by-ih .1, rw k (by-ih .2))
 
 -- the first place of a row after the first is behind the end of the row before
 pub start-next : (c : List ℕ) (r : ℕ) → 0 < r → endOf c (r - 1) + 1 ≡ startOf c r
@@ -127,8 +127,9 @@ start-next c (suc r) h = let one : suc r - 1 ≡ r = omega arith in rw one
 start-row : (c : List ℕ) (r : ℕ) → r < rowsOf c → (startOf c r ≤ length c) × (r ≡ rowOf c (startOf c r))
 start-row c zero h = (omega arith, sym (row-first c))
 start-row c (suc r) h =
-    let w = end-there c r (omega arith) in
-    (omega (arith, w .0), omega (arith, row-end-next c (endOf c r) (w .0) (w .1), w .2))
+    let by-end-there = end-there c r (omega arith) in
+    (omega (arith, by-end-there .0), omega (arith, row-end-next c (endOf c r) (by-end-there .0) (by-end-there .1), by-end-there .2))
 
 pub start-stands : (c : List ℕ) (r i : ℕ) → i ≡ startOf c r → r < rowsOf c → Stands c (record { row = r; at = i })
-start-stands c r i e h = let w = start-row c r h in record { within = omega (arith, w .0, e); row-is = w .1 ∙ ap (rowOf c) (sym e) }
+start-stands c r i e h = let by-start-row =
+    start-row c r h in record { within = omega (arith, by-start-row .0, e); row-is = by-start-row .1 ∙ ap (rowOf c) (sym e) }

@@ -24,7 +24,7 @@ places-there t room e = go (decLt (length t) (length room))
     go : Dec (length t < length room) → length t < length room
     go (yes h) = h
     go (no n) =
-        let z : _≡_ {A = ℕ} 14 0 = rw (le-ltb (length t) (length room) (omega arith)) at e in absurd (omega arith)
+        let never : _≡_ {A = ℕ} 14 0 = rw (le-ltb (length t) (length room) (omega arith)) at e in absurd (omega arith)
 
 -- the slice and the answer, by the refusal
 module _ {f g : ℕ} (q : f ≡ g) where

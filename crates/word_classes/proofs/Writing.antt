@@ -55,10 +55,10 @@ module _ {word : ℕ → Bool} {t room now : List ℕ} {first : Bool} {i : ℕ} 
   pub written : {v : ℕ} → length t ≤ i → length t < length room → v ≡ endClass first → set now i v ≡ holding (classesOf word t) room
   unfolding classesFrom
   written h room-there q =
-      let e : i ≡ length t = omega (arith, w .inside) in
+      let i-is : i ≡ length t = omega (arith, w .inside) in
       let all : 0 + length (classesOf word t) ≡ length (classesOf word t) = omega arith in
       rw (q)
-      (sym (w .same ∙ rw (e, drop-length t))
+      (sym (w .same ∙ rw (i-is, drop-length t))
       ∙ rw all at (sets-eq (classesOf word t) room 0 (omega (arith, classes-length word true t))))
 
 -- every code point of an accepted text is a scalar value
@@ -68,4 +68,4 @@ scalar-there t i e h = go (isScalar (getD t i 0)) refl
     go : (b : Bool) → isScalar (getD t i 0) ≡ b → isScalar (getD t i 0) ≡ true
     go true q = q
     go false q =
-        let z : _≡_ {A = ℕ} 0 1 = cc (sym (all-scalar t e) ∙ any-there notScalar t i h (rw q)) in absurd (omega arith)
+        let never : _≡_ {A = ℕ} 0 1 = cc (sym (all-scalar t e) ∙ any-there notScalar t i h (rw q)) in absurd (omega arith)

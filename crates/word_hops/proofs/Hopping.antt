@@ -15,11 +15,11 @@ use Rattle.word_hops.specs.Hops.{lastEmpty, overSpace, thenSpace, fromEn
 -- behind a row's end
 pub from-small : (c : List ℕ) (big : Bool) (i : ℕ) → big ≡ false → overSpace c big i ≡ fromEnd c big i
 from-small c false i e = refl
-from-small c true i e = let z : _≡_ {A = ℕ} 0 1 = cc in absurd (omega arith)
+from-small c true i e = let never : _≡_ {A = ℕ} 0 1 = cc in absurd (omega arith)
 
 pub from-big : (c : List ℕ) (big : Bool) (i : ℕ) → big ≡ true → thenSpace c big (over c big 4 4 i) ≡ fromEnd c big i
 from-big c true i e = refl
-from-big c false i e = let z : _≡_ {A = ℕ} 0 1 = cc in absurd (omega arith)
+from-big c false i e = let never : _≡_ {A = ℕ} 0 1 = cc in absurd (omega arith)
 
 -- an empty last row that is not the only one
 pub last-there : (c : List ℕ) → lastEmpty c ≡ true → 0 < textEnd c
@@ -27,7 +27,7 @@ last-there c e = go (ltb 0 (textEnd c)) (isEmpty c (textEnd c)) refl e
   where
     go : (a b : Bool) → ltb 0 (textEnd c) ≡ a → (a && b) ≡ true → 0 < textEnd c
     go true b q h = ltb-true 0 (textEnd c) q
-    go false b q h = let z : _≡_ {A = ℕ} 0 1 = cc in absurd (omega arith)
+    go false b q h = let never : _≡_ {A = ℕ} 0 1 = cc in absurd (omega arith)
 
 -- a walk back ends at or before the place where it began
 abbrev pub Below : ℕ → Halted → Type 0

@@ -32,7 +32,7 @@ module _ (t : List ℕ) (p : Spot) (w : IsSpot t p) where
   pub back-none : p .at ≡ 0 → Nowhere ≡ dec t (placeOf t p)
   unfolding dec
   back-none z =
-      let f = on-first here z in
+      let by-on-first = on-first here z in
       rw (le-ltb 0 col (omega arith), le-ltb 0 (p .row) (omega arith))
 
   pub back-row :
@@ -41,18 +41,18 @@ module _ (t : List ℕ) (p : Spot) (w : IsSpot t p) where
       (record { row = p .row - 1; at = p .at - 1 })
   unfolding dec
   back-row h e =
-      let b = behind-nl here h e in
-      let a = before-row here (b .0) (b .1) in
-      (b .1, rw (le-ltb 0 col (omega arith), lt-ltb 0 (p .row) (b .1)) (ap To (col-at a)), spot-at a)
+      let by-behind-nl = behind-nl here h e in
+      let by-before-row = before-row here (by-behind-nl .0) (by-behind-nl .1) in
+      (by-behind-nl .1, rw (le-ltb 0 col (omega arith), lt-ltb 0 (p .row) (by-behind-nl .1)) (ap To (col-at by-before-row)), spot-at by-before-row)
 
   pub back-char :
       0 < p .at → (getD t (p .at - 1) 0 ≡ 10 → ⊥) →
       (To (placeOf t (record { row = p .row; at = p .at - 1 })) ≡ dec t (placeOf t p)) × IsSpot t (record { row = p .row; at = p .at - 1 })
   unfolding dec
   back-char h n =
-      let l = behind-char here h n in
-      let a = before-col here l in
-      (rw (lt-ltb 0 col l) (ap To (col-at a)), spot-at a)
+      let by-behind-char = behind-char here h n in
+      let by-before-col = before-col here by-behind-char in
+      (rw (lt-ltb 0 col by-behind-char) (ap To (col-at by-before-col)), spot-at by-before-col)
 
   -- the first place of a row, by the code point before it
   pub starts-first : p .at ≡ 0 → true ≡ eqb col 0
@@ -74,10 +74,10 @@ module _ (t : List ℕ) where
       (placeOf t (record { row = contentRows t - 1; at = length t - 1 }) ≡ endOfBuffer t) × IsSpot t (record { row = contentRows t - 1; at = length t - 1 })
   unfolding endOfBuffer
   end-nl h e =
-      let b = behind-nl (at-last t) h e in
-      let q : contentRows t - 1 ≡ rowCount t - 1 - 1 = omega (arith, content-nl t h e) in
-      let a = before-row (at-last t) (b .0) (b .1) in
-      rw q (col-at a, spot-at a)
+      let by-behind-nl = behind-nl (at-last t) h e in
+      let difference-is : contentRows t - 1 ≡ rowCount t - 1 - 1 = omega (arith, content-nl t h e) in
+      let by-before-row = before-row (at-last t) (by-behind-nl .0) (by-behind-nl .1) in
+      rw difference-is (col-at by-before-row, spot-at by-before-row)
 
   pub end-char :
       (0 < length t → getD t (length t - 1) 0 ≡ 10 → ⊥) →

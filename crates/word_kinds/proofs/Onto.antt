@@ -35,19 +35,19 @@ module _ (t : List ℕ) (r end : ℕ) (w : Ends t r end) where
   pub next-yes : end + 1 < length t → (To (placeOf t (record { row = r + 1; at = end + 1 })) ≡ nextRow t r) × IsSpot t (record { row = r + 1; at = end + 1 })
   unfolding nextRow
   next-yes l =
-      let h = content-yes t (r + 1) (omega arith) (next-at .in-row) (omega (arith, next-at .offset)) in
-      (rw (lt-ltb (r + 1) (contentRows t) h) (ap To (col-at next-at)), spot-at next-at)
+      let by-content-yes = content-yes t (r + 1) (omega arith) (next-at .in-row) (omega (arith, next-at .offset)) in
+      (rw (lt-ltb (r + 1) (contentRows t) by-content-yes) (ap To (col-at next-at)), spot-at next-at)
 
   pub next-no : length t ≤ end + 1 → Nowhere ≡ nextRow t r
   unfolding nextRow
   next-no l =
-      let h = content-no t (r + 1) (omega arith) (next-at .in-row) (omega (arith, next-at .offset)) in
+      let by-content-no = content-no t (r + 1) (omega arith) (next-at .in-row) (omega (arith, next-at .offset)) in
       rw (le-ltb (r + 1) (contentRows t) (omega arith))
 
 -- a place has one spot, so that what is said of the place of a spot of the text says which spot it is
 pub one-spot : (t : List ℕ) (p q : Spot) → IsSpot t p → IsSpot t q → placeOf t p ≡ placeOf t q → p ≡ q
 one-spot t p q i j e =
-    let r : p .row ≡ q .row = ap (λ (x : Position). x .row) e in
-    let c : p .at - rowStart t (p .row) ≡ q .at - rowStart t (q .row) = ap (λ (x : Position). x .col) e in
-    let a : p .at ≡ q .at = omega (arith, c, ap (rowStart t) r, i .from, j .from) in
-    λ k. record { row = r k; at = a k }
+    let row-is : p .row ≡ q .row = ap (λ (x : Position). x .row) e in
+    let difference-is : p .at - rowStart t (p .row) ≡ q .at - rowStart t (q .row) = ap (λ (x : Position). x .col) e in
+    let at-is : p .at ≡ q .at = omega (arith, difference-is, ap (rowStart t) row-is, i .from, j .from) in
+    λ k. record { row = row-is k; at = at-is k }

@@ -31,8 +31,8 @@ module _ {t : List ℕ} {step : Position → Went} (way : OneWay t step) (test :
   same-end (suc n) zero p i h l = absurd (omega arith)
   same-end (suc n) (suc m) p i h l =
       go (test p) (step p) (λ q e.
-      let r = way .nearer p q i e in
-      same-end n m q (r .0) (omega (arith, r .1)) (omega (arith, r .1)))
+      let by-nearer = way .nearer p q i e in
+      same-end n m q (by-nearer .0) (omega (arith, by-nearer .1)) (omega (arith, by-nearer .1)))
     where
       go : (b : Bool) (w : Went) → ((q : Position) → w ≡ To q → walk test step n q ≡ walk test step m q) →
           cond b (further w (walk test step n) (Stuck p)) (Onto p) ≡ cond b (further w (walk test step m) (Stuck p)) (Onto p)
@@ -90,9 +90,9 @@ module _ (t : List ℕ) where
     ahead = λ p. length t - offset p;
     few = λ p i. omega arith;
     nearer = λ p q i e.
-        let j : In t q = rw e at (forward-in t p i) in
-        let l : offset p < offset q = rw e at (forward-later p i) in
-        (j, omega (arith, l, offset-few q j));
+        let inside : In t q = rw e at (forward-in t p i) in
+        let offset-below : offset p < offset q = rw e at (forward-later p i) in
+        (inside, omega (arith, offset-below, offset-few q inside));
   }
 
   pub dec-way : OneWay t (dec t)
@@ -100,9 +100,9 @@ module _ (t : List ℕ) where
     ahead = offset;
     few = offset-few;
     nearer = λ p q i e.
-        let j : In t q = rw e at (dec-in t p i) in
-        let l : offset q < offset p = rw e at (dec-sooner p i) in
-        (j, l);
+        let inside : In t q = rw e at (dec-in t p i) in
+        let offset-below : offset q < offset p = rw e at (dec-sooner p i) in
+        (inside, offset-below);
   }
 
   -- the four loops: any counter above the text's length

@@ -64,8 +64,8 @@ forward-on c i j e = go (ltb (ahead c i) (textEnd c)) refl e
         by false false = omega arith
 
     go : (b : Bool) → ltb (ahead c i) (textEnd c) ≡ b → cond b (At (ahead c i)) NoStep ≡ At j → (i < j) × (j < textEnd c)
-    go true q s = let z : ahead c i ≡ j = cc in (omega (arith, far), omega (arith, ltb-true (ahead c i) (textEnd c) q))
-    go false q s = let z : _≡_ {A = ℕ} 0 1 = cc in absurd (omega arith)
+    go true q s = let ahead-is : ahead c i ≡ j = cc in (omega (arith, far), omega (arith, ltb-true (ahead c i) (textEnd c) q))
+    go false q s = let never : _≡_ {A = ℕ} 0 1 = cc in absurd (omega arith)
 
 -- the step, by what it goes over
 module _ (c : List ℕ) (i : ℕ) where

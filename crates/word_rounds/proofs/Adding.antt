@@ -49,11 +49,11 @@ module _ (t folds : List ℕ) (kind : ℕ → ℕ) (big : Bool) (good : foldRefu
   last-again p q e = go (word m (leap m p)) refl (sym (round-leap m p) ∙ e)
     where
       go : (w : Went) → word m (leap m p) ≡ w → turn (leap m p) w ≡ Off q → roundOf t folds kind big m false q ≡ Off q
-      go (To r) h f = let z : _≡_ {A = ℕ} 0 1 = cc in absurd (omega arith)
+      go (To r) h f = let never : _≡_ {A = ℕ} 0 1 = cc in absurd (omega arith)
       go Nowhere h f =
-          let z : leap m p ≡ q = cc in
-          let v : roundOf t folds kind big m false (leap m p) ≡ Off (leap m p) = rw (round-leap m (leap m p), leap-again m p, h) in
-          rw z at v
+          let leap-is : leap m p ≡ q = cc in
+          let round-is : roundOf t folds kind big m false (leap m p) ≡ Off (leap m p) = rw (round-leap m (leap m p), leap-again m p, h) in
+          rw leap-is at round-is
 
   -- `stop` holds no round that ends the motion
   last-either : (stop : Bool) (p q : Position) → roundOf t folds kind big m stop p ≡ Off q → roundOf t folds kind big m false p ≡ Off q
@@ -61,7 +61,7 @@ module _ (t folds : List ℕ) (kind : ℕ → ℕ) (big : Bool) (good : foldRefu
   last-either stop p q = go m
     where
       pick : (b : Bool) (x : Position) (w : Turn) → cond b (On x) w ≡ Off q → w ≡ Off q
-      pick true x w e = let z : _≡_ {A = ℕ} 0 1 = cc in absurd (omega arith)
+      pick true x w e = let never : _≡_ {A = ℕ} 0 1 = cc in absurd (omega arith)
       pick false x w e = e
 
       go : (n : Motion) → roundOf t folds kind big n stop p ≡ Off q → roundOf t folds kind big n false p ≡ Off q

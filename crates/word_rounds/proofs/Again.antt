@@ -26,7 +26,7 @@ hidden-within folds rows x g h = go (coverOf folds x) (cover-covers folds x)
   where
     go : (r : Span) → Covers folds x r → x < rows
     go (Of s e) v = omega (arith, v .1, v .3 rows g)
-    go NoSpan v = let z : _≡_ {A = ℕ} 0 1 = cc in absurd (omega arith)
+    go NoSpan v = let never : _≡_ {A = ℕ} 0 1 = cc in absurd (omega arith)
 
 -- it is the row itself, where all between are hidden
 prev-over : (folds : List ℕ) (a k : ℕ) → hidden folds a ≡ false → ((x : ℕ) → a < x → x < a + 1 + k → hidden folds x ≡ true) →
@@ -77,11 +77,11 @@ module _ (folds : List ℕ) (rows content : ℕ) (good : anyFold (badFold rows) 
 
         go : (v : Visible) → nextVisible folds rows a ≡ v → lastBefore content v ≡ b → (a ≤ b) × ((y : ℕ) → a < y → y ≤ b → hidden folds y ≡ true)
         go (Row x) q w =
-            let k = visible-within folds (a + 1) (rows - (a + 1)) x q in
-            (omega (arith, k), λ y l m. next-over folds (a + 1) (rows - (a + 1)) y (omega arith) (rw q (omega (arith, k))))
+            let by-visible-within = visible-within folds (a + 1) (rows - (a + 1)) x q in
+            (omega (arith, by-visible-within), λ y l m. next-over folds (a + 1) (rows - (a + 1)) y (omega arith) (rw q (omega (arith, by-visible-within))))
         go NoRow q w =
-            let k = inner in
-            (omega (arith, k), λ y l m. next-over folds (a + 1) (rows - (a + 1)) y (omega arith) (rw (q, all) (omega (arith, k))))
+            let by-inner = inner in
+            (omega (arith, by-inner), λ y l m. next-over folds (a + 1) (rows - (a + 1)) y (omega arith) (rw (q, all) (omega (arith, by-inner))))
 
     own-first : closedFoldAt folds rows content a ≡ Of a b
     own-first = rw (s, h, e)
@@ -95,9 +95,9 @@ module _ (folds : List ℕ) (rows content : ℕ) (good : anyFold (badFold rows) 
         pick : Dec (a ≡ b) → closedFoldAt folds rows content b ≡ Of a b
         pick (yes q) = ap (closedFoldAt folds rows content) (sym q) ∙ own-first
         pick (no q) =
-            let l : a < b = omega (arith, rest .0) in
-            let p : prevVisible folds b ≡ Row a = rw (to l) at (prev-over folds a (b - (a + 1)) s (λ x i j. rest .1 x i (omega arith))) in
-            rw (rest .1 b l (omega arith), p, h, e)
+            let a-below : a < b = omega (arith, rest .0) in
+            let prev-visible-is : prevVisible folds b ≡ Row a = rw (to a-below) at (prev-over folds a (b - (a + 1)) s (λ x i j. rest .1 x i (omega arith))) in
+            rw (rest .1 b a-below (omega arith), prev-visible-is, h, e)
 
   pub span-own : (row : ℕ) → closedFoldAt folds rows content row ≡ Of a b → Own
   span-own row w = go (hidden folds row) refl w
@@ -105,26 +105,26 @@ module _ (folds : List ℕ) (rows content : ℕ) (good : anyFold (badFold rows) 
       pick : (f : ℕ) (d : Bool) → hidden folds f ≡ false → hidden folds (f + 1) ≡ d →
           cond d (Of f (lastBefore content (nextVisible folds rows f))) NoSpan ≡ Of a b → Own
       pick f true s h e =
-          let p : f ≡ a = cc in
-          let q : lastBefore content (nextVisible folds rows f) ≡ b = cc in
-          (own-first (rw p at s) (rw p at h) (rw p at q), own-last (rw p at s) (rw p at h) (rw p at q))
-      pick f false s h e = let z : _≡_ {A = ℕ} 0 1 = cc in absurd (omega arith)
+          let f-is : f ≡ a = cc in
+          let last-before-is : lastBefore content (nextVisible folds rows f) ≡ b = cc in
+          (own-first (rw f-is at s) (rw f-is at h) (rw f-is at last-before-is), own-last (rw f-is at s) (rw f-is at h) (rw f-is at last-before-is))
+      pick f false s h e = let never : _≡_ {A = ℕ} 0 1 = cc in absurd (omega arith)
 
       from : (v : Visible) → ((x : ℕ) → v ≡ Row x → hidden folds x ≡ false) → closedFrom folds rows content v ≡ Of a b → Own
       from (Row f) s e = pick f (hidden folds (f + 1)) (s f refl) refl e
-      from NoRow s e = let z : _≡_ {A = ℕ} 0 1 = cc in absurd (omega arith)
+      from NoRow s e = let never : _≡_ {A = ℕ} 0 1 = cc in absurd (omega arith)
 
       go : (d : Bool) → hidden folds row ≡ d → closedFrom folds rows content (cond d (prevVisible folds row) (Row row)) ≡ Of a b → Own
       go true d e = from (prevVisible folds row) (λ x v. prev-shown folds row x v) e
-      go false d e = from (Row row) (λ x v. let z : row ≡ x = cc in rw z at d) e
+      go false d e = from (Row row) (λ x v. let row-is : row ≡ x = cc in rw row-is at d) e
 
 -- a jump from where a jump led to leads nowhere else
 module _ (t folds : List ℕ) (good : foldRefusal folds (rowCount t) ≡ 0) (p : Position) where
   own : (a b : ℕ) → foldAt t folds p ≡ Of a b →
       (closedFoldAt folds (rowCount t) (contentRows t) a ≡ Of a b) × (closedFoldAt folds (rowCount t) (contentRows t) b ≡ Of a b)
   own a b =
-      let k = content-near t in
-      span-own folds (rowCount t) (contentRows t) (folds-good folds (rowCount t) good) (k .0) (k .1) a b (p .row)
+      let by-content-near = content-near t in
+      span-own folds (rowCount t) (contentRows t) (folds-good folds (rowCount t) good) (by-content-near .0) (by-content-near .1) a b (p .row)
 
   pub jump-fwd-again : jumpFwd t folds (jumpFwd t folds p) ≡ jumpFwd t folds p
   jump-fwd-again = go (foldAt t folds p) refl

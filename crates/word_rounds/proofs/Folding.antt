@@ -40,19 +40,19 @@ pub span-within :
 span-within folds rows content row a b e h z l = go (hidden folds row) refl
   where
     from : (v : Visible) → ((x : ℕ) → v ≡ Row x → x < rows) → closedFrom folds rows content v ≡ Of a b → (a < rows) × (b < rows)
-    from NoRow f w = let q : _≡_ {A = ℕ} 0 1 = cc in absurd (omega arith)
+    from NoRow f w = let never : _≡_ {A = ℕ} 0 1 = cc in absurd (omega arith)
     from (Row first) f w = pick (hidden folds (first + 1)) w
       where
         pick : (s : Bool) → cond s (Of first (lastBefore content (nextVisible folds rows first))) NoSpan ≡ Of a b → (a < rows) × (b < rows)
         pick true v =
-            let p : first ≡ a = cc in
-            let q : lastBefore content (nextVisible folds rows first) ≡ b = cc in
-            (rw p at (f first refl), rw q at (last-within folds rows content first (f first refl) z l))
-        pick false v = let q : _≡_ {A = ℕ} 0 1 = cc in absurd (omega arith)
+            let first-is : first ≡ a = cc in
+            let last-before-is : lastBefore content (nextVisible folds rows first) ≡ b = cc in
+            (rw first-is at (f first refl), rw last-before-is at (last-within folds rows content first (f first refl) z l))
+        pick false v = let never : _≡_ {A = ℕ} 0 1 = cc in absurd (omega arith)
 
     go : (s : Bool) → hidden folds row ≡ s → (a < rows) × (b < rows)
     go true s = from (prevVisible folds row) (λ x v. omega (arith, prev-within folds row x v)) (rw s at e)
-    go false s = from (Row row) (λ x v. let q : row ≡ x = cc in omega arith) (rw s at e)
+    go false s = from (Row row) (λ x v. let row-is : row ≡ x = cc in omega arith) (rw s at e)
 
 -- a place of a row by its line
 module _ (t : List ℕ) (row : ℕ) (h : row < rowCount t) (l : Line) (e : l ≡ lineAt t row) where
@@ -62,8 +62,8 @@ module _ (t : List ℕ) (row : ℕ) (h : row < rowCount t) (l : Line) (e : l ≡
   pub row-place : (c at : ℕ) → c ≤ rowLen t row → at ≡ l .start + c → (placeOf t (record { row = row; at = at }) ≡ position row c) × IsSpot t
       (record { row = row; at = at })
   row-place c at k w =
-      let a = at-col (at-start t row h) c at k (omega (arith, begins)) in
-      (col-at a, spot-at a)
+      let by-at-col = at-col (at-start t row h) c at k (omega (arith, begins)) in
+      (col-at by-at-col, spot-at by-at-col)
 
   pub line-length : {n : ℕ} → n ≡ rowLen t (l .row) → n ≡ rowLen t row
   line-length w = w ∙ ap (λ (x : Line). rowLen t (x .row)) e
@@ -76,7 +76,7 @@ module _ (t folds : List ℕ) (rows content : ℕ) (p : Spot) (w : Folded t fold
     (s : r ≡ closedFoldAt folds rows content (p .row)) where
   pub span-rows : (a b : ℕ) → r ≡ Of a b → (a < rowCount t) × (b < rowCount t)
   span-rows a b e =
-      let k = content-near t in
+      let by-content-near = content-near t in
       rw (w .all-rows) at
       (span-within folds rows content (p .row) a b (sym s ∙ e) (omega (arith, w .all-rows, w .spot .in-row)) (omega (arith, w .content-rows))
       (omega (arith, w .content-rows, w .all-rows)))

@@ -34,8 +34,8 @@ module _ (t : List ℕ) where
     module _ (p : Position) (i : In t p) where
       span : (a b : ℕ) → foldAt t folds p ≡ Of a b → (a < rowCount t) × (b < rowCount t)
       span a b e =
-          let k = content-near t in
-          span-within folds (rowCount t) (contentRows t) (p .row) a b e (i .in-row) (k .2) (k .1)
+          let by-content-near = content-near t in
+          span-within folds (rowCount t) (contentRows t) (p .row) a b e (i .in-row) (by-content-near .2) (by-content-near .1)
 
       pub jump-fwd-in : In t (jumpFwd t folds p)
       jump-fwd-in = go (foldAt t folds p) refl
@@ -55,18 +55,20 @@ module _ (t : List ℕ) where
       pub round-in : (m : Motion) (stop : Bool) (p : Position) → In t p → Turns t (roundOf t folds kind big m stop p)
       unfolding roundOf
       round-in Fwd stop p i =
-          let j = jump-fwd-in p i in
-          turn-in (jumpFwd t folds p) (Words.nextWordStart t kind big (jumpFwd t folds p)) j (next-start-in t kind (jumpFwd t folds p) j big)
+          let by-jump-fwd-in = jump-fwd-in p i in
+          turn-in (jumpFwd t folds p) (Words.nextWordStart t kind big (jumpFwd t folds p)) by-jump-fwd-in
+          (next-start-in t kind (jumpFwd t folds p) by-jump-fwd-in big)
       round-in Back stop p i =
-          let j = jump-back-in p i in
-          turn-in (jumpBack t folds p) (Words.prevWordStart t kind (jumpBack t folds p)) j (prev-start-in t kind (jumpBack t folds p) j)
+          let by-jump-back-in = jump-back-in p i in
+          turn-in (jumpBack t folds p) (Words.prevWordStart t kind (jumpBack t folds p)) by-jump-back-in
+          (prev-start-in t kind (jumpBack t folds p) by-jump-back-in)
       round-in End stop p i = go (stop && Words.atWordEnd t kind (jumpFwd t folds p))
         where
           go : (b : Bool) → Turns t (cond b (On (jumpFwd t folds p)) (turn (jumpFwd t folds p) (Words.nextWordEnd t kind (jumpFwd t folds p))))
           go true = jump-fwd-in p i
           go false =
-              let j = jump-fwd-in p i in
-              turn-in (jumpFwd t folds p) (Words.nextWordEnd t kind (jumpFwd t folds p)) j (next-end-in t kind (jumpFwd t folds p) j)
+              let by-jump-fwd-in = jump-fwd-in p i in
+              turn-in (jumpFwd t folds p) (Words.nextWordEnd t kind (jumpFwd t folds p)) by-jump-fwd-in (next-end-in t kind (jumpFwd t folds p) by-jump-fwd-in)
       round-in EndBack stop p i = turn-in p (Words.prevWordEnd t kind p) i (prev-end-in t kind p i)
 
       after-in : (r : Turn) (f : Position → Position) → Turns t r → ((q : Position) → In t q → In t (f q)) → In t (after r f)

@@ -50,20 +50,20 @@ round-from word {f} a b = ap (turn f) b ∙ ap (λ (x : Position). turn x (word 
 module _ (t : List ℕ) (kind : ℕ → ℕ) (stop : Bool) {f j : Position} (a : f ≡ j) where
   pub end-held : stop ≡ true → atWordEnd t kind f ≡ true → On f ≡ endTurn t kind stop j
   end-held s e =
-      let h : On f ≡ endTurn t kind stop f = rw (s, e) in
-      h ∙ ap (endTurn t kind stop) a
+      let on-is : On f ≡ endTurn t kind stop f = rw (s, e) in
+      on-is ∙ ap (endTurn t kind stop) a
 
   pub end-moved : {n : Went} → (stop && atWordEnd t kind f) ≡ false → n ≡ nextWordEnd t kind f → turn f n ≡ endTurn t kind stop j
   end-moved e b =
-      let h : turn f (nextWordEnd t kind f) ≡ endTurn t kind stop f = rw e in
-      ap (turn f) b ∙ (h ∙ ap (endTurn t kind stop) a)
+      let turn-is : turn f (nextWordEnd t kind f) ≡ endTurn t kind stop f = rw e in
+      ap (turn f) b ∙ (turn-is ∙ ap (endTurn t kind stop) a)
 
 -- what a round requires, for its parts
 module _ {t folds bounds starts lengths : List ℕ} {s : Setting} {p : Spot} (w : Set t folds bounds starts lengths s p) where
   pub set-at : (q : Spot) → IsSpot t q → Set t folds bounds starts lengths s q
   set-at q i =
-      let f = w .folded in
-      record { lent = w .lent; folded = record { good = f .good; all-rows = f .all-rows; content-rows = f .content-rows; spot = i } }
+      let its-folded = w .folded in
+      record { lent = w .lent; folded = record { good = its-folded .good; all-rows = its-folded .all-rows; content-rows = its-folded .content-rows; spot = i } }
 
   pub set-ready : (q : Spot) → IsSpot t q → Ready t bounds starts lengths s q
   set-ready q i = record { lent = w .lent; rows = w .folded .all-rows; content = w .folded .content-rows; spot = i }
@@ -71,7 +71,7 @@ module _ {t folds bounds starts lengths : List ℕ} {s : Setting} {p : Spot} (w 
 -- one offset is one place
 pub same-place : (t : List ℕ) (p q : Spot) → IsSpot t p → IsSpot t q → q .at ≡ p .at → placeOf t q ≡ placeOf t p
 same-place t p q i j e =
-    let k : IsSpot t (record { row = q .row; at = p .at }) = rw e at j in
-    let r = same-row (stands-at k) (stands-at i) in
-    let c = same-col (stands-at k) (stands-at i) in
-    rw (e, c, r)
+    let is-spot : IsSpot t (record { row = q .row; at = p .at }) = rw e at j in
+    let by-same-row = same-row (stands-at is-spot) (stands-at i) in
+    let by-same-col = same-col (stands-at is-spot) (stands-at i) in
+    rw (e, by-same-col, by-same-row)

@@ -37,5 +37,8 @@ module _ (t folds : List ℕ) {w : Stretch} (b : NoFold folds w) (p : Position) 
 pub set-bare : {t folds bounds starts lengths : List ℕ} {s : Setting} {p : Spot} → Set t folds bounds starts lengths s p → Set t [] bounds starts lengths s p
 unfolding foldRefusal anyFold
 set-bare z =
-    let f = z .folded in
-    record { lent = z .lent; folded = record { good = refl; all-rows = f .all-rows; content-rows = f .content-rows; spot = f .spot } }
+    let its-folded = z .folded in
+    record {
+      lent = z .lent;
+      folded = record { good = refl; all-rows = its-folded .all-rows; content-rows = its-folded .content-rows; spot = its-folded .spot };
+    }

@@ -11,8 +11,9 @@ show-requires c κs =
     let done = c .before .before .before .before .before .before in
     let sized = done .before .before .before in
     let taken = sized .before .before in
-    let a = taken .before .before .before .before .args in
-    host-fits (a.text .now) (a.folds .now) (sized .sizes-in .result) (positionAt a.row a.col) (positionAt a.end-row a.end-col) [] (taken .caret-in .result)
+    let given = taken .before .before .before .before .args in
+    host-fits (given.text .now) (given.folds .now) (sized .sizes-in .result) (positionAt given.row given.col)
+    (positionAt given.end-row given.end-col) [] (taken .caret-in .result)
     (done .delete .result) (done .delete .ensures .answer)
 
 returns : tie.Need-returns

@@ -10,8 +10,8 @@ use Rattle.call_fold_file.proofs.folds_read.Tie as tie
 returns : tie.Need-returns
 returns c =
     let answered = c .before .before .before .before .before .before .before in
-    let a = answered .before .before .before .before .before .args in (
-      read-folds (a .text .now) (a .file .now) (a .folds .now) _
+    let given = answered .before .before .before .before .before .args in (
+      read-folds (given .text .now) (given .file .now) (given .folds .now) _
           (sym (answered .read-folds .ensures .0) ∙ c .before .before .before .n .given .1) (c .reply .ensures),
       answered .read-folds .ensures .1,
     )
@@ -19,8 +19,8 @@ returns c =
 returns-2 : tie.Need-returns-2
 returns-2 c =
     let answered = c .before .before .before .before .before .before .before in
-    let a = answered .before .before .before .before .before .args in (
-      read-refused (a .text .now) (a .file .now) (a .folds .now) _
+    let given = answered .before .before .before .before .before .args in (
+      read-refused (given .text .now) (given .file .now) (given .folds .now) _
           (sym (answered .read-folds .ensures .0) ∙ c .before .before .before .f .given .1) (c .reply2 .ensures),
       answered .read-folds .ensures .1,
     )
@@ -33,8 +33,8 @@ folds-read-spec =
     (λ c. search needs)
     (λ c.
     let answered = c .before .before .before .before .before in
-    let a = answered .before .before .before .before .before .args in
-    omega (arith, loaded-most (a .text .now) (a .file .now) _ _ (sym (answered .read-folds .ensures .0) ∙ c .before .n .given .1)))
+    let given = answered .before .before .before .before .before .args in
+    omega (arith, loaded-most (given .text .now) (given .file .now) _ _ (sym (answered .read-folds .ensures .0) ∙ c .before .n .given .1)))
     (λ c κs. search needs)
     (λ c. search needs)
     (λ c κs. search needs)

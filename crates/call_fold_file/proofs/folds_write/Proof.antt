@@ -10,8 +10,8 @@ use Rattle.call_fold_file.proofs.folds_write.Tie as tie
 returns : tie.Need-returns
 returns c =
     let answered = c .before .before .before .before .before .before .before in
-    let a = answered .before .before .before .before .before .args in (
-      write-bytes (a .text .now) (a .folds .now) (a .file .now) _
+    let given = answered .before .before .before .before .before .args in (
+      write-bytes (given .text .now) (given .folds .now) (given .file .now) _
           (sym (answered .write-folds .ensures .0) ∙ c .before .before .before .n .given .1) (c .reply .ensures),
       answered .write-folds .ensures .1,
     )
@@ -19,8 +19,8 @@ returns c =
 returns-2 : tie.Need-returns-2
 returns-2 c =
     let answered = c .before .before .before .before .before .before .before in
-    let a = answered .before .before .before .before .before .args in (
-      write-refused (a .text .now) (a .folds .now) (a .file .now) _
+    let given = answered .before .before .before .before .before .args in (
+      write-refused (given .text .now) (given .folds .now) (given .file .now) _
           (sym (answered .write-folds .ensures .0) ∙ c .before .before .before .f .given .1) (c .reply2 .ensures),
       answered .write-folds .ensures .1,
     )
@@ -33,8 +33,8 @@ folds-write-spec =
     (λ c. search needs)
     (λ c.
     let answered = c .before .before .before .before .before in
-    let a = answered .before .before .before .before .before .args in
-    omega (arith, written-most (a .text .now) (a .folds .now) _ _ (sym (answered .write-folds .ensures .0) ∙ c .before .n .given .1)))
+    let given = answered .before .before .before .before .before .args in
+    omega (arith, written-most (given .text .now) (given .folds .now) _ _ (sym (answered .write-folds .ensures .0) ∙ c .before .n .given .1)))
     (λ c κs. search needs)
     (λ c. search needs)
     (λ c κs. search needs)

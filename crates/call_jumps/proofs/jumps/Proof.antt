@@ -12,15 +12,17 @@ returns : tie.Need-returns
 returns c =
     let run = c .before .before .before .before in
     let six = run .before .before in
-    let a = six .before .before .before .before .before .before .before .args in
+    let given = six .before .before .before .before .before .before .before .args in
     let done = run .jumps .ensures in (
       replied-of movedSix
           (done .answer
-          ∙ ap (λ (k : Caret). jumpsOf (a .text .now) (a .starts .now) (a .content) (a .folds .now) (a .list .now) k (a .pairs .now) (a .answers .now))
+          ∙ ap (λ (k : Caret). jumpsOf (given .text .now) (given .starts .now) (given .content) (given .folds .now) (given .list .now) k
+          (given .pairs .now) (given .answers .now))
           (six .caret-six .ensures))
           (c .place-six .ensures),
       done .left
-          ∙ ap (λ (k : Caret). placesLeft (a .text .now) (a .starts .now) (a .content) (a .folds .now) (a .list .now) k (a .pairs .now) (a .answers .now))
+          ∙ ap (λ (k : Caret). placesLeft (given .text .now) (given .starts .now) (given .content) (given .folds .now) (given .list .now) k
+          (given .pairs .now) (given .answers .now))
           (six .caret-six .ensures),
     )
 

@@ -20,24 +20,25 @@ abbrev μ-loop : tie.MeasureT-loop
 -- the code point at i is stored
 loop-again : tie.Need-loop-again Inv-loop μ-loop
 loop-again c =
-    let l = c .before .before .before .before .before .before in
-    let s = l .before .before .before .args .bytes .now in
-    let d = l .before .before .before .args .room .now in
-    let i = l .loop .i in
-    let p : i < length (points s) = omega (arith, length-points s) in (
+    let at-loop = c .before .before .before .before .before .before in
+    let bytes-now = at-loop .before .before .before .args .bytes .now in
+    let room-now = at-loop .before .before .before .args .room .now in
+    let index = at-loop .loop .i in
+    let i-below : index < length (points bytes-now) = omega (arith, length-points bytes-now) in (
       omega arith,
-      simp length-set (l .loop .inv .1),
-      rw (c .word .ensures, ← point-at s i (omega arith)) (fill-on (points s) d (l .loop .room) i (l .loop .inv .2) p (omega arith)),
+      simp length-set (at-loop .loop .inv .1),
+      rw (c .word .ensures, ← point-at bytes-now index (omega arith))
+          (fill-on (points bytes-now) room-now (at-loop .loop .room) index (at-loop .loop .inv .2) i-below (omega arith)),
     )
 
 -- all are stored
 returns : tie.Need-returns Inv-loop μ-loop
 returns c =
-    let s = c .before .before .before .before .args .bytes .now in
-    let d = c .before .before .before .before .args .room .now in
-    let e : c .before .loop .i ≡ length s / 4 = omega arith in
-    let f = filled-all s d (c .before .loop .room) (rw e at (c .before .loop .inv .2)) in
-    record { count = refl; room-left = f; within = omega arith; front = take-filled s d _ f }
+    let bytes-now = c .before .before .before .before .args .bytes .now in
+    let room-now = c .before .before .before .before .args .room .now in
+    let i-is : c .before .loop .i ≡ length bytes-now / 4 = omega arith in
+    let by-filled-all = filled-all bytes-now room-now (c .before .loop .room) (rw i-is at (c .before .loop .inv .2)) in
+    record { count = refl; room-left = by-filled-all; within = omega arith; front = take-filled bytes-now room-now _ by-filled-all }
 
 pub decode-spec : {M : Type 1} → statement M
 decode-spec =

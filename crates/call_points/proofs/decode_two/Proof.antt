@@ -8,10 +8,10 @@ use Rattle.call_points.proofs.decode_two.Tie as tie
 
 returns : tie.Need-returns
 returns c =
-    let a = c .before .before .before .before .before .before .before .before .before .before .before .args in
-    let d = c .before .before .before .before .before .before .decode .ensures in
-    two-is (a .first .now) (a .second .now) (a .room .now) _
-    (whole-is (a .first .now) (a .room .now) _ _ _ (filled (a .second .now)) (d .count) (d .room-left)
+    let given = c .before .before .before .before .before .before .before .before .before .before .before .args in
+    let decode-told = c .before .before .before .before .before .before .decode .ensures in
+    two-is (given .first .now) (given .second .now) (given .room .now) _
+    (whole-is (given .first .now) (given .room .now) _ _ _ (filled (given .second .now)) (decode-told .count) (decode-told .room-left)
     (c .before .before .decode2 .ensures .room-left))
     (omega arith)
 

@@ -12,8 +12,9 @@ show-requires c κs =
     let done = c .before .before .before .before .before .before .before .before in
     let sized = done .before .before .before .before .before in
     let taken = sized .before .before in
-    let a = taken .before .before .before .before .before .before .args in
-    host-fits (a.text .now) (a.folds .now) (a.starts .now) (sized .sizes-in .result) (getD (a.sizes .now) 2 0) (positionAt a.row a.col) (positionAt a.row a.col) (a.points .now) (taken .caret-in .result)
+    let given = taken .before .before .before .before .before .before .args in
+    host-fits (given.text .now) (given.folds .now) (given.starts .now) (sized .sizes-in .result) (getD (given.sizes .now) 2 0)
+    (positionAt given.row given.col) (positionAt given.row given.col) (given.points .now) (taken .caret-in .result)
     (done .insert-rows .result) (done .insert-rows .ensures .answer)
 
 returns : tie.Need-returns

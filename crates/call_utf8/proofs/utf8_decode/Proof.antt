@@ -15,22 +15,22 @@ cast-t13 : tie.Need-cast-t13
 cast-t13 c =
     let answered = c .before .before .before .before .before in
     let entry = answered .before .before .before .before .before .args in
-    let e = sym (answered .decode .ensures .0) ∙ c .before .n .given .1 in
-    omega (arith, decoded-most (entry .bytes .now) _ _ e, answered .before .before .if1 .left)
+    let decode-is = sym (answered .decode .ensures .0) ∙ c .before .n .given .1 in
+    omega (arith, decoded-most (entry .bytes .now) _ _ decode-is, answered .before .before .if1 .left)
 
 mul-result : tie.Need-mul-result
 mul-result c =
     let answered = c .before .before .before .before .before in
     let entry = answered .before .before .before .before .before .args in
-    let e = sym (answered .decode .ensures .0) ∙ c .before .place .given .1 in
-    omega (arith, bad-most (entry .bytes .now) _ _ e, answered .before .before .if1 .left)
+    let decode-is = sym (answered .decode .ensures .0) ∙ c .before .place .given .1 in
+    omega (arith, bad-most (entry .bytes .now) _ _ decode-is, answered .before .before .if1 .left)
 
 add-result : tie.Need-add-result
 add-result c =
     let answered = c .before .before .before .before .before in
     let entry = answered .before .before .before .before .before .args in
-    let e = sym (answered .decode .ensures .0) ∙ c .before .place .given .1 in
-    omega (arith, bad-most (entry .bytes .now) _ _ e, answered .before .before .if1 .left)
+    let decode-is = sym (answered .decode .ensures .0) ∙ c .before .place .given .1 in
+    omega (arith, bad-most (entry .bytes .now) _ _ decode-is, answered .before .before .if1 .left)
 
 -- how many code points
 returns-2 : tie.Need-returns-2

@@ -11,9 +11,9 @@ use Rattle.edit_carets.proofs.corrected.Tie as tie
 cleared-requires : tie.Need-cleared-requires
 cleared-requires c κs =
     let start = c .before .before .before in
-    let f = moved-fits (start .args .k) (start .args .c) (start .pre) (omega arith) (omega arith) in
-    let e = c .moved .ensures in
-    (omega (arith, f .0, ap (λ (y : Position). y .row) e), omega (arith, f .1, ap (λ (y : Position). y .col) e))
+    let by-moved-fits = moved-fits (start .args .k) (start .args .c) (start .pre) (omega arith) (omega arith) in
+    let moved-told = c .moved .ensures in
+    (omega (arith, by-moved-fits .0, ap (λ (y : Position). y .row) moved-told), omega (arith, by-moved-fits .1, ap (λ (y : Position). y .col) moved-told))
 
 returns : tie.Need-returns
 returns c = c .cleared .ensures ∙ ap clearedAt (c .before .moved .ensures)

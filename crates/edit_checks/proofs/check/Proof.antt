@@ -12,9 +12,9 @@ use Rattle.edit_checks.proofs.check.Tie as tie
 -- longer than the buffer
 returns : tie.Need-returns
 returns c =
-    let a = c .before .before .before .before .before .args in
-    refused-by (a.buf .now) (a.folds .now) a.s a.p a.q (a.points .now) a.k 1 _ (c .refused .ensures)
-    (by-length (a.buf .now) (a.folds .now) a.s a.p a.q (a.points .now) a.k (c .before .if1 .taken)) (λ z. omega (arith, z))
+    let given = c .before .before .before .before .before .args in
+    refused-by (given.buf .now) (given.folds .now) given.s given.p given.q (given.points .now) given.k 1 _ (c .refused .ensures)
+    (by-length (given.buf .now) (given.folds .now) given.s given.p given.q (given.points .now) given.k (c .before .if1 .taken)) (λ z. omega (arith, z))
 
 slice-aggregate-t : tie.Need-slice-aggregate-t
 slice-aggregate-t c = sym (length-take-le _ _ (c .before .if1 .left))
@@ -26,9 +26,10 @@ returns-2 c =
     let points = lowered .before in
     let entry = points .before in
     let fits = entry .before .before in
-    let a = fits .before .before .before .before .args in
-    refused-by (a.buf .now) (a.folds .now) a.s a.p a.q (a.points .now) a.k _ _ (c .refused2 .ensures)
-    (by-entry (a.buf .now) (a.folds .now) a.s a.p a.q (a.points .now) a.k (fits .if1 .left) _ _ _ (entry .enter .ensures) (points .text-refusal .ensures)
+    let given = fits .before .before .before .before .args in
+    refused-by (given.buf .now) (given.folds .now) given.s given.p given.q (given.points .now) given.k _ _ (c .refused2 .ensures)
+    (by-entry (given.buf .now) (given.folds .now) given.s given.p given.q (given.points .now) given.k (fits .if1 .left) _ _ _ (entry .enter .ensures)
+    (points .text-refusal .ensures)
     (lowered .lower .ensures) (c .before .if2 .taken)) (c .before .if2 .taken)
 
 -- folds
@@ -39,9 +40,10 @@ returns-3 c =
     let points = lowered .before in
     let entry = points .before in
     let fits = entry .before .before in
-    let a = fits .before .before .before .before .args in
-    refused-by (a.buf .now) (a.folds .now) a.s a.p a.q (a.points .now) a.k _ _ (c .refused3 .ensures)
-    (by-folds (a.buf .now) (a.folds .now) a.s a.p a.q (a.points .now) a.k (fits .if1 .left) _ _ _ (entry .enter .ensures) (points .text-refusal .ensures)
+    let given = fits .before .before .before .before .args in
+    refused-by (given.buf .now) (given.folds .now) given.s given.p given.q (given.points .now) given.k _ _ (c .refused3 .ensures)
+    (by-folds (given.buf .now) (given.folds .now) given.s given.p given.q (given.points .now) given.k (fits .if1 .left) _ _ _ (entry .enter .ensures)
+    (points .text-refusal .ensures)
     (lowered .lower .ensures) (held .before .if2 .left) _ (held .held-folds .ensures) (c .before .if3 .taken)) (c .before .if3 .taken)
 
 stretch-requires : tie.Need-stretch-requires
@@ -51,10 +53,10 @@ stretch-requires c κs =
     let points = lowered .before in
     let entry = points .before in
     let fits = entry .before .before in
-    let a = fits .before .before .before .before .args in (
-      entry-rows (a.buf .now) (a.folds .now) a.s a.p a.q (a.points .now) a.k (fits .if1 .left) _ _ _ (entry .enter .ensures)
+    let given = fits .before .before .before .before .args in (
+      entry-rows (given.buf .now) (given.folds .now) given.s given.p given.q (given.points .now) given.k (fits .if1 .left) _ _ _ (entry .enter .ensures)
           (points .text-refusal .ensures) (lowered .lower .ensures) (held .before .if2 .left),
-      text-short (a.buf .now) (a.folds .now) a.s a.p a.q (a.points .now) a.k (fits .if1 .left) _ _ _ (entry .enter .ensures)
+      text-short (given.buf .now) (given.folds .now) given.s given.p given.q (given.points .now) given.k (fits .if1 .left) _ _ _ (entry .enter .ensures)
           (points .text-refusal .ensures) (lowered .lower .ensures) (held .before .if2 .left),
     )
 
@@ -67,22 +69,25 @@ returns-4 c =
     let points = lowered .before in
     let entry = points .before in
     let fits = entry .before .before in
-    let a = fits .before .before .before .before .args in
-    by-stretch (a.buf .now) (a.folds .now) a.s a.p a.q (a.points .now) a.k (fits .if1 .left) _ _ _ (entry .enter .ensures) (points .text-refusal .ensures)
+    let given = fits .before .before .before .before .args in
+    by-stretch (given.buf .now) (given.folds .now) given.s given.p given.q (given.points .now) given.k (fits .if1 .left) _ _ _ (entry .enter .ensures)
+    (points .text-refusal .ensures)
     (lowered .lower .ensures) (held .before .if2 .left) _ (held .held-folds .ensures) (found .before .if3 .left) (found .stretch .result)
     (found .stretch .ensures) (c .if4 .taken)
 
 -- a stretch that is not refused: its order, how much there is, and the rest of the checks
-order : (c : tie.After-stretch) → let r = c .stretch .result in
-    r .refusal ≡ 0 → (r .from ≤ r .to) × (r .to ≤ c .before .before .before .before .before .before .before .before .before .before .before .before .args .s .len)
+order : (c : tie.After-stretch) → let at-start = c .before .before .before .before .before .before .before .before .before .before .before .before in
+    let stretch-result = c .stretch .result in
+    stretch-result .refusal ≡ 0 → (stretch-result .from ≤ stretch-result .to) × (stretch-result .to ≤ at-start .args .s .len)
 order c z =
     let held = c .before .before in
     let lowered = held .before .before in
     let points = lowered .before in
     let entry = points .before in
     let fits = entry .before .before in
-    let a = fits .before .before .before .before .args in
-    in-order (a.buf .now) (a.folds .now) a.s a.p a.q (a.points .now) a.k (fits .if1 .left) _ _ _ (entry .enter .ensures) (points .text-refusal .ensures)
+    let given = fits .before .before .before .before .args in
+    in-order (given.buf .now) (given.folds .now) given.s given.p given.q (given.points .now) given.k (fits .if1 .left) _ _ _ (entry .enter .ensures)
+    (points .text-refusal .ensures)
     (lowered .lower .ensures) (held .before .if2 .left) _ (held .held-folds .ensures) (c .before .if3 .left) (c .stretch .result) (c .stretch .ensures) z
 
 sub-room : tie.Need-sub-room
@@ -90,8 +95,8 @@ sub-room c = order (c .before .before .before) (c .before .if4 .left) .0
 
 sub-room-2 : tie.Need-sub-room-2
 sub-room-2 c =
-    let o = order (c .before .before .before) (c .before .if4 .left) in
-    omega (arith, o .0, o .1)
+    let by-order = order (c .before .before .before) (c .before .if4 .left) in
+    omega (arith, by-order .0, by-order .1)
 
 add-room : tie.Need-add-room
 add-room c =
@@ -101,13 +106,15 @@ add-room c =
     let points = lowered .before in
     let entry = points .before in
     let fits = entry .before .before in
-    let a = fits .before .before .before .before .args in
-    let o = order found (c .before .if4 .left) in
-    let b = text-brief (a.buf .now) (a.folds .now) a.s a.p a.q (a.points .now) a.k (fits .if1 .left) _ _ _ (entry .enter .ensures)
+    let given = fits .before .before .before .before .args in
+    let by-order = order found (c .before .if4 .left) in
+    let by-text-brief = text-brief (given.buf .now) (given.folds .now) given.s given.p given.q (given.points .now) given.k (fits .if1 .left) _ _ _
+    (entry .enter .ensures)
     (points .text-refusal .ensures) (lowered .lower .ensures) (held .before .if2 .left) in
-    let d = points-brief (a.buf .now) (a.folds .now) a.s a.p a.q (a.points .now) a.k (fits .if1 .left) _ _ _ (entry .enter .ensures)
+    let by-points-brief = points-brief (given.buf .now) (given.folds .now) given.s given.p given.q (given.points .now) given.k (fits .if1 .left) _ _ _
+    (entry .enter .ensures)
     (points .text-refusal .ensures) (lowered .lower .ensures) (held .before .if2 .left) in
-    omega (arith, o .0, o .1, b, d)
+    omega (arith, by-order .0, by-order .1, by-text-brief, by-points-brief)
 
 -- the room
 returns-5 : tie.Need-returns-5
@@ -119,9 +126,10 @@ returns-5 c =
     let points = lowered .before in
     let entry = points .before in
     let fits = entry .before .before in
-    let a = fits .before .before .before .before .args in
-    refused-by (a.buf .now) (a.folds .now) a.s a.p a.q (a.points .now) a.k _ _ (c .refused4 .ensures)
-    (by-room (a.buf .now) (a.folds .now) a.s a.p a.q (a.points .now) a.k (fits .if1 .left) _ _ _ (entry .enter .ensures) (points .text-refusal .ensures)
+    let given = fits .before .before .before .before .args in
+    refused-by (given.buf .now) (given.folds .now) given.s given.p given.q (given.points .now) given.k _ _ (c .refused4 .ensures)
+    (by-room (given.buf .now) (given.folds .now) given.s given.p given.q (given.points .now) given.k (fits .if1 .left) _ _ _ (entry .enter .ensures)
+    (points .text-refusal .ensures)
     (lowered .lower .ensures) (held .before .if2 .left) _ (held .held-folds .ensures) (found .before .if3 .left) (found .stretch .result)
     (found .stretch .ensures) (asked .before .before .if4 .left) _ (asked .room .ensures) (c .before .if5 .taken)) (c .before .if5 .taken)
 
@@ -134,8 +142,9 @@ returns-6 c =
     let points = lowered .before in
     let entry = points .before in
     let fits = entry .before .before in
-    let a = fits .before .before .before .before .args in
-    by-none (a.buf .now) (a.folds .now) a.s a.p a.q (a.points .now) a.k (fits .if1 .left) _ _ _ (entry .enter .ensures) (points .text-refusal .ensures)
+    let given = fits .before .before .before .before .args in
+    by-none (given.buf .now) (given.folds .now) given.s given.p given.q (given.points .now) given.k (fits .if1 .left) _ _ _ (entry .enter .ensures)
+    (points .text-refusal .ensures)
     (lowered .lower .ensures) (held .before .if2 .left) _ (held .held-folds .ensures) (found .before .if3 .left) (found .stretch .result)
     (found .stretch .ensures) (asked .before .before .if4 .left) _ (asked .room .ensures) (c .if5 .left)
 

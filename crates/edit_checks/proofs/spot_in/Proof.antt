@@ -21,21 +21,21 @@ returns-2 c =
     let measured = c .before .before in
     let found = measured .before in
     let start = found .before .before .before .before in
-    let t = start .args .t .now in
-    let p = start .args .p in
-    let n = long t p (found .line-from .result) _ (found .line-from .ensures) (measured .row-len .ensures) in
-    spot-col t p (omega (arith, start .pre .1, found .before .if1 .left)) (omega (arith, n, c .if2 .taken))
+    let text-now = start .args .t .now in
+    let given-p = start .args .p in
+    let by-long = long text-now given-p (found .line-from .result) _ (found .line-from .ensures) (measured .row-len .ensures) in
+    spot-col text-now given-p (omega (arith, start .pre .1, found .before .if1 .left)) (omega (arith, by-long, c .if2 .taken))
 
 returns-3 : tie.Need-returns-3
 returns-3 c =
     let measured = c .before .before in
     let found = measured .before in
     let start = found .before .before .before .before in
-    let t = start .args .t .now in
-    let p = start .args .p in
-    let n = long t p (found .line-from .result) _ (found .line-from .ensures) (measured .row-len .ensures) in
-    spot-there t p (found .line-from .result) (found .line-from .ensures) (omega (arith, start .pre .1, found .before .if1 .left))
-    (omega (arith, n, c .if2 .left))
+    let text-now = start .args .t .now in
+    let given-p = start .args .p in
+    let by-long = long text-now given-p (found .line-from .result) _ (found .line-from .ensures) (measured .row-len .ensures) in
+    spot-there text-now given-p (found .line-from .result) (found .line-from .ensures) (omega (arith, start .pre .1, found .before .if1 .left))
+    (omega (arith, by-long, c .if2 .left))
 
 pub spot-in-spec : {M : Type 1} → statement M
 spot-in-spec = tie.close (tie.spec returns (λ c κs. search needs) row-len-requires returns-2 returns-3)

@@ -17,10 +17,11 @@ spot-in-requires c κs = (first-line _, c .before .pre .0)
 returns : tie.Need-returns
 returns c =
     let found = c .before .before .before in
-    let a = found .before .before .args in
-    let t = a.t .now in
-    checked-refused t a.p a.q (stretchRefusal t a.p a.q) 11 _ (c .refused .ensures)
-    (stretch-first t a.p a.q (out-outside t a.p (sym (found .spot-in .ensures) ∙ c .before .enum-told .given .1))) (λ z. omega (arith, z))
+    let given = found .before .before .args in
+    let text-now = given.t .now in
+    checked-refused text-now given.p given.q (stretchRefusal text-now given.p given.q) 11 _ (c .refused .ensures)
+    (stretch-first text-now given.p given.q (out-outside text-now given.p (sym (found .spot-in .ensures) ∙ c .before .enum-told .given .1)))
+    (λ z. omega (arith, z))
 
 spot-in-requires-2 : tie.Need-spot-in-requires-2
 spot-in-requires-2 c κs =
@@ -34,11 +35,12 @@ returns-2 c =
     let next = c .before .before .before in
     let first = next .before .before in
     let found = first .before .before in
-    let a = found .before .before .args in
-    let t = a.t .now in
-    let in-p = in-inside t a.p (first .l .given .0 .0) (sym (found .spot-in .ensures) ∙ first .l .given .1) in
-    checked-refused t a.p a.q (stretchRefusal t a.p a.q) 11 _ (c .refused2 .ensures)
-    (stretch-second t a.p a.q (in-p .0) (out-outside t a.q (sym (next .spot-in2 .ensures) ∙ c .before .enum-told2 .given .1))) (λ z. omega (arith, z))
+    let given = found .before .before .args in
+    let text-now = given.t .now in
+    let in-p = in-inside text-now given.p (first .l .given .0 .0) (sym (found .spot-in .ensures) ∙ first .l .given .1) in
+    checked-refused text-now given.p given.q (stretchRefusal text-now given.p given.q) 11 _ (c .refused2 .ensures)
+    (stretch-second text-now given.p given.q (in-p .0)
+    (out-outside text-now given.q (sym (next .spot-in2 .ensures) ∙ c .before .enum-told2 .given .1))) (λ z. omega (arith, z))
 
 -- the second before the first
 returns-3 : tie.Need-returns-3
@@ -48,12 +50,12 @@ returns-3 c =
     let next = second .before .before in
     let first = next .before .before in
     let found = first .before .before in
-    let a = found .before .before .args in
-    let t = a.t .now in
-    let in-p = in-inside t a.p (first .l .given .0 .0) (sym (found .spot-in .ensures) ∙ first .l .given .1) in
-    let in-q = in-inside t a.q (second .m .given .0 .0) (sym (next .spot-in2 .ensures) ∙ second .m .given .1) in
-    checked-refused t a.p a.q (stretchRefusal t a.p a.q) 11 _ (c .refused3 .ensures)
-    (stretch-order t a.p a.q (in-p .0) (in-q .0) _ (sym (asked .is-before .ensures) ∙ c .before .if1 .taken)) (λ z. omega (arith, z))
+    let given = found .before .before .args in
+    let text-now = given.t .now in
+    let in-p = in-inside text-now given.p (first .l .given .0 .0) (sym (found .spot-in .ensures) ∙ first .l .given .1) in
+    let in-q = in-inside text-now given.q (second .m .given .0 .0) (sym (next .spot-in2 .ensures) ∙ second .m .given .1) in
+    checked-refused text-now given.p given.q (stretchRefusal text-now given.p given.q) 11 _ (c .refused3 .ensures)
+    (stretch-order text-now given.p given.q (in-p .0) (in-q .0) _ (sym (asked .is-before .ensures) ∙ c .before .if1 .taken)) (λ z. omega (arith, z))
 
 add-t11 : tie.Need-add-t11
 add-t11 c =
@@ -62,8 +64,8 @@ add-t11 c =
     let next = second .before .before in
     let first = next .before .before in
     let found = first .before .before in
-    let a = found .before .before .args in
-    omega (arith, in-fits (a.t .now) a.p (first .l .given .0 .0) (sym (found .spot-in .ensures) ∙ first .l .given .1))
+    let given = found .before .before .args in
+    omega (arith, in-fits (given.t .now) given.p (first .l .given .0 .0) (sym (found .spot-in .ensures) ∙ first .l .given .1))
 
 add-t12 : tie.Need-add-t12
 add-t12 c =
@@ -71,10 +73,10 @@ add-t12 c =
     let second = asked .before .before in
     let next = second .before .before in
     let start = next .before .before .before .before .before .before in
-    let a = start .args in
-    let h = in-fits (a.t .now) a.q (second .m .given .0 .0) (sym (next .spot-in2 .ensures) ∙ second .m .given .1) in
-    let w : second .m .given .0 .0 .start + a.q .col < 2 ^ 64 = omega (arith, h, start .pre .1) in
-    record { fits = w }
+    let given = start .args in
+    let by-in-fits = in-fits (given.t .now) given.q (second .m .given .0 .0) (sym (next .spot-in2 .ensures) ∙ second .m .given .1) in
+    let sum-below : second .m .given .0 .0 .start + given.q .col < 2 ^ 64 = omega (arith, by-in-fits, start .pre .1) in
+    record { fits = sum-below }
 
 returns-4 : tie.Need-returns-4
 returns-4 c =
@@ -84,11 +86,12 @@ returns-4 c =
     let first = next .before .before in
     let found = first .before .before in
     let start = found .before .before in
-    let a = start .args in
-    let t = a.t .now in
-    let in-p = in-inside t a.p (first .l .given .0 .0) (sym (found .spot-in .ensures) ∙ first .l .given .1) in
-    let in-q = in-inside t a.q (second .m .given .0 .0) (sym (next .spot-in2 .ensures) ∙ second .m .given .1) in
-    stretch-none t a.p a.q (first .l .given .0 .0) (second .m .given .0 .0) a.rows (start .pre .0) in-p in-q (sym (asked .is-before .ensures) ∙ c .before .before .before .before .if1 .left)
+    let given = start .args in
+    let text-now = given.t .now in
+    let in-p = in-inside text-now given.p (first .l .given .0 .0) (sym (found .spot-in .ensures) ∙ first .l .given .1) in
+    let in-q = in-inside text-now given.q (second .m .given .0 .0) (sym (next .spot-in2 .ensures) ∙ second .m .given .1) in
+    stretch-none text-now given.p given.q (first .l .given .0 .0) (second .m .given .0 .0) given.rows (start .pre .0) in-p in-q
+    (sym (asked .is-before .ensures) ∙ c .before .before .before .before .if1 .left)
 
 pub stretch-spec : {M : Type 1} → statement M
 stretch-spec =

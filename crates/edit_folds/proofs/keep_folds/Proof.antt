@@ -21,26 +21,26 @@ loop-holds c = moved-none _ _ _ (omega arith)
 -- the rows of a fold can be raised: what is read is still the old row
 map-row-requires : tie.Need-map-row-requires Inv-loop μ-loop
 map-row-requires c κs =
-    let l = c .before .before .before .before .loop in
+    let at-loop = c .before .before .before .before .loop in
     let start = c .before .before .before .before .before .before in
-    let at = 3 * l.i in
-    (omega arith, omega (arith, moved-read l.inv at (omega arith), start .pre .1 .room at (omega arith)))
+    let at = 3 * at-loop.i in
+    (omega arith, omega (arith, moved-read at-loop.inv at (omega arith), start .pre .1 .room at (omega arith)))
 
 map-row-requires-2 : tie.Need-map-row-requires-2 Inv-loop μ-loop
 map-row-requires-2 c κs =
-    let l = c .before .before .before .before .before .loop in
+    let at-loop = c .before .before .before .before .before .loop in
     let start = c .before .before .before .before .before .before .before in
-    let at = 3 * l.i + 1 in
-    (omega arith, omega (arith, moved-read l.inv at (omega arith), start .pre .1 .room at (omega arith)))
+    let at = 3 * at-loop.i + 1 in
+    (omega arith, omega (arith, moved-read at-loop.inv at (omega arith), start .pre .1 .room at (omega arith)))
 
 -- the fold is lost
 loop-again : tie.Need-loop-again Inv-loop μ-loop
 loop-again c =
     let lost = c .before in
-    let y = lost .before in
-    let x = y .before in
-    let test = x .before .before .before .before in
-    moved-lost (test .before .loop .inv) (test .loop-test .taken) (x .map-row .ensures) (y .map-row2 .ensures)
+    let at-map-row2 = lost .before in
+    let at-map-row = at-map-row2 .before in
+    let test = at-map-row .before .before .before .before in
+    moved-lost (test .before .loop .inv) (test .loop-test .taken) (at-map-row .map-row .ensures) (at-map-row2 .map-row2 .ensures)
     (sym (lost .is-lost .ensures) ∙ c .if1 .taken)
 
 -- the fold is kept
@@ -49,10 +49,10 @@ loop-again-2 c =
     let put = c .before .before in
     let left = put .before .before in
     let lost = left .before in
-    let y = lost .before in
-    let x = y .before in
-    let test = x .before .before .before .before in
-    moved-kept (test .before .loop .inv) (test .loop-test .taken) (x .map-row .ensures) (y .map-row2 .ensures)
+    let at-map-row2 = lost .before in
+    let at-map-row = at-map-row2 .before in
+    let test = at-map-row .before .before .before .before in
+    moved-kept (test .before .loop .inv) (test .loop-test .taken) (at-map-row .map-row .ensures) (at-map-row2 .map-row2 .ensures)
     (sym (lost .is-lost .ensures) ∙ left .if1 .left)
     (put .put-fold .ensures)
 

@@ -7,8 +7,8 @@ use Rattle.edit_positions.proofs.end_of.Tie as tie
 returns : tie.Need-returns
 returns c =
     let counted = c .before .before in
-    let a = counted .before .before .args in
-    end-row (a.points .now) _ (counted .separators .ensures .0) a.p (c .before .if1 .taken)
+    let given = counted .before .before .args in
+    end-row (given.points .now) _ (counted .separators .ensures .0) given.p (c .before .if1 .taken)
 
 up-requires : tie.Need-up-requires
 up-requires c κs =
@@ -25,8 +25,8 @@ returns-2 : tie.Need-returns-2
 returns-2 c =
     let found = c .before .before in
     let counted = found .before .before in
-    let a = counted .before .before .args in
-    end-below (a.points .now) _ (counted .separators .ensures .0) a.p (found .up .result) (found .before .if1 .left) (found .up .ensures)
+    let given = counted .before .before .args in
+    end-below (given.points .now) _ (counted .separators .ensures .0) given.p (found .up .result) (found .before .if1 .left) (found .up .ensures)
 
 pub end-of-spec : {M : Type 1} → statement M
 end-of-spec =

@@ -19,23 +19,30 @@ slice-t c = sym (length-take-le _ _ (c .before .before .before .before .pre .0 .
 add-after : tie.Need-add-after
 add-after c =
     let start = c .before .before .before .before .before .before .before in
-    let a = start .args in
-    let t = take a.len (a.text .now) in
-    omega (arith, start .pre .0 .1, c .separators .ensures, count-le t, length-take-le a.len (a.text .now) (start .pre .0 .0 .fits), start .pre .0 .0 .brief)
+    let given = start .args in
+    let front = take given.len (given.text .now) in
+    omega (
+      arith,
+      start .pre .0 .1,
+      c .separators .ensures,
+      count-le front,
+      length-take-le given.len (given.text .now) (start .pre .0 .0 .fits),
+      start .pre .0 .0 .brief,
+    )
 
 returns : tie.Need-returns
 returns c =
     let most = c .before in
     let counted = most .before in
     let start = counted .before .before .before .before .before .before .before in
-    let a = start .args in
-    let t = take a.len (a.text .now) in
-    let new = textAfter t a.p a.q (a.points .now) in
-    let after-is : a.before - (a.q .row - a.p .row) + counted .separators .result ≡ rowCount new =
-    omega (arith, start .pre .0 .1, counted .separators .ensures .0, rows-after (start .pre .0 .0) (a.points .now)) in
-    let need : most .most .result ≡ max (rowCount t) (rowCount new) = most .most .ensures ∙ (λ i. max (start .pre .0 .1 i) (after-is i)) in
+    let given = start .args in
+    let front = take given.len (given.text .now) in
+    let new = textAfter front given.p given.q (given.points .now) in
+    let after-is : given.before - (given.q .row - given.p .row) + counted .separators .result ≡ rowCount new =
+    omega (arith, start .pre .0 .1, counted .separators .ensures .0, rows-after (start .pre .0 .0) (given.points .now)) in
+    let need : most .most .result ≡ max (rowCount front) (rowCount new) = most .most .ensures ∙ (λ i. max (start .pre .0 .1 i) (after-is i)) in
     record {
-      refusal-is = c .table-refusal .ensures ∙ ap (λ (n : ℕ). tableRefusal n t (a.starts .now) a.content) need;
+      refusal-is = c .table-refusal .ensures ∙ ap (λ (n : ℕ). tableRefusal n front (given.starts .now) given.content) need;
       before-is = start .pre .0 .1;
       after-is = after-is;
     }

@@ -15,9 +15,9 @@ slice-t c = sym (length-take-le _ _ (c .before .before .pre .0))
 cast-result : tie.Need-cast-result
 cast-result c =
     let start = c .before .before .before in
-    let a = start .args in
-    let t = take a.len (a.text .now) in
-    omega (arith, c .content-of .ensures, content-near t, count-le t, length-take-le a.len (a.text .now) (start .pre .0))
+    let given = start .args in
+    let front = take given.len (given.text .now) in
+    omega (arith, c .content-of .ensures, content-near front, count-le front, length-take-le given.len (given.text .now) (start .pre .0))
 
 pub content-in-spec : {M : Type 1} → statement M
 content-in-spec =

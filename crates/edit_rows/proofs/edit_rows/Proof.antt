@@ -11,29 +11,33 @@ use Rattle.edit_rows.proofs.edit_rows.Tie as tie
 returns : tie.Need-returns
 returns c =
     let checked = c .before .before in
-    let a = checked .before .before .before .before .before .before .before .before .before .args in
-    let is = number-is (a.text .now) (a.folds .now) a.s a.p a.q (a.points .now) a.k (checked .check .result) (checked .check .ensures) in
-    rows-by-edit (a.text .now) (a.folds .now) (a.starts .now) a.s a.content a.p a.q (a.points .now) a.k is (c .if1 .taken)
+    let given = checked .before .before .before .before .before .before .before .before .before .args in
+    let is = number-is (given.text .now) (given.folds .now) given.s given.p given.q (given.points .now) given.k (checked .check .result)
+    (checked .check .ensures) in
+    rows-by-edit (given.text .now) (given.folds .now) (given.starts .now) given.s given.content given.p given.q (given.points .now) given.k is (c .if1 .taken)
 
 check-rows-requires : tie.Need-check-rows-requires
 check-rows-requires c κs =
     let tested = c .before .before in
     let checked = tested .before .before in
-    let a = checked .before .before .before .before .before .before .before .before .before .args in
+    let given = checked .before .before .before .before .before .before .before .before .before .args in
     let is = checked .check .ensures in
-    let none = sym (number-is (a.text .now) (a.folds .now) a.s a.p a.q (a.points .now) a.k (checked .check .result) is) ∙ tested .if1 .left in
-    let e = editable (a.text .now) (a.folds .now) a.s a.p a.q (a.points .now) a.k none (checked .check .result) is in
-    ((stretch e, e .rows-is), e .points-brief)
+    let none = sym (number-is (given.text .now) (given.folds .now) given.s given.p given.q (given.points .now) given.k (checked .check .result) is)
+    ∙ tested .if1 .left in
+    let by-editable = editable (given.text .now) (given.folds .now) given.s given.p given.q (given.points .now) given.k none (checked .check .result) is in
+    ((stretch by-editable, by-editable .rows-is), by-editable .points-brief)
 
 returns-2 : tie.Need-returns-2
 returns-2 c =
     let found = c .before .before in
     let tested = found .before .before .before in
     let checked = tested .before .before in
-    let a = checked .before .before .before .before .before .before .before .before .before .args in
+    let given = checked .before .before .before .before .before .before .before .before .before .args in
     let is = checked .check .ensures in
-    let none = sym (number-is (a.text .now) (a.folds .now) a.s a.p a.q (a.points .now) a.k (checked .check .result) is) ∙ tested .if1 .left in
-    rows-by-table (a.text .now) (a.folds .now) (a.starts .now) a.s a.content a.p a.q (a.points .now) a.k none (found .check-rows .ensures .refusal-is)
+    let none = sym (number-is (given.text .now) (given.folds .now) given.s given.p given.q (given.points .now) given.k (checked .check .result) is)
+    ∙ tested .if1 .left in
+    rows-by-table (given.text .now) (given.folds .now) (given.starts .now) given.s given.content given.p given.q (given.points .now) given.k none
+    (found .check-rows .ensures .refusal-is)
     (c .if2 .taken)
 
 make-rows-requires : tie.Need-make-rows-requires
@@ -42,10 +46,13 @@ make-rows-requires c κs =
     let found = right .before .before in
     let tested = found .before .before .before in
     let checked = tested .before .before in
-    let a = checked .before .before .before .before .before .before .before .before .before .args in
+    let given = checked .before .before .before .before .before .before .before .before .before .args in
     let is = checked .check .ensures in
-    let none = sym (number-is (a.text .now) (a.folds .now) a.s a.p a.q (a.points .now) a.k (checked .check .result) is) ∙ tested .if1 .left in
-    (editable (a.text .now) (a.folds .now) a.s a.p a.q (a.points .now) a.k none (checked .check .result) is, tabled (found .check-rows .ensures) (right .if2 .left))
+    let none = sym (number-is (given.text .now) (given.folds .now) given.s given.p given.q (given.points .now) given.k (checked .check .result) is)
+    ∙ tested .if1 .left in (
+      editable (given.text .now) (given.folds .now) given.s given.p given.q (given.points .now) given.k none (checked .check .result) is,
+      tabled (found .check-rows .ensures) (right .if2 .left),
+    )
 
 returns-3 : tie.Need-returns-3
 returns-3 c =
@@ -54,10 +61,12 @@ returns-3 c =
     let found = right .before .before in
     let tested = found .before .before .before in
     let checked = tested .before .before in
-    let a = checked .before .before .before .before .before .before .before .before .before .args in
+    let given = checked .before .before .before .before .before .before .before .before .before .args in
     let is = checked .check .ensures in
-    let none = sym (number-is (a.text .now) (a.folds .now) a.s a.p a.q (a.points .now) a.k (checked .check .result) is) ∙ tested .if1 .left in
-    rows-done (a.text .now) (a.folds .now) (a.starts .now) a.s a.content a.p a.q (a.points .now) a.k none (found .check-rows .ensures .refusal-is)
+    let none = sym (number-is (given.text .now) (given.folds .now) given.s given.p given.q (given.points .now) given.k (checked .check .result) is)
+    ∙ tested .if1 .left in
+    rows-done (given.text .now) (given.folds .now) (given.starts .now) given.s given.content given.p given.q (given.points .now) given.k none
+    (found .check-rows .ensures .refusal-is)
     (right .if2 .left)
     (done .make-rows .ensures)
 

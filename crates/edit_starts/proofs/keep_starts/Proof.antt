@@ -10,9 +10,10 @@ returns c =
     let replaced = c .before .before in
     let moved = replaced .before .before .before .before in
     let start = moved .before .before .before .before in
-    let a = start .args in
-    let k = start .pre in
-    kept-starts (a.starts .now) a.rows a.r a.q a.a a.b (a.points .now) (k .rows-order) (k .last-row) (k .fits) (moved .move-starts .ensures)
+    let given = start .args in
+    let required = start .pre in
+    kept-starts (given.starts .now) given.rows given.r given.q given.a given.b (given.points .now) (required .rows-order) (required .last-row)
+    (required .fits) (moved .move-starts .ensures)
     (replaced .replace-starts .ensures)
 
 pub keep-starts-spec : {M : Type 1} → statement M

@@ -20,47 +20,49 @@ abbrev μ-loop : tie.MeasureT-loop
 
 loop-holds : tie.Need-loop-holds Inv-loop μ-loop
 loop-holds c =
-    let a = c .args in
-    let f = movedStart a.less a.more in
-    let m = map-size f (drop a.from (take a.to (a.starts .now))) in
-    let n = length-slice a.from a.to (a.starts .now) (omega arith) in
+    let given = c .args in
+    let moved-start = movedStart given.less given.more in
+    let by-map-size = map-size moved-start (drop given.from (take given.to (given.starts .now))) in
+    let by-length-slice = length-slice given.from given.to (given.starts .now) (omega arith) in
     (omega arith, up-none _ _ _ (omega arith))
 
 -- the start that is read is still the one of before
 sub-starts : tie.Need-sub-starts Inv-loop μ-loop
 sub-starts c =
-    let l = c .before .before .loop in
+    let at-loop = c .before .before .loop in
     let start = c .before .before .before in
-    let a = start .args in
-    let read = up-read (l.inv .1) (a.from + l.k) (omega arith) in
-    omega (arith, start .pre .1 .room (a.from + l.k) (omega arith) (omega arith))
+    let given = start .args in
+    let read = up-read (at-loop.inv .1) (given.from + at-loop.k) (omega arith) in
+    omega (arith, start .pre .1 .room (given.from + at-loop.k) (omega arith) (omega arith))
 
 add-starts : tie.Need-add-starts Inv-loop μ-loop
 add-starts c =
-    let l = c .before .before .loop in
+    let at-loop = c .before .before .loop in
     let start = c .before .before .before in
-    let a = start .args in
-    let read = up-read (l.inv .1) (a.from + l.k) (omega arith) in
-    omega (arith, start .pre .1 .room (a.from + l.k) (omega arith) (omega arith))
+    let given = start .args in
+    let read = up-read (at-loop.inv .1) (given.from + at-loop.k) (omega arith) in
+    omega (arith, start .pre .1 .room (given.from + at-loop.k) (omega arith) (omega arith))
 
 loop-again : tie.Need-loop-again Inv-loop μ-loop
 loop-again c =
-    let l = c .before .before .loop in
-    let a = c .before .before .before .args in
-    let f = movedStart a.less a.more in
-    let part = drop a.from (take a.to (a.starts .now)) in
-    let m = map-size f part in
-    let n = length-slice a.from a.to (a.starts .now) (omega arith) in
-    let read = up-read (l.inv .1) (a.from + l.k) (omega arith) in (
+    let at-loop = c .before .before .loop in
+    let given = c .before .before .before .args in
+    let moved-start = movedStart given.less given.more in
+    let part = drop given.from (take given.to (given.starts .now)) in
+    let by-map-size = map-size moved-start part in
+    let by-length-slice = length-slice given.from given.to (given.starts .now) (omega arith) in
+    let read = up-read (at-loop.inv .1) (given.from + at-loop.k) (omega arith) in (
       omega arith,
-      up-next (l.inv .1) (omega arith) (ap f (read ∙ sym (part-read (a.starts .now) a.to a.from l.k (omega arith))) ∙ sym (map-read f part l.k (omega arith))),
+      up-next (at-loop.inv .1) (omega arith)
+          (ap moved-start (read ∙ sym (part-read (given.starts .now) given.to given.from at-loop.k (omega arith)))
+          ∙ sym (map-read moved-start part at-loop.k (omega arith))),
     )
 
 returns : tie.Need-returns Inv-loop μ-loop
 returns c =
-    let a = c .before .before .args in
-    let m = map-size (movedStart a.less a.more) (drop a.from (take a.to (a.starts .now))) in
-    let n = length-slice a.from a.to (a.starts .now) (omega arith) in
+    let given = c .before .before .args in
+    let by-map-size = map-size (movedStart given.less given.more) (drop given.from (take given.to (given.starts .now))) in
+    let by-length-slice = length-slice given.from given.to (given.starts .now) (omega arith) in
     up-all (c .before .loop .inv .1) (omega arith)
 
 pub move-starts-spec : {M : Type 1} → statement M

@@ -12,10 +12,11 @@ returns c =
     let shut = c .before .before in
     let put = shut .before .before .before .before in
     let counted = put .before .before .before in
-    let a = counted .before .before .before .args in
-    let n = starts-length a.at (a.points .now) in
-    let k = counted .separators .ensures .0 in
-    refilled-shorter (a.starts .now) a.rows a.x a.y (startsFrom a.at (a.points .now)) (omega arith) (omega arith) (omega arith) (put .put-starts .ensures) (shut .close-gap .ensures)
+    let given = counted .before .before .before .args in
+    let by-starts-length = starts-length given.at (given.points .now) in
+    let separators-told = counted .separators .ensures .0 in
+    refilled-shorter (given.starts .now) given.rows given.x given.y (startsFrom given.at (given.points .now)) (omega arith) (omega arith) (omega arith)
+    (put .put-starts .ensures) (shut .close-gap .ensures)
     (omega arith)
     (omega arith)
 
@@ -24,10 +25,11 @@ returns-2 c =
     let put = c .before .before in
     let up = put .before .before .before .before in
     let counted = up .before .before .before in
-    let a = counted .before .before .before .args in
-    let n = starts-length a.at (a.points .now) in
-    let k = counted .separators .ensures .0 in
-    refilled-longer (a.starts .now) a.rows a.x a.y (startsFrom a.at (a.points .now)) (omega arith) (omega arith) (omega arith) (up .open-gap .ensures) (put .put-starts2 .ensures)
+    let given = counted .before .before .before .args in
+    let by-starts-length = starts-length given.at (given.points .now) in
+    let separators-told = counted .separators .ensures .0 in
+    refilled-longer (given.starts .now) given.rows given.x given.y (startsFrom given.at (given.points .now)) (omega arith) (omega arith) (omega arith)
+    (up .open-gap .ensures) (put .put-starts2 .ensures)
     (omega arith)
     (omega arith)
     (omega arith)

@@ -13,37 +13,45 @@ use Rattle.edits.proofs.make.Tie as tie
 
 end-of-requires : tie.Need-end-of-requires
 end-of-requires c κs =
-    let e = c .before .before .before .pre in
-    (e .first-near, e .points-brief)
+    let required = c .before .before .before .pre in
+    (required .first-near, required .points-brief)
 
 cast-r1 : tie.Need-cast-r1
 cast-r1 c = omega (arith, c .before .before .before .before .before .pre .first-near .row-near)
 
 cast-r2 : tie.Need-cast-r2
-cast-r2 c = omega (arith, c .before .before .before .before .before .before .pre .second-row)
+cast-r2 c =
+    let at-start = c .before .before .before .before .before .before in
+    omega (arith, at-start .pre .second-row)
 
 sub-added : tie.Need-sub-added
 sub-added c =
     let found = c .before .before .before .before in
-    let a = found .before .before .before .before .args in
-    omega (arith, ap (λ (x : Position). x .row) (found .end-of .ensures), end-rows a.p (a.points .now))
+    let given = found .before .before .before .before .args in
+    omega (arith, ap (λ (x : Position). x .row) (found .end-of .ensures), end-rows given.p (given.points .now))
 
 cast-added : tie.Need-cast-added
 cast-added c =
     let found = c .before .before .before .before in
     let start = found .before .before .before .before in
-    let a = start .args in
-    omega (arith, ap (λ (x : Position). x .row) (found .end-of .ensures), end-rows a.p (a.points .now), count-le (a.points .now), start .pre .points-brief)
+    let given = start .args in
+    omega (
+      arith,
+      ap (λ (x : Position). x .row) (found .end-of .ensures),
+      end-rows given.p (given.points .now),
+      count-le (given.points .now),
+      start .pre .points-brief,
+    )
 
 sub-len-2 : tie.Need-sub-len-2
 sub-len-2 c =
-    let e = c .before .before .before .before .before .before .before .before .before .before .pre in
-    omega (arith, e .stretch-order, e .stretch-within)
+    let required = c .before .before .before .before .before .before .before .before .before .before .pre in
+    omega (arith, required .stretch-order, required .stretch-within)
 
 replace-at-requires : tie.Need-replace-at-requires
 replace-at-requires c κs =
-    let e = c .before .before .before .before .before .before .before .before .before .before .before .pre in
-    ((e .stretch-order, e .stretch-within, e .fits), e .new-fits)
+    let required = c .before .before .before .before .before .before .before .before .before .before .before .pre in
+    ((required .stretch-order, required .stretch-within, required .fits), required .new-fits)
 
 map-folds-requires : tie.Need-map-folds-requires
 map-folds-requires c κs =

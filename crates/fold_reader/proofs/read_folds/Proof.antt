@@ -15,107 +15,107 @@ returns c = read-text _ _ _ _ (c .before .text-refusal .ensures) (c .if1 .taken)
 -- 18 to 20
 returns-2 : tie.Need-returns-2
 returns-2 c =
-    let b2 = c .before .before in
-    let b3 = b2 .before in
-    let b7 = b3 .before .before .before .before in
-    let a = b7 .args in
-    read-layout (a .text .now) (a .file .now) (a .folds .now) (sym (b2 .if1 .left) ∙ b3 .text-refusal .ensures) _
+    let at-if1 = c .before .before in
+    let at-text-refusal = at-if1 .before in
+    let at-start = at-text-refusal .before .before .before .before in
+    let given = at-start .args in
+    read-layout (given .text .now) (given .file .now) (given .folds .now) (sym (at-if1 .if1 .left) ∙ at-text-refusal .text-refusal .ensures) _
     (c .before .layout-refusal .ensures) (c .if2 .taken)
 
 take-all-requires : tie.Need-take-all-requires
 take-all-requires c κs =
-    let b2 = c .before .before in
-    let b8 = b2 .before .before .before .before .before .before in
-    let whole = layout-whole (b8 .args .file .now) (sym (b2 .layout-refusal .ensures) ∙ c .before .if2 .left) in
+    let at-layout-refusal = c .before .before in
+    let at-start = at-layout-refusal .before .before .before .before .before .before in
+    let whole = layout-whole (at-start .args .file .now) (sym (at-layout-refusal .layout-refusal .ensures) ∙ c .before .if2 .left) in
     (whole .laid, folds-most _ whole)
 
 array-share-prefix-list : tie.Need-array-share-prefix-list
 array-share-prefix-list c =
-    let f = c .before .before .before .before .before .before .before .before .before .before .args .file .now in
-    let whole = layout-whole f (sym (c .before .before .before .before .layout-refusal .ensures) ∙ c .before .before .before .if2 .left) in
-    omega (arith, c .before .take-all .ensures, folds-most f whole)
+    let file-now = c .before .before .before .before .before .before .before .before .before .before .args .file .now in
+    let whole = layout-whole file-now (sym (c .before .before .before .before .layout-refusal .ensures) ∙ c .before .before .before .if2 .left) in
+    omega (arith, c .before .take-all .ensures, folds-most file-now whole)
 
 slice-aggregate-fold-refusal : tie.Need-slice-aggregate-fold-refusal
 slice-aggregate-fold-refusal c =
-    let b2 = c .before .before in
-    let b4 = b2 .before .before in
-    let b5 = b4 .before in
-    let b11 = b5 .before .before .before .before .before .before in
-    let f = b11 .args .file .now in
-    let whole = layout-whole f (sym (b5 .layout-refusal .ensures) ∙ b4 .if2 .left) in
-    let took = b2 .take-all .ensures in
-    sym (length-take-le _ _ (omega (arith, took .next, took .size, folds-most f whole)))
+    let at-take-all = c .before .before in
+    let at-if2 = at-take-all .before .before in
+    let at-layout-refusal = at-if2 .before in
+    let at-start = at-layout-refusal .before .before .before .before .before .before in
+    let file-now = at-start .args .file .now in
+    let whole = layout-whole file-now (sym (at-layout-refusal .layout-refusal .ensures) ∙ at-if2 .if2 .left) in
+    let took = at-take-all .take-all .ensures in
+    sym (length-take-le _ _ (omega (arith, took .next, took .size, folds-most file-now whole)))
 
 -- 5
 returns-3 : tie.Need-returns-3
 returns-3 c =
-    let b2 = c .before .before in
-    let b5 = b2 .before .before .before in
-    let b7 = b5 .before .before in
-    let b8 = b7 .before in
-    let b9 = b8 .before in
-    let b10 = b9 .before in
-    let b14 = b10 .before .before .before .before in
-    let a = b14 .args in
-    let f = a .file .now in
-    let whole = layout-whole f (sym (b8 .layout-refusal .ensures) ∙ b7 .if2 .left) in
-    let list = taken-front (b5 .take-all .ensures) (folds-most f whole) in
-    read-folds (a .text .now) f (a .folds .now) (sym (b9 .if1 .left) ∙ b10 .text-refusal .ensures)
-    (sym (b7 .if2 .left) ∙ b8 .layout-refusal .ensures) _
-    (c .before .fold-refusal .ensures ∙ rw (list, b2 .row-count .ensures)) (c .if3 .taken)
+    let at-row-count = c .before .before in
+    let at-take-all = at-row-count .before .before .before in
+    let at-if2 = at-take-all .before .before in
+    let at-layout-refusal = at-if2 .before in
+    let at-if1 = at-layout-refusal .before in
+    let at-text-refusal = at-if1 .before in
+    let at-start = at-text-refusal .before .before .before .before in
+    let given = at-start .args in
+    let file-now = given .file .now in
+    let whole = layout-whole file-now (sym (at-layout-refusal .layout-refusal .ensures) ∙ at-if2 .if2 .left) in
+    let list = taken-front (at-take-all .take-all .ensures) (folds-most file-now whole) in
+    read-folds (given .text .now) file-now (given .folds .now) (sym (at-if1 .if1 .left) ∙ at-text-refusal .text-refusal .ensures)
+    (sym (at-if2 .if2 .left) ∙ at-layout-refusal .layout-refusal .ensures) _
+    (c .before .fold-refusal .ensures ∙ rw (list, at-row-count .row-count .ensures)) (c .if3 .taken)
 
 -- 14
 returns-4 : tie.Need-returns-4
 returns-4 c =
-    let b2 = c .before .before in
-    let b3 = b2 .before in
-    let b6 = b3 .before .before .before in
-    let b8 = b6 .before .before in
-    let b9 = b8 .before in
-    let b10 = b9 .before in
-    let b11 = b10 .before in
-    let b15 = b11 .before .before .before .before in
-    let a = b15 .args in
-    let f = a .file .now in
-    let whole = layout-whole f (sym (b9 .layout-refusal .ensures) ∙ b8 .if2 .left) in
-    let list = taken-front (b6 .take-all .ensures) (folds-most f whole) in
-    read-short (a .text .now) f (a .folds .now) (sym (b10 .if1 .left) ∙ b11 .text-refusal .ensures)
-    (sym (b8 .if2 .left) ∙ b9 .layout-refusal .ensures)
-    (sym (c .before .if3 .left) ∙ b2 .fold-refusal .ensures ∙ rw (list, b3 .row-count .ensures))
-    (omega (arith, c .if4 .taken, b6 .take-all .ensures))
+    let at-fold-refusal = c .before .before in
+    let at-row-count = at-fold-refusal .before in
+    let at-take-all = at-row-count .before .before .before in
+    let at-if2 = at-take-all .before .before in
+    let at-layout-refusal = at-if2 .before in
+    let at-if1 = at-layout-refusal .before in
+    let at-text-refusal = at-if1 .before in
+    let at-start = at-text-refusal .before .before .before .before in
+    let given = at-start .args in
+    let file-now = given .file .now in
+    let whole = layout-whole file-now (sym (at-layout-refusal .layout-refusal .ensures) ∙ at-if2 .if2 .left) in
+    let list = taken-front (at-take-all .take-all .ensures) (folds-most file-now whole) in
+    read-short (given .text .now) file-now (given .folds .now) (sym (at-if1 .if1 .left) ∙ at-text-refusal .text-refusal .ensures)
+    (sym (at-if2 .if2 .left) ∙ at-layout-refusal .layout-refusal .ensures)
+    (sym (c .before .if3 .left) ∙ at-fold-refusal .fold-refusal .ensures ∙ rw (list, at-row-count .row-count .ensures))
+    (omega (arith, c .if4 .taken, at-take-all .take-all .ensures))
 
 take-all-requires-2 : tie.Need-take-all-requires-2
 take-all-requires-2 c κs =
-    let b7 = c .before .before .before .before .before .before .before in
-    let b9 = b7 .before .before in
-    let b10 = b9 .before in
-    let b16 = b10 .before .before .before .before .before .before in
-    let whole = layout-whole (b16 .args .file .now) (sym (b10 .layout-refusal .ensures) ∙ b9 .if2 .left) in
-    (whole .laid, omega (arith, c .before .if4 .left, b7 .take-all .ensures))
+    let at-take-all = c .before .before .before .before .before .before .before in
+    let at-if2 = at-take-all .before .before in
+    let at-layout-refusal = at-if2 .before in
+    let at-start = at-layout-refusal .before .before .before .before .before .before in
+    let whole = layout-whole (at-start .args .file .now) (sym (at-layout-refusal .layout-refusal .ensures) ∙ at-if2 .if2 .left) in
+    (whole .laid, omega (arith, c .before .if4 .left, at-take-all .take-all .ensures))
 
 -- the folds
 returns-5 : tie.Need-returns-5
 returns-5 c =
-    let b2 = c .before .before in
-    let b4 = b2 .before .before in
-    let b5 = b4 .before in
-    let b6 = b5 .before in
-    let b7 = b6 .before in
-    let b10 = b7 .before .before .before in
-    let b12 = b10 .before .before in
-    let b13 = b12 .before in
-    let b14 = b13 .before in
-    let b15 = b14 .before in
-    let b19 = b15 .before .before .before .before in
-    let a = b19 .args in
-    let f = a .file .now in
-    let whole = layout-whole f (sym (b13 .layout-refusal .ensures) ∙ b12 .if2 .left) in
-    let first = b10 .take-all .ensures in
-    let list = taken-front first (folds-most f whole) in
-    read-list (a .text .now) f (a .folds .now) (sym (b14 .if1 .left) ∙ b15 .text-refusal .ensures)
-    (sym (b12 .if2 .left) ∙ b13 .layout-refusal .ensures)
-    (sym (b5 .if3 .left) ∙ b6 .fold-refusal .ensures ∙ rw (list, b7 .row-count .ensures)) _ _ _
-    (omega (arith, first)) (omega (arith, b4 .if4 .left, first)) (b2 .take-all2 .ensures)
+    let at-take-all2 = c .before .before in
+    let at-if4 = at-take-all2 .before .before in
+    let at-if3 = at-if4 .before in
+    let at-fold-refusal = at-if3 .before in
+    let at-row-count = at-fold-refusal .before in
+    let at-take-all = at-row-count .before .before .before in
+    let at-if2 = at-take-all .before .before in
+    let at-layout-refusal = at-if2 .before in
+    let at-if1 = at-layout-refusal .before in
+    let at-text-refusal = at-if1 .before in
+    let at-start = at-text-refusal .before .before .before .before in
+    let given = at-start .args in
+    let file-now = given .file .now in
+    let whole = layout-whole file-now (sym (at-layout-refusal .layout-refusal .ensures) ∙ at-if2 .if2 .left) in
+    let first = at-take-all .take-all .ensures in
+    let list = taken-front first (folds-most file-now whole) in
+    read-list (given .text .now) file-now (given .folds .now) (sym (at-if1 .if1 .left) ∙ at-text-refusal .text-refusal .ensures)
+    (sym (at-if2 .if2 .left) ∙ at-layout-refusal .layout-refusal .ensures)
+    (sym (at-if3 .if3 .left) ∙ at-fold-refusal .fold-refusal .ensures ∙ rw (list, at-row-count .row-count .ensures)) _ _ _
+    (omega (arith, first)) (omega (arith, at-if4 .if4 .left, first)) (at-take-all2 .take-all2 .ensures)
 
 pub read-folds-spec : {M : Type 1} → statement M
 read-folds-spec =

@@ -12,36 +12,34 @@ use Rattle.fold_writer.proofs.put_block.Tie as tie
 part-sum-end : tie.Need-part-sum-end
 part-sum-end c =
     let entry = c .before .before .before .before .before .before .before in
-    let a = entry .args in
-    omega (arith, c .before .before .before .put-body .ensures, length-body (a .n) (a .k) (a .folds .now) (entry .pre .0), entry .pre .1)
+    let given = entry .args in
+    omega (arith, c .before .before .before .put-body .ensures, length-body (given .n) (given .k) (given .folds .now) (entry .pre .0), entry .pre .1)
 
 sum-requires : tie.Need-sum-requires
 sum-requires c κs =
     let entry = c .before .before .before .before .before .before .before .before in
-    let a = entry .args in
-    let long = length-body (a .n) (a .k) (a .folds .now) (entry .pre .0) in
+    let given = entry .args in
+    let long = length-body (given .n) (given .k) (given .folds .now) (entry .pre .0) in
     omega (arith, long, ap length (wrote-part (c .before .before .before .before .put-body .ensures) (omega (arith, long, entry .pre .1))))
 
 put-two-requires : tie.Need-put-two-requires
 put-two-requires c κs =
-    let b6 = c .before .before .before .before .before .before in
-    let b10 = b6 .before .before .before .before in
-    let entry = b10 in
-    let a = entry .args in
-    omega (arith, b6 .put-body .ensures, length-body (a .n) (a .k) (a .folds .now) (entry .pre .0), entry .pre .1)
+    let at-put-body = c .before .before .before .before .before .before in
+    let entry = at-put-body .before .before .before .before in
+    let given = entry .args in
+    omega (arith, at-put-body .put-body .ensures, length-body (given .n) (given .k) (given .folds .now) (entry .pre .0), entry .pre .1)
 
 returns : tie.Need-returns
 returns c =
-    let b2 = c .before .before in
-    let b4 = b2 .before .before in
-    let b9 = b4 .before .before .before .before .before in
-    let b13 = b9 .before .before .before .before in
-    let entry = b13 in
-    let a = entry .args in
-    let long = length-body (a .n) (a .k) (a .folds .now) (entry .pre .0) in
-    let first = b9 .put-body .ensures in
+    let at-put-two = c .before .before in
+    let at-sum = at-put-two .before .before in
+    let at-put-body = at-sum .before .before .before .before .before in
+    let entry = at-put-body .before .before .before .before in
+    let given = entry .args in
+    let long = length-body (given .n) (given .k) (given .folds .now) (entry .pre .0) in
+    let first = at-put-body .put-body .ensures in
     let part = wrote-part first (omega (arith, long, entry .pre .1)) in
-    wrote-block (a .n) (a .k) (a .folds .now) (b4 .sum .result) first (b4 .sum .ensures ∙ ap sum part) (b2 .put-two .ensures)
+    wrote-block (given .n) (given .k) (given .folds .now) (at-sum .sum .result) first (at-sum .sum .ensures ∙ ap sum part) (at-put-two .put-two .ensures)
 
 pub put-block-spec : {M : Type 1} → statement M
 put-block-spec =

@@ -32,12 +32,12 @@ put-two-requires-3 c κs =
 returns : tie.Need-returns
 unfolding body
 returns c =
-    let b2 = c .before .before in
-    let filled = b2 .before .before .before .before in
+    let at-put-two3 = c .before .before in
+    let filled = at-put-two3 .before .before .before .before in
     let entered = filled .before .before .before .before in
     let listed = entered .before .before .before .before in
     let counts = wrote-then (listed .before .before .before .before .put-two .ensures) (listed .put-two2 .ensures) in
-    wrote-then (wrote-then (wrote-then counts (entered .put-entries .ensures)) (filled .put-zeros .ensures)) (b2 .put-two3 .ensures)
+    wrote-then (wrote-then (wrote-then counts (entered .put-entries .ensures)) (filled .put-zeros .ensures)) (at-put-two3 .put-two3 .ensures)
 
 pub put-body-spec : {M : Type 1} → statement M
 put-body-spec =

@@ -24,21 +24,27 @@ put-entry-requires : tie.Need-put-entry-requires Inv-loop μ-loop
 put-entry-requires c κs =
     let at-loop = c .before .before .before .before .before in
     let args = at-loop .before .before .before .args in
-    let l = args .folds .now in
-    let i = at-loop .loop .i in
-    let next = entries-at l i (c .before .before .before .before .loop-test .taken) in
-    let piece = four (getD l i 0) ++ four (getD l (i + 1) 0) ++ one (getD l (i + 2) 0) in
-    omega (arith, toward-room piece (entries (drop (i + 3) l)) (at-loop .loop .inv .1) next, length-entries l, at-loop .before .before .before .pre)
+    let folds-now = args .folds .now in
+    let index = at-loop .loop .i in
+    let next = entries-at folds-now index (c .before .before .before .before .loop-test .taken) in
+    let piece = four (getD folds-now index 0) ++ four (getD folds-now (index + 1) 0) ++ one (getD folds-now (index + 2) 0) in
+    omega (
+      arith,
+      toward-room piece (entries (drop (index + 3) folds-now)) (at-loop .loop .inv .1) next,
+      length-entries folds-now,
+      at-loop .before .before .before .pre,
+    )
 
 loop-again : tie.Need-loop-again Inv-loop μ-loop
 loop-again c =
     let tested = c .before .before .before .before .before .before .before in
     let at-loop = tested .before in
-    let l = at-loop .before .before .before .args .folds .now in
-    let i = at-loop .loop .i in (
+    let folds-now = at-loop .before .before .before .args .folds .now in
+    let index = at-loop .loop .i in (
       omega (arith, tested .loop-test .taken),
-      toward-on (four (getD l i 0) ++ four (getD l (i + 1) 0) ++ one (getD l (i + 2) 0)) (entries (drop (i + 3) l)) (at-loop .loop .inv .1)
-          (entries-at l i (tested .loop-test .taken)) (c .before .before .put-entry .ensures),
+      toward-on (four (getD folds-now index 0) ++ four (getD folds-now (index + 1) 0) ++ one (getD folds-now (index + 2) 0))
+          (entries (drop (index + 3) folds-now)) (at-loop .loop .inv .1)
+          (entries-at folds-now index (tested .loop-test .taken)) (c .before .before .put-entry .ensures),
     )
 
 returns : tie.Need-returns Inv-loop μ-loop

@@ -9,8 +9,14 @@ use Rattle.letters.proofs.latin_letter.Tie as tie
 
 returns : tie.Need-returns
 returns c =
-    let x = c .args .x in
-    rw (letter-latin x (omega arith), le-ltb x 91 (omega arith), le-ltb x 123 (omega arith), and-false (leb 65 x), and-false (leb 97 x))
+    let given-x = c .args .x in
+    rw (
+      letter-latin given-x (omega arith),
+      le-ltb given-x 91 (omega arith),
+      le-ltb given-x 123 (omega arith),
+      and-false (leb 65 given-x),
+      and-false (leb 97 given-x),
+    )
 
 pub latin-letter-spec : {M : Type 1} → statement M
 latin-letter-spec = tie.close (tie.spec returns)

@@ -11,14 +11,14 @@ use Rattle.margins.proofs.first_non_blank.Tie as tie
 
 returns : tie.Need-returns
 returns c =
-    let r = c .before .before .before in
-    let s = r .before .before in
+    let at-row = c .before .before .before in
+    let at-start = at-row .before .before in
     omega (
       arith,
       c .before .before .indent .ensures,
-      ap indentOf (r .row .ensures),
-      ap length (r .row .ensures),
-      row-fits (s .args .t .now) (s .args .l .row) (s .pre .0 .in-row),
+      ap indentOf (at-row .row .ensures),
+      ap length (at-row .row .ensures),
+      row-fits (at-start .args .t .now) (at-start .args .l .row) (at-start .pre .0 .in-row),
     )
 
 pub first-non-blank-spec : {M : Type 1} → statement M

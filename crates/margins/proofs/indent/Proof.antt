@@ -19,19 +19,19 @@ abbrev μ-loop : tie.MeasureT-loop
 
 returns : tie.Need-returns Inv-loop μ-loop
 returns c =
-    let k = c .before .before .before in
+    let at-loop-test = c .before .before .before in
     omega (
       arith,
-      indent-stop (k .before .before .before .args .row .now) (k .before .loop .i) (k .loop-test .taken)
+      indent-stop (at-loop-test .before .before .before .args .row .now) (at-loop-test .before .loop .i) (at-loop-test .loop-test .taken)
           (sym (c .before .is-blank .ensures) ∙ not-true _ (c .if1 .taken)),
     )
 
 loop-again : tie.Need-loop-again Inv-loop μ-loop
 loop-again c =
-    let k = c .before .before .before in
+    let at-loop-test = c .before .before .before in
     omega (
       arith,
-      indent-on (k .before .before .before .args .row .now) (k .before .loop .i) (k .loop-test .taken)
+      indent-on (at-loop-test .before .before .before .args .row .now) (at-loop-test .before .loop .i) (at-loop-test .loop-test .taken)
           (sym (c .before .is-blank .ensures) ∙ not-false _ (c .if1 .left)),
     )
 

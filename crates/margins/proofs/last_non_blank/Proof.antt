@@ -18,14 +18,14 @@ solid-requires c κs = refl
 
 returns : tie.Need-returns
 returns c =
-    let r = c .before .before .before in
-    let s = r .before .before in
+    let at-row = c .before .before .before in
+    let at-start = at-row .before .before in
     omega (
       arith,
       c .before .solid .ensures,
-      ap solidOf (r .row .ensures),
-      solid-le (rowAt (s .args .t .now) (s .args .l .row)),
-      row-fits (s .args .t .now) (s .args .l .row) (s .pre .0 .in-row),
+      ap solidOf (at-row .row .ensures),
+      solid-le (rowAt (at-start .args .t .now) (at-start .args .l .row)),
+      row-fits (at-start .args .t .now) (at-start .args .l .row) (at-start .pre .0 .in-row),
     )
 
 pub last-non-blank-spec : {M : Type 1} → statement M

@@ -27,27 +27,29 @@ white-in-requires c κs = c .before .before .loop .inv .1
 
 returns : tie.Need-returns Inv-loop μ-loop
 returns c =
-    let k = c .before .before .before in
-    let l = k .before in
-    sym (l .loop .inv .2 ∙ solid-stop (l .before .before .before .args .row .now) (l .loop .n) (k .loop-test .taken) (l .loop .inv .0)
+    let at-loop-test = c .before .before .before in
+    let at-loop = at-loop-test .before in
+    sym (at-loop .loop .inv .2
+    ∙ solid-stop (at-loop .before .before .before .args .row .now) (at-loop .loop .n) (at-loop-test .loop-test .taken) (at-loop .loop .inv .0)
     (sym (c .before .white-in .ensures) ∙ not-true _ (c .if1 .taken)))
 
 loop-again : tie.Need-loop-again Inv-loop μ-loop
 loop-again c =
-    let k = c .before .before .before in
-    let l = k .before in (
+    let at-loop-test = c .before .before .before in
+    let at-loop = at-loop-test .before in (
       omega arith,
-      l .loop .inv .1,
-      l .loop .inv .2 ∙ solid-white (l .before .before .before .args .row .now) (l .loop .n) (k .loop-test .taken) (l .loop .inv .0)
+      at-loop .loop .inv .1,
+      at-loop .loop .inv .2
+          ∙ solid-white (at-loop .before .before .before .args .row .now) (at-loop .loop .n) (at-loop-test .loop-test .taken) (at-loop .loop .inv .0)
           (sym (c .before .white-in .ensures) ∙ not-false _ (c .if1 .left)),
     )
 
 returns-2 : tie.Need-returns-2 Inv-loop μ-loop
 unfolding solidOf
 returns-2 c =
-    let l = c .before in
-    let none : l .loop .n ≡ 0 = omega arith in
-    none ∙ sym (l .loop .inv .2 ∙ rw none)
+    let at-loop = c .before in
+    let none : at-loop .loop .n ≡ 0 = omega arith in
+    none ∙ sym (at-loop .loop .inv .2 ∙ rw none)
 
 pub solid-spec : {M : Type 1} → statement M
 solid-spec =

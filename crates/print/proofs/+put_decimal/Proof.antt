@@ -35,14 +35,14 @@ module _ (t : ℕ) where
 
   put-requires-2 : lts.Need-put-requires-2 (put.Asked, put.Learnt, below t, put-decimal.Post) (here t) put-decimal.Post
   put-requires-2 c κs =
-      let w = c .before .before .before .put-decimal .ensures in
-      let s = c .before .before .before .before .before in
-      omega (arith, length-more (s .before .before .args .n) (s .if1 .left) (omega arith), w .size, w .next)
+      let put-decimal-told = c .before .before .before .put-decimal .ensures in
+      let at-if1 = c .before .before .before .before .before in
+      omega (arith, length-more (at-if1 .before .before .args .n) (at-if1 .if1 .left) (omega arith), put-decimal-told .size, put-decimal-told .next)
 
   returns-2 : lts.Need-returns-2 (put.Asked, put.Learnt, below t, put-decimal.Post) (here t) put-decimal.Post
   returns-2 c =
-      let w = c .before .before .before .before .before .before in
-      wrote-more (w .before .before .if1 .left) (omega arith) (w .put-decimal .ensures) (c .before .before .put2 .ensures)
+      let at-put-decimal = c .before .before .before .before .before .before in
+      wrote-more (at-put-decimal .before .before .if1 .left) (omega arith) (at-put-decimal .put-decimal .ensures) (c .before .before .put2 .ensures)
 
 pub +put-decimal-spec : {M : Type 1} → statement M
 +put-decimal-spec =

@@ -10,13 +10,13 @@ use Rattle.ranges.proofs.in_ranges.Tie as tie
 
 up-to-requires : tie.Need-up-to-requires
 up-to-requires c κs =
-    let s = c .before .before in
-    apart-starts s.args.starts.now s.args.lengths.now s.pre
+    let at-start = c .before .before in
+    apart-starts at-start.args.starts.now at-start.args.lengths.now at-start.pre
 
 returns : tie.Need-returns
 returns c =
-    let s = c .before .before .before .before in
-    sym (before-all s.args.starts.now s.args.lengths.now (rw (c .if1 .taken) at (c .before .up-to .ensures)))
+    let at-start = c .before .before .before .before in
+    sym (before-all at-start.args.starts.now at-start.args.lengths.now (rw (c .if1 .taken) at (c .before .up-to .ensures)))
 
 -- the last start is not above x
 sub-result : tie.Need-sub-result
@@ -27,8 +27,13 @@ sub-result c =
 -- each start has its length
 shared-slice-read-result-2 : tie.Need-shared-slice-read-result-2
 shared-slice-read-result-2 c =
-    let s = c .before .before .before .before .before .before in
-    omega (arith, apart-length s.args.starts.now s.args.lengths.now s.pre, c .before .before .before .up-to .ensures .inside, c .before .before .if1 .left)
+    let at-start = c .before .before .before .before .before .before in
+    omega (
+      arith,
+      apart-length at-start.args.starts.now at-start.args.lengths.now at-start.pre,
+      c .before .before .before .up-to .ensures .inside,
+      c .before .before .if1 .left,
+    )
 
 -- a length has 16 bits
 cast-result : tie.Need-cast-result
@@ -36,9 +41,9 @@ cast-result c = record { fits = omega (arith, c .shared-slice-known4 .given (c .
 
 returns-2 : tie.Need-returns-2
 returns-2 c =
-    let s = c .before .before .before .before .before .before in
+    let at-start = c .before .before .before .before .before .before in
     let found = c .before .before .before .up-to in
-    last-of s.args.starts.now s.args.lengths.now (found .result) (omega (arith, c .before .before .if1 .left)) s.pre (found .ensures)
+    last-of at-start.args.starts.now at-start.args.lengths.now (found .result) (omega (arith, c .before .before .if1 .left)) at-start.pre (found .ensures)
 
 pub in-ranges-spec : {M : Type 1} → statement M
 in-ranges-spec =

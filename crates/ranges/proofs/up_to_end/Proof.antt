@@ -22,20 +22,22 @@ loop-holds c =
 -- the number in the middle is at most x: so are those before it
 loop-again : tie.Need-loop-again Inv-loop μ-loop
 loop-again c =
-    let l = c .before .before .before .loop in
-    search-up (c .before .before .before .before .pre .0) l.inv (l.low + (l.high - l.low) / 2) (omega arith) (omega arith) (c .if1 .taken)
+    let at-loop = c .before .before .before .loop in
+    search-up (c .before .before .before .before .pre .0) at-loop.inv (at-loop.low + (at-loop.high - at-loop.low) / 2) (omega arith) (omega arith)
+    (c .if1 .taken)
 
 -- it is above x: so are those after it
 loop-again-2 : tie.Need-loop-again-2 Inv-loop μ-loop
 loop-again-2 c =
-    let l = c .before .before .before .loop in
-    search-down (c .before .before .before .before .pre .0) l.inv (l.low + (l.high - l.low) / 2) (omega arith) (omega arith) (c .if1 .left)
+    let at-loop = c .before .before .before .loop in
+    search-down (c .before .before .before .before .pre .0) at-loop.inv (at-loop.low + (at-loop.high - at-loop.low) / 2) (omega arith) (omega arith)
+    (c .if1 .left)
 
 returns : tie.Need-returns Inv-loop μ-loop
 returns c =
-    let l = c .before .loop in
-    let e : l.high ≡ l.low = omega arith in
-    search-found l.low (rw e at l.inv)
+    let at-loop = c .before .loop in
+    let high-is : at-loop.high ≡ at-loop.low = omega arith in
+    search-found at-loop.low (rw high-is at at-loop.inv)
 
 pub up-to-end-spec : {M : Type 1} → statement M
 up-to-end-spec =

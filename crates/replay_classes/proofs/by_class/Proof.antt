@@ -20,8 +20,8 @@ returns-2 : tie.Need-returns-2
 unfolding classVerdict
 returns-2 c =
     let fit = c .before .before .before in
-    let k = fit .before .before .before .before .before .before .args .k in
-    rw (le-leb _ 64 (fit .if1 .left), ← take-replicate (k .g) 64 165 (fit .if1 .left)) (c .before .into .ensures)
+    let given-k = fit .before .before .before .before .before .before .args .k in
+    rw (le-leb _ 64 (fit .if1 .left), ← take-replicate (given-k .g) 64 165 (fit .if1 .left)) (c .before .into .ensures)
 
 pub by-class-spec : {M : Type 1} → statement M
 by-class-spec =

@@ -12,8 +12,8 @@ places c = places-count 4 (c .before .before .before .word-by-class .ensures .0)
 returns : tie.Need-returns
 unfolding classedInto
 returns c =
-    let e = c .before .before .before .before .before .word-by-class .ensures in
-    slice-compared 4 _ (e .0) (e .1) (c .compared-all .ensures)
+    let word-by-class-told = c .before .before .before .before .before .word-by-class .ensures in
+    slice-compared 4 _ (word-by-class-told .0) (word-by-class-told .1) (c .compared-all .ensures)
 
 pub classed-into-spec : {M : Type 1} → statement M
 classed-into-spec = tie.close (tie.spec (λ c κs. search needs) places (λ c κs. search needs) (λ c. search needs) returns)

@@ -7,9 +7,10 @@ use Rattle.replay_codings.proofs.decode_into.Tie as tie
 returns : tie.Need-returns
 returns c =
     let answered = c .before .before .before .before in
-    let a = answered .before .before .before .before .before .before .args in
-    let e = answered .utf8-decode .ensures in
-    decoded-compared (a .bytes .now) (a .points .now) (a .stored .now) (e .0) (rw (e .1) at (c .compared-three .ensures))
+    let given = answered .before .before .before .before .before .before .args in
+    let utf8-decode-told = answered .utf8-decode .ensures in
+    decoded-compared (given .bytes .now) (given .points .now) (given .stored .now) (utf8-decode-told .0)
+    (rw (utf8-decode-told .1) at (c .compared-three .ensures))
 
 pub decode-into-spec : {M : Type 1} → statement M
 decode-into-spec =

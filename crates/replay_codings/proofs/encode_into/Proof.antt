@@ -9,9 +9,10 @@ returns : tie.Need-returns
 returns c =
     let widened = c .before .before .before .before in
     let answered = widened .before .before .before .before .before in
-    let a = answered .before .before .before .before .before .before .before .args in
-    let e = answered .utf8-encode .ensures in
-    encoded-compared (a .points .now) (a .bytes .now) (a .stored .now) (e .0) (rw (widened .widen .ensures ∙ e .1) at (c .compared-two .ensures))
+    let given = answered .before .before .before .before .before .before .before .args in
+    let utf8-encode-told = answered .utf8-encode .ensures in
+    encoded-compared (given .points .now) (given .bytes .now) (given .stored .now) (utf8-encode-told .0)
+    (rw (widened .widen .ensures ∙ utf8-encode-told .1) at (c .compared-two .ensures))
 
 pub encode-into-spec : {M : Type 1} → statement M
 encode-into-spec =

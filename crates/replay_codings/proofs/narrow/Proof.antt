@@ -29,32 +29,32 @@ loop-holds c = (omega arith, refl, refl, refl)
 returns : tie.Need-returns Inv-loop μ-loop
 returns c =
     let at-loop = c .before .before .before in
-    let s = at-loop .before .args .numbers .now in
-    let i = at-loop .loop .i in
-    let wide = any-there isWide s i (c .before .before .loop-test .taken) (lt-ltb 255 (getD s i 0) (c .if1 .taken)) in
+    let numbers-now = at-loop .before .args .numbers .now in
+    let index = at-loop .loop .i in
+    let wide = any-there isWide numbers-now index (c .before .before .loop-test .taken) (lt-ltb 255 (getD numbers-now index 0) (c .if1 .taken)) in
     record { told = sym (ap not wide); front = λ e. no-true e; same = at-loop .loop .inv .3 }
 
 loop-again : tie.Need-loop-again Inv-loop μ-loop
 loop-again c =
     let at-loop = c .before .before .before in
-    let s = at-loop .before .args .numbers .now in
-    let i = at-loop .loop .i in
-    let h = c .before .before .loop-test .taken in (
+    let numbers-now = at-loop .before .args .numbers .now in
+    let index = at-loop .loop .i in
+    let tested = c .before .before .loop-test .taken in (
       omega arith,
-      rw (le-ltb 255 (getD s i 0) (c .if1 .left)) at (any-on isWide s i false h (at-loop .loop .inv .1)),
-      take-on s (at-loop .loop .bytes) i h (omega arith) (at-loop .loop .inv .2),
+      rw (le-ltb 255 (getD numbers-now index 0) (c .if1 .left)) at (any-on isWide numbers-now index false tested (at-loop .loop .inv .1)),
+      take-on numbers-now (at-loop .loop .bytes) index tested (omega arith) (at-loop .loop .inv .2),
       simp length-set (at-loop .loop .inv .3),
     )
 
 returns-2 : tie.Need-returns-2 Inv-loop μ-loop
 returns-2 c =
-    let s = c .before .before .args .numbers .now in
-    let l = c .before .loop in
-    let all : l.i ≡ length s = omega arith in
+    let numbers-now = c .before .before .args .numbers .now in
+    let at-loop = c .before .loop in
+    let all : at-loop.i ≡ length numbers-now = omega arith in
     record {
-      told = sym (ap not (any-end isWide s l.i false (c .loop-test .left) (l.inv .1)));
-      front = λ e. (rw all at (l.inv .2)) ∙ take-all (length s) s (omega arith);
-      same = l.inv .3;
+      told = sym (ap not (any-end isWide numbers-now at-loop.i false (c .loop-test .left) (at-loop.inv .1)));
+      front = λ e. (rw all at (at-loop.inv .2)) ∙ take-all (length numbers-now) numbers-now (omega arith);
+      same = at-loop.inv .3;
     }
 
 pub narrow-spec : {M : Type 1} → statement M

@@ -22,15 +22,15 @@ lent-2 c = sym (length-take-le _ (replicate 64 0) (c .before .before .if1 .left)
 -- both have as many places
 encode-into-requires : tie.Need-encode-into-requires
 encode-into-requires c κs =
-    let h = c .before .before .if1 .left in
-    length-take-le _ (replicate 64 0) h ∙ sym (length-take-le _ (replicate 64 165) h)
+    let left = c .before .before .if1 .left in
+    length-take-le _ (replicate 64 0) left ∙ sym (length-take-le _ (replicate 64 165) left)
 
 returns-2 : tie.Need-returns-2
 unfolding encodeVerdict
 returns-2 c =
     let roomy = c .before .before .before .before .before in
-    let k = roomy .before .before .before .before .args .k in
-    rw (le-leb _ 64 (roomy .if1 .left), ← take-replicate (k .a) 64 165 (roomy .if1 .left)) (c .before .before .encode-into .ensures)
+    let given-k = roomy .before .before .before .before .args .k in
+    rw (le-leb _ 64 (roomy .if1 .left), ← take-replicate (given-k .a) 64 165 (roomy .if1 .left)) (c .before .before .encode-into .ensures)
 
 pub utf8-encode-spec : {M : Type 1} → statement M
 utf8-encode-spec =

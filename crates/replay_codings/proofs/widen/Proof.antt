@@ -21,17 +21,17 @@ cast-numbers c = omega (arith, c .shared-slice-known .given (c .before .before .
 loop-again : tie.Need-loop-again Inv-loop μ-loop
 loop-again c =
     let at-loop = c .before .before in
-    let h = c .before .loop-test .taken in (
+    let tested = c .before .loop-test .taken in (
       omega arith,
-      take-on (at-loop .before .args .bytes .now) (at-loop .loop .numbers) (at-loop .loop .i) h (omega arith) (at-loop .loop .inv .1),
+      take-on (at-loop .before .args .bytes .now) (at-loop .loop .numbers) (at-loop .loop .i) tested (omega arith) (at-loop .loop .inv .1),
       simp length-set (at-loop .loop .inv .2),
     )
 
 returns : tie.Need-returns Inv-loop μ-loop
 returns c =
-    let l = c .before .loop in
-    let s = c .before .before .args .bytes .now in
-    sym (take-all l.i l.numbers (omega arith)) ∙ l.inv .1 ∙ take-all l.i s (omega arith)
+    let at-loop = c .before .loop in
+    let bytes-now = c .before .before .args .bytes .now in
+    sym (take-all at-loop.i at-loop.numbers (omega arith)) ∙ at-loop.inv .1 ∙ take-all at-loop.i bytes-now (omega arith)
 
 pub widen-spec : {M : Type 1} → statement M
 widen-spec =

@@ -9,16 +9,16 @@ use Rattle.replay_edits.proofs.compared_all.Statement.{statement}
 use Rattle.replay_edits.proofs.compared_all.Tie as tie
 
 second : tie.Need-put-all-requires-2
-second c κs = let p = c .before .before .before .put-all .ensures in omega (arith, p .next, p .size)
+second c κs = let put-all-told = c .before .before .before .put-all .ensures in omega (arith, put-all-told .next, put-all-told .size)
 
 third : tie.Need-put-all-requires-3
 third c κs =
     let at-put-all2 = c .before .before in
     let at-put-all = at-put-all2 .before .before .before .before in
     let entry = at-put-all .before .before .before .before .before .before in
-    let p = at-put-all .put-all .ensures in
-    let q = at-put-all2 .put-all2 .ensures in
-    omega (arith, p .next, p .size, q .next, q .size, entry .pre .0)
+    let put-all-told = at-put-all .put-all .ensures in
+    let put-all2-told = at-put-all2 .put-all2 .ensures in
+    omega (arith, put-all-told .next, put-all-told .size, put-all2-told .next, put-all2-told .size, entry .pre .0)
 
 fourth : tie.Need-put-all-requires-4
 fourth c κs =
@@ -26,10 +26,20 @@ fourth c κs =
     let at-put-all2 = at-put-all3 .before .before .before in
     let at-put-all = at-put-all2 .before .before .before .before in
     let entry = at-put-all .before .before .before .before .before .before in
-    let p = at-put-all .put-all .ensures in
-    let q = at-put-all2 .put-all2 .ensures in
-    let r = at-put-all3 .put-all3 .ensures in
-    omega (arith, p .next, p .size, q .next, q .size, r .next, r .size, entry .pre .0, entry .pre .1)
+    let put-all-told = at-put-all .put-all .ensures in
+    let put-all2-told = at-put-all2 .put-all2 .ensures in
+    let put-all3-told = at-put-all3 .put-all3 .ensures in
+    omega (
+      arith,
+      put-all-told .next,
+      put-all-told .size,
+      put-all2-told .next,
+      put-all2-told .size,
+      put-all3-told .next,
+      put-all3-told .size,
+      entry .pre .0,
+      entry .pre .1,
+    )
 
 prefix : tie.Need-array-share-prefix-all
 prefix c =
@@ -38,11 +48,11 @@ prefix c =
     let at-put-all2 = at-put-all3 .before .before .before in
     let at-put-all = at-put-all2 .before .before .before .before in
     let entry = at-put-all .before .before .before .before .before .before in
-    let p = at-put-all .put-all .ensures in
-    let q = at-put-all2 .put-all2 .ensures in
-    let r = at-put-all3 .put-all3 .ensures in
-    let s = at-put-all4 .put-all4 .ensures in
-    omega (arith, p .next, q .next, r .next, s .next, entry .pre .0, entry .pre .1)
+    let put-all-told = at-put-all .put-all .ensures in
+    let put-all2-told = at-put-all2 .put-all2 .ensures in
+    let put-all3-told = at-put-all3 .put-all3 .ensures in
+    let put-all4-told = at-put-all4 .put-all4 .ensures in
+    omega (arith, put-all-told .next, put-all2-told .next, put-all3-told .next, put-all4-told .next, entry .pre .0, entry .pre .1)
 
 lent : tie.Need-slice-aggregate-compared
 lent c =
@@ -51,13 +61,25 @@ lent c =
     let at-put-all2 = at-put-all3 .before .before .before in
     let at-put-all = at-put-all2 .before .before .before .before in
     let entry = at-put-all .before .before .before .before .before .before in
-    let p = at-put-all .put-all .ensures in
-    let q = at-put-all2 .put-all2 .ensures in
-    let r = at-put-all3 .put-all3 .ensures in
-    let s = at-put-all4 .put-all4 .ensures in
+    let put-all-told = at-put-all .put-all .ensures in
+    let put-all2-told = at-put-all2 .put-all2 .ensures in
+    let put-all3-told = at-put-all3 .put-all3 .ensures in
+    let put-all4-told = at-put-all4 .put-all4 .ensures in
     sym
     (length-take-le _ _
-    (omega (arith, p .next, p .size, q .next, q .size, r .next, r .size, s .next, s .size, entry .pre .0, entry .pre .1)))
+    (omega (
+      arith,
+      put-all-told .next,
+      put-all-told .size,
+      put-all2-told .next,
+      put-all2-told .size,
+      put-all3-told .next,
+      put-all3-told .size,
+      put-all4-told .next,
+      put-all4-told .size,
+      entry .pre .0,
+      entry .pre .1,
+    )))
 
 returns : tie.Need-returns
 returns c =
@@ -66,12 +88,13 @@ returns c =
     let at-put-all2 = at-put-all3 .before .before .before in
     let at-put-all = at-put-all2 .before .before .before .before in
     let entry = at-put-all .before .before .before .before .before .before in
-    let p = at-put-all .put-all .ensures in
-    let q = at-put-all2 .put-all2 .ensures in
-    let r = at-put-all3 .put-all3 .ensures in
-    let s = at-put-all4 .put-all4 .ensures in
-    let all = wrote-then (wrote-then (wrote-then p q) r) s in
-    let front = written-front all (omega (arith, all .next, p .next, q .next, r .next, s .next, entry .pre .0, entry .pre .1)) in
+    let put-all-told = at-put-all .put-all .ensures in
+    let put-all2-told = at-put-all2 .put-all2 .ensures in
+    let put-all3-told = at-put-all3 .put-all3 .ensures in
+    let put-all4-told = at-put-all4 .put-all4 .ensures in
+    let all = wrote-then (wrote-then (wrote-then put-all-told put-all2-told) put-all3-told) put-all4-told in
+    let front = written-front all
+    (omega (arith, all .next, put-all-told .next, put-all2-told .next, put-all3-told .next, put-all4-told .next, entry .pre .0, entry .pre .1)) in
     rw front at (c .compared .ensures)
 
 pub compared-all-spec : {M : Type 1} → statement M

@@ -8,8 +8,9 @@ returns : tie.Need-returns
 returns c =
     let at-edited = c .before .before .before .before .before .before .before .before .before in
     let entry = at-edited .before .before .before .before .before .before .before .before .before in
-    let a = entry .args in
-    edited-compared (a .k) (a .points .now) (a .text .now) (a .folds .now) (a .stored .now) (at-edited .edited .ensures) (c .compared-all .ensures)
+    let given = entry .args in
+    edited-compared (given .k) (given .points .now) (given .text .now) (given .folds .now) (given .stored .now) (at-edited .edited .ensures)
+    (c .compared-all .ensures)
 
 pub edit-into-spec : {M : Type 1} → statement M
 edit-into-spec = tie.close (tie.spec (λ c κs. search needs) (λ c κs. search needs) (λ c. search needs) (λ c. search needs) returns)

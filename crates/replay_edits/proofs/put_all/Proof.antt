@@ -21,8 +21,8 @@ loop-holds c = (omega arith, rw add-zero (wrote-none _ _))
 
 loop-again : tie.Need-loop-again Inv-loop μ-loop
 loop-again c =
-    let l = c .before .before .loop in
-    (omega arith, wrote-byte (c .before .before .before .args .s .now) l.i (l.inv .1) (c .before .loop-test .taken))
+    let at-loop = c .before .before .loop in
+    (omega arith, wrote-byte (c .before .before .before .args .s .now) at-loop.i (at-loop.inv .1) (c .before .loop-test .taken))
 
 returns : tie.Need-returns Inv-loop μ-loop
 returns c = wrote-bytes (c .before .before .args .s .now) (c .before .loop .i) (c .before .loop .inv .1) (c .loop-test .left)

@@ -34,7 +34,9 @@ lent c =
     sym (length-take-le _ _ (omega (arith, narrowed .narrow .ensures .same, narrowed .before .before .before .if1 .left)))
 
 lent-2 : tie.Need-slice-aggregate-read-into-2
-lent-2 c = sym (length-take-le _ (replicate 771 filler) (c .before .before .before .before .before .before .if2 .left))
+lent-2 c =
+    let at-if2 = c .before .before .before .before .before .before in
+    sym (length-take-le _ (replicate 771 filler) (at-if2 .if2 .left))
 
 returns-4 : tie.Need-returns-4
 unfolding readVerdict
@@ -42,13 +44,13 @@ returns-4 c =
     let good = c .before .before .before .before in
     let narrowed = good .before .before in
     let roomy = narrowed .before .before in
-    let k = roomy .before .before .before .before .before .before .args .k in
+    let given-k = roomy .before .before .before .before .before .before .args .k in
     let is-true = not-false _ (good .if3 .left) in
     rw (
       le-leb _ 3072 (roomy .before .if1 .left),
       le-leb _ 771 (roomy .if2 .left),
       sym (narrowed .narrow .ensures .told) ∙ is-true,
-      ← take-replicate (k .a) 771 filler (roomy .if2 .left),
+      ← take-replicate (given-k .a) 771 filler (roomy .if2 .left),
     )
     (rw (narrowed .narrow .ensures .front is-true) at (c .before .read-into .ensures))
 

@@ -22,15 +22,15 @@ lent-2 c = sym (length-take-le _ (replicate 2560 0) (c .before .before .if1 .lef
 -- both have as many places
 write-into-requires : tie.Need-write-into-requires
 write-into-requires c κs =
-    let h = c .before .before .if1 .left in
-    length-take-le _ (replicate 2560 0) h ∙ sym (length-take-le _ (replicate 2560 165) h)
+    let left = c .before .before .if1 .left in
+    length-take-le _ (replicate 2560 0) left ∙ sym (length-take-le _ (replicate 2560 165) left)
 
 returns-2 : tie.Need-returns-2
 unfolding writeVerdict
 returns-2 c =
     let roomy = c .before .before .before .before .before in
-    let k = roomy .before .before .before .before .before .args .k in
-    rw (le-leb _ 2560 (roomy .if1 .left), ← take-replicate (k .a) 2560 165 (roomy .if1 .left)) (c .before .before .write-into .ensures)
+    let given-k = roomy .before .before .before .before .before .args .k in
+    rw (le-leb _ 2560 (roomy .if1 .left), ← take-replicate (given-k .a) 2560 165 (roomy .if1 .left)) (c .before .before .write-into .ensures)
 
 pub folds-write-spec : {M : Type 1} → statement M
 folds-write-spec =

@@ -7,9 +7,10 @@ use Rattle.replay_fold_file.proofs.read_into.Tie as tie
 returns : tie.Need-returns
 returns c =
     let answered = c .before .before .before .before in
-    let a = answered .before .before .before .before .before .before .before .args in
-    let e = answered .folds-read .ensures in
-    loaded-compared (a .text .now) (a .file .now) (a .folds .now) (a .stored .now) (e .0) (rw (e .1) at (c .compared-two .ensures))
+    let given = answered .before .before .before .before .before .before .before .args in
+    let folds-read-told = answered .folds-read .ensures in
+    loaded-compared (given .text .now) (given .file .now) (given .folds .now) (given .stored .now) (folds-read-told .0)
+    (rw (folds-read-told .1) at (c .compared-two .ensures))
 
 pub read-into-spec : {M : Type 1} → statement M
 read-into-spec =

@@ -9,9 +9,10 @@ returns : tie.Need-returns
 returns c =
     let widened = c .before .before .before .before in
     let answered = widened .before .before .before .before .before in
-    let a = answered .before .before .before .before .before .before .before .before .args in
-    let e = answered .folds-write .ensures in
-    written-compared (a .text .now) (a .folds .now) (a .file .now) (a .stored .now) (e .0) (rw (widened .widen .ensures ∙ e .1) at (c .compared-two .ensures))
+    let given = answered .before .before .before .before .before .before .before .before .args in
+    let folds-write-told = answered .folds-write .ensures in
+    written-compared (given .text .now) (given .folds .now) (given .file .now) (given .stored .now) (folds-write-told .0)
+    (rw (widened .widen .ensures ∙ folds-write-told .1) at (c .compared-two .ensures))
 
 pub write-into-spec : {M : Type 1} → statement M
 write-into-spec =

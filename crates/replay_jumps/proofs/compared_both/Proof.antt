@@ -13,19 +13,19 @@ lent c =
     let at-put-all2 = c .before .before in
     let at-put-all = at-put-all2 .before .before .before in
     let entry = at-put-all .before .before .before .before .before in
-    let p = at-put-all .put-all .ensures in
-    let q = at-put-all2 .put-all2 .ensures in
-    sym (length-take-le _ _ (omega (arith, p .next, p .size, q .next, q .size, entry .pre)))
+    let put-all-told = at-put-all .put-all .ensures in
+    let put-all2-told = at-put-all2 .put-all2 .ensures in
+    sym (length-take-le _ _ (omega (arith, put-all-told .next, put-all-told .size, put-all2-told .next, put-all2-told .size, entry .pre)))
 
 returns : tie.Need-returns
 returns c =
     let at-put-all2 = c .before .before .before in
     let at-put-all = at-put-all2 .before .before .before in
     let entry = at-put-all .before .before .before .before .before in
-    let p = at-put-all .put-all .ensures in
-    let q = at-put-all2 .put-all2 .ensures in
-    let all = wrote-then p q in
-    let front = written-front all (omega (arith, all .next, p .next, q .next, entry .pre)) in
+    let put-all-told = at-put-all .put-all .ensures in
+    let put-all2-told = at-put-all2 .put-all2 .ensures in
+    let all = wrote-then put-all-told put-all2-told in
+    let front = written-front all (omega (arith, all .next, put-all-told .next, put-all2-told .next, entry .pre)) in
     rw front at (c .compared .ensures)
 
 pub compared-both-spec : {M : Type 1} → statement M

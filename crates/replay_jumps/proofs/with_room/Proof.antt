@@ -24,8 +24,8 @@ returns-2 : tie.Need-returns-2
 unfolding roomVerdict
 returns-2 c =
     let fit = c .before .before .before in
-    let k = fit .before .before .before .before .before .before .before .before .args .k in
-    rw (le-leb _ 64 (fit .if1 .left), ← take-replicate (k .g) 64 filler (fit .if1 .left)) (c .before .jumped-into .ensures)
+    let given-k = fit .before .before .before .before .before .before .before .before .args .k in
+    rw (le-leb _ 64 (fit .if1 .left), ← take-replicate (given-k .g) 64 filler (fit .if1 .left)) (c .before .jumped-into .ensures)
 
 pub with-room-spec : {M : Type 1} → statement M
 with-room-spec = tie.close (tie.spec (λ c. search needs) returns (λ c. search needs) lent room returns-2)

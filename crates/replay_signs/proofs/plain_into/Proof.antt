@@ -9,10 +9,10 @@ use Rattle.replay_signs.proofs.plain_into.Tie as tie
 returns : tie.Need-returns
 unfolding plainInto
 returns c =
-    let b = c .before .before .before .before in
-    let a = b .before .before .before .before .before .before .args in
-    let e = b .without-plus .ensures in
-    rw (← e .1) (wrapped-compared (plainTold (a .written .now) (a .list .now)) _ _ (e .0) (c .compared-two .ensures))
+    let at-without-plus = c .before .before .before .before in
+    let given = at-without-plus .before .before .before .before .before .before .args in
+    let without-plus-told = at-without-plus .without-plus .ensures in
+    rw (← without-plus-told .1) (wrapped-compared (plainTold (given .written .now) (given .list .now)) _ _ (without-plus-told .0) (c .compared-two .ensures))
 
 pub plain-into-spec : {M : Type 1} → statement M
 plain-into-spec =

@@ -8,14 +8,14 @@ use Rattle.replay_vim.proofs.vim_list.Tie as tie
 
 places : tie.Need-slice-aggregate-compared-two
 places c =
-    let a = c .before .before .before .before .before .args in
-    let k = a .k in
-    places-count 1 (c .before .vim-list .ensures) (placed-sized (vimBy (k .op) (k .a) (a .list .now)))
+    let given = c .before .before .before .before .before .args in
+    let given-k = given .k in
+    places-count 1 (c .before .vim-list .ensures) (placed-sized (vimBy (given-k .op) (given-k .a) (given .list .now)))
 
 returns : tie.Need-returns
 returns c =
-    let a = c .before .before .before .before .before .before .args in
-    list-compared (a .k) (a .list .now) (a .stored .now) (c .before .before .vim-list .ensures) (c .compared-two .ensures)
+    let given = c .before .before .before .before .before .before .args in
+    list-compared (given .k) (given .list .now) (given .stored .now) (c .before .before .vim-list .ensures) (c .compared-two .ensures)
 
 pub vim-list-spec : {M : Type 1} → statement M
 vim-list-spec = tie.close (tie.spec (λ c κs. search needs) (λ c. search needs) (λ c. search needs) places (λ c κs. search needs) returns)

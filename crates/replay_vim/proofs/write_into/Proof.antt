@@ -7,9 +7,9 @@ use Rattle.replay_vim.proofs.write_into.Tie as tie
 returns : tie.Need-returns
 returns c =
     let answered = c .before .before .before .before in
-    let a = answered .before .before .before .before .before .before .args in
-    let e = answered .vim-write .ensures in
-    written-compared (a .list .now) (a .written .now) (a .stored .now) (e .0) (rw (e .1) at (c .compared-three .ensures))
+    let given = answered .before .before .before .before .before .before .args in
+    let vim-write-told = answered .vim-write .ensures in
+    written-compared (given .list .now) (given .written .now) (given .stored .now) (vim-write-told .0) (rw (vim-write-told .1) at (c .compared-three .ensures))
 
 pub write-into-spec : {M : Type 1} → statement M
 write-into-spec =

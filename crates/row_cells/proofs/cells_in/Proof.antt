@@ -20,9 +20,9 @@ loop-holds c = record { inside = omega arith; small = omega arith; rest = omega 
 
 loop-again : tie.Need-loop-again Inv-loop μ-loop
 loop-again c =
-    let l = c .before .before in
-    let k = c .cells-of .ensures in
-    cells-next (l .before .loop .inv) (l .loop-test .taken) (k .0) (k .1)
+    let at-loop-test = c .before .before in
+    let cells-of-told = c .cells-of .ensures in
+    cells-next (at-loop-test .before .loop .inv) (at-loop-test .loop-test .taken) (cells-of-told .0) (cells-of-told .1)
 
 returns : tie.Need-returns Inv-loop μ-loop
 returns c = cells-end (c .before .loop .inv) (c .loop-test .left)

@@ -13,8 +13,8 @@ returns c = (rw (← c .before .width-in .ensures, c .if1 .taken), omega arith)
 returns-2 : tie.Need-returns-2
 returns-2 c =
     let is = c .before .width-in .ensures in
-    let a = c .before .before .before .before .args in
-    let most = width-most (a .zeros .now) (a .doubles .now) (a .x) in
+    let given = c .before .before .before .before .args in
+    let most = width-most (given .zeros .now) (given .doubles .now) (given .x) in
     (rw (← is) (sym (max-eq-right (omega arith))), omega arith)
 
 pub cells-of-spec : {M : Type 1} → statement M

@@ -20,13 +20,13 @@ loop-holds c = record { inside = omega arith; rest = omega arith }
 
 returns : tie.Need-returns Inv-loop μ-loop
 returns c =
-    let l = c .before .before .before in
-    (fits-here (l .before .loop .inv) (l .loop-test .taken) (c .before .cells-of .ensures .0) (c .if1 .taken), omega arith)
+    let at-loop-test = c .before .before .before in
+    (fits-here (at-loop-test .before .loop .inv) (at-loop-test .loop-test .taken) (c .before .cells-of .ensures .0) (c .if1 .taken), omega arith)
 
 loop-again : tie.Need-loop-again Inv-loop μ-loop
 loop-again c =
-    let l = c .before .before .before in
-    fits-next (l .before .loop .inv) (l .loop-test .taken) (c .before .cells-of .ensures .0) (c .if1 .left)
+    let at-loop-test = c .before .before .before in
+    fits-next (at-loop-test .before .loop .inv) (at-loop-test .loop-test .taken) (c .before .cells-of .ensures .0) (c .if1 .left)
 
 returns-2 : tie.Need-returns-2 Inv-loop μ-loop
 returns-2 c = (fits-end (c .before .loop .inv) (c .loop-test .left), omega arith)

@@ -19,14 +19,14 @@ loop-holds c = char-start _ _ _ _
 
 returns : tie.Need-returns Inv-loop μ-loop
 returns c =
-    let l = c .before .before .before in
-    char-stop (l .before .loop .inv) (l .loop-test .taken) (c .before .cell-width .ensures .0) (c .if1 .taken)
+    let at-loop-test = c .before .before .before in
+    char-stop (at-loop-test .before .loop .inv) (at-loop-test .loop-test .taken) (c .before .cell-width .ensures .0) (c .if1 .taken)
 
 loop-again : tie.Need-loop-again Inv-loop μ-loop
 loop-again c =
-    let l = c .before .before .before in
-    let w = c .before .cell-width .ensures in
-    char-next (l .before .loop .inv) (l .loop-test .taken) (w .0) (w .1) (c .if1 .left)
+    let at-loop-test = c .before .before .before in
+    let cell-width-told = c .before .cell-width .ensures in
+    char-next (at-loop-test .before .loop .inv) (at-loop-test .loop-test .taken) (cell-width-told .0) (cell-width-told .1) (c .if1 .left)
 
 returns-2 : tie.Need-returns-2 Inv-loop μ-loop
 returns-2 c = char-end (c .before .loop .inv) (c .loop-test .left)

@@ -10,25 +10,25 @@ returns c = answer-refused _ (c .before .refused .ensures) (c .if1 .taken)
 
 narrow-requires : tie.Need-narrow-column-requires
 narrow-requires c κs =
-    let f = c .before .before in
-    let given = f .before .refused .ensures in
-    (brief _ _ given (f .if1 .left), near _ _ given (f .if1 .left))
+    let at-if1 = c .before .before in
+    let given = at-if1 .before .refused .ensures in
+    (brief _ _ given (at-if1 .if1 .left), near _ _ given (at-if1 .if1 .left))
 
 wide-requires : tie.Need-wide-column-requires
 wide-requires c κs =
-    let f = c .before .before in
-    let given = f .before .refused .ensures in
-    (brief _ _ given (f .if1 .left), near _ _ given (f .if1 .left))
+    let at-if1 = c .before .before in
+    let given = at-if1 .before .refused .ensures in
+    (brief _ _ given (at-if1 .if1 .left), near _ _ given (at-if1 .if1 .left))
 
 narrow : tie.Need-returns-2
 narrow c =
-    let f = c .before .before .before in
-    rw (c .before .enum-told .given .1) (answer-at (f .before .refused .ensures) (f .if1 .left) (c .narrow-column .ensures))
+    let at-if1 = c .before .before .before in
+    rw (c .before .enum-told .given .1) (answer-at (at-if1 .before .refused .ensures) (at-if1 .if1 .left) (c .narrow-column .ensures))
 
 wide : tie.Need-returns-3
 wide c =
-    let f = c .before .before .before in
-    rw (c .before .enum-told2 .given .1) (answer-at (f .before .refused .ensures) (f .if1 .left) (c .wide-column .ensures))
+    let at-if1 = c .before .before .before in
+    rw (c .before .enum-told2 .given .1) (answer-at (at-if1 .before .refused .ensures) (at-if1 .if1 .left) (c .wide-column .ensures))
 
 pub column-spec : {M : Type 1} → statement M
 column-spec =

@@ -8,26 +8,26 @@ use Rattle.row_columns.proofs.cursor_at.Tie as tie
 
 returns : tie.Need-returns
 returns c =
-    let a = c .before .before .before .before .before .args in
-    cursor-past (widthBy (a .zeros .now) (a .doubles .now)) _ _ _ (c .before .if1 .taken) (c .visual-at .ensures)
+    let given = c .before .before .before .before .before .args in
+    cursor-past (widthBy (given .zeros .now) (given .doubles .now)) _ _ _ (c .before .if1 .taken) (c .visual-at .ensures)
 
 sub-result : tie.Need-sub-result
 sub-result c =
-    let s = c .before .before .before .before .before .before .before in
-    let a = s .args in
-    let ends = tab-ends (widthBy (a .zeros .now) (a .doubles .now)) (a .tab) (a .row .now) (a .col) (c .before .before .before .if1 .left)
-    (s .pre .tables .stops) (c .before .if2 .taken) in
+    let at-start = c .before .before .before .before .before .before .before in
+    let given = at-start .args in
+    let ends = tab-ends (widthBy (given .zeros .now) (given .doubles .now)) (given .tab) (given .row .now) (given .col) (c .before .before .before .if1 .left)
+    (at-start .pre .tables .stops) (c .before .if2 .taken) in
     omega (arith, c .visual-at2 .ensures, ends)
 
 returns-2 : tie.Need-returns-2
 returns-2 c =
-    let a = c .before .before .before .before .before .before .before .args in
-    cursor-tab (widthBy (a .zeros .now) (a .doubles .now)) _ _ _ (c .before .if2 .taken) (c .visual-at2 .ensures)
+    let given = c .before .before .before .before .before .before .before .args in
+    cursor-tab (widthBy (given .zeros .now) (given .doubles .now)) _ _ _ (c .before .if2 .taken) (c .visual-at2 .ensures)
 
 returns-3 : tie.Need-returns-3
 returns-3 c =
-    let a = c .before .before .before .before .before .before .before .args in
-    cursor-other (widthBy (a .zeros .now) (a .doubles .now)) _ _ _ (c .before .if2 .left) (c .visual-at3 .ensures)
+    let given = c .before .before .before .before .before .before .before .args in
+    cursor-other (widthBy (given .zeros .now) (given .doubles .now)) _ _ _ (c .before .if2 .left) (c .visual-at3 .ensures)
 
 pub cursor-at-spec : {M : Type 1} → statement M
 cursor-at-spec =

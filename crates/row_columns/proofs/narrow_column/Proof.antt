@@ -16,8 +16,8 @@ column-in-requires c κs = (widths-lent Narrow refl refl, c .before .before .bef
 returns : tie.Need-returns
 unfolding zeroWidths doubleWidths doublesOf
 returns c =
-    let a = c .before .before .before .before .args in
-    by-width Narrow refl refl (λ (w : ℕ → ℕ). columnBy w (a .ask) (a .tabstop) (a .row .now) (a .n)) (c .column-in .ensures)
+    let given = c .before .before .before .before .args in
+    by-width Narrow refl refl (λ (w : ℕ → ℕ). columnBy w (given .ask) (given .tabstop) (given .row .now) (given .n)) (c .column-in .ensures)
 
 pub narrow-column-spec : {M : Type 1} → statement M
 narrow-column-spec = tie.close (tie.spec (λ c. search needs) (λ c. search needs) column-in-requires returns)

@@ -23,9 +23,9 @@ returns c = visual-stop (c .before .before .loop .inv .0) _ (c .if1 .taken)
 
 loop-again : tie.Need-loop-again Inv-loop μ-loop
 loop-again c =
-    let l = c .before .before .before in
-    let w = c .cell-width .ensures in
-    (visual-on (l .before .loop .inv .0) (l .loop-test .taken) (w .0) (w .1), omega arith)
+    let at-loop-test = c .before .before .before in
+    let cell-width-told = c .cell-width .ensures in
+    (visual-on (at-loop-test .before .loop .inv .0) (at-loop-test .loop-test .taken) (cell-width-told .0) (cell-width-told .1), omega arith)
 
 returns-2 : tie.Need-returns-2 Inv-loop μ-loop
 returns-2 c = visual-end (c .before .loop .inv .0) _ (c .loop-test .left) (c .before .loop .inv .1)

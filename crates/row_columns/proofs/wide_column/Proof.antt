@@ -17,8 +17,8 @@ column-in-requires c κs = (widths-lent Wide refl refl, c .before .before .befor
 returns : tie.Need-returns
 unfolding zeroWidths wideDoubles doublesOf
 returns c =
-    let a = c .before .before .before .before .args in
-    by-width Wide refl refl (λ (w : ℕ → ℕ). columnBy w (a .ask) (a .tabstop) (a .row .now) (a .n)) (c .column-in .ensures)
+    let given = c .before .before .before .before .args in
+    by-width Wide refl refl (λ (w : ℕ → ℕ). columnBy w (given .ask) (given .tabstop) (given .row .now) (given .n)) (c .column-in .ensures)
 
 pub wide-column-spec : {M : Type 1} → statement M
 wide-column-spec = tie.close (tie.spec (λ c. search needs) (λ c. search needs) column-in-requires returns)

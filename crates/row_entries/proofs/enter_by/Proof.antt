@@ -11,9 +11,9 @@ use Rattle.row_entries.proofs.enter_by.Tie as tie
 returns : tie.Need-returns
 returns c =
     let start = c .before .before .before .before .before in
-    let a = start .args in
-    by-refused (a .t .now) (a .p) _ _ _ (c .refused .ensures)
-    (refusal-row (a .t .now) (a .p) (start .pre .good) (omega (arith, c .before .if1 .taken, start .pre .all-rows))) (λ z. absurd (omega (arith, z)))
+    let given = start .args in
+    by-refused (given .t .now) (given .p) _ _ _ (c .refused .ensures)
+    (refusal-row (given .t .now) (given .p) (start .pre .good) (omega (arith, c .before .if1 .taken, start .pre .all-rows))) (λ z. absurd (omega (arith, z)))
 
 -- the row has no such column
 returns-2 : tie.Need-returns-2
@@ -21,9 +21,9 @@ returns-2 c =
     let ended = c .before .before .before in
     let begun = ended .before in
     let start = begun .before .before .before .before .before in
-    let a = start .args in
-    by-refused (a .t .now) (a .p) _ _ _ (c .refused2 .ensures)
-    (refusal-col (a .t .now) (a .p) (start .pre .good) (omega (arith, begun .before .if1 .left, start .pre .all-rows))
+    let given = start .args in
+    by-refused (given .t .now) (given .p) _ _ _ (c .refused2 .ensures)
+    (refusal-col (given .t .now) (given .p) (start .pre .good) (omega (arith, begun .before .if1 .left, start .pre .all-rows))
     (omega (arith, c .before .if2 .taken, ended .end-of .ensures, begun .start-of .ensures))) (λ z. absurd (omega (arith, z)))
 
 returns-3 : tie.Need-returns-3
@@ -31,10 +31,10 @@ returns-3 c =
     let ended = c .before .before in
     let begun = ended .before in
     let start = begun .before .before .before .before .before in
-    let a = start .args in
-    by-none (a .t .now) (a .p) (refusalAt (a .t .now) (a .p)) _
+    let given = start .args in
+    by-none (given .t .now) (given .p) (refusalAt (given .t .now) (given .p)) _
     (λ i. record { refusal = 0; start = begun .start-of .ensures i; rows = start .pre .all-rows i; content = start .pre .count i })
-    (refusal-none (a .t .now) (a .p) (start .pre .good) (omega (arith, begun .before .if1 .left, start .pre .all-rows))
+    (refusal-none (given .t .now) (given .p) (start .pre .good) (omega (arith, begun .before .if1 .left, start .pre .all-rows))
     (omega (arith, c .if2 .left, ended .end-of .ensures, begun .start-of .ensures)))
 
 pub enter-by-spec : {M : Type 1} → statement M

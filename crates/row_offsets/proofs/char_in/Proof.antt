@@ -8,27 +8,37 @@ use Rattle.row_offsets.proofs.char_in.Tie as tie
 
 cast-result : tie.Need-cast-result
 cast-result c =
-    let a = c .before .before .before .before .before .before .args in
-    let k = c .before in
-    let w = widthBy (a .zeros .now) (a .doubles .now) in
-    omega (arith, offset-inside w (a .row .now) (a .start) (a .end) (a .offset) (k .before .part-of .ensures) (k .fitting .ensures .0) (c .if1 .taken) .1)
+    let given = c .before .before .before .before .before .before .args in
+    let at-fitting = c .before in
+    let width = widthBy (given .zeros .now) (given .doubles .now) in
+    omega (
+      arith,
+      offset-inside width (given .row .now) (given .start) (given .end) (given .offset) (at-fitting .before .part-of .ensures)
+          (at-fitting .fitting .ensures .0) (c .if1 .taken) .1,
+    )
 
 add-result : tie.Need-add-result
 add-result c =
-    let a = c .before .before .before .before .before .before .args in
-    let k = c .before in
-    let w = widthBy (a .zeros .now) (a .doubles .now) in
-    omega (arith, offset-inside w (a .row .now) (a .start) (a .end) (a .offset) (k .before .part-of .ensures) (k .fitting .ensures .0) (c .if1 .taken) .1)
+    let given = c .before .before .before .before .before .before .args in
+    let at-fitting = c .before in
+    let width = widthBy (given .zeros .now) (given .doubles .now) in
+    omega (
+      arith,
+      offset-inside width (given .row .now) (given .start) (given .end) (given .offset) (at-fitting .before .part-of .ensures)
+          (at-fitting .fitting .ensures .0) (c .if1 .taken) .1,
+    )
 
 returns : tie.Need-returns
 returns c =
-    let a = c .before .before .before .before .before .before .args in
-    offset-inside (widthBy (a .zeros .now) (a .doubles .now)) _ _ _ _ (c .before .before .part-of .ensures) (c .before .fitting .ensures .0) (c .if1 .taken) .0
+    let given = c .before .before .before .before .before .before .args in
+    offset-inside (widthBy (given .zeros .now) (given .doubles .now)) _ _ _ _ (c .before .before .part-of .ensures) (c .before .fitting .ensures .0)
+    (c .if1 .taken) .0
 
 returns-2 : tie.Need-returns-2
 returns-2 c =
-    let a = c .before .before .before .before .before .before .args in
-    offset-past (widthBy (a .zeros .now) (a .doubles .now)) _ _ _ _ (c .before .before .part-of .ensures) (c .before .fitting .ensures .0) (c .if1 .left)
+    let given = c .before .before .before .before .before .before .args in
+    offset-past (widthBy (given .zeros .now) (given .doubles .now)) _ _ _ _ (c .before .before .part-of .ensures) (c .before .fitting .ensures .0)
+    (c .if1 .left)
 
 pub char-in-spec : {M : Type 1} → statement M
 char-in-spec =

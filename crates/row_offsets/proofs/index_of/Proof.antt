@@ -19,13 +19,13 @@ loop-holds c = record { inside = omega arith; rest = omega arith }
 
 returns : tie.Need-returns Inv-loop μ-loop
 returns c =
-    let l = c .before .before .before .before in
-    pairs-stop (l .before .loop .inv) (l .loop-test .taken) (sym (c .before .holds .ensures) ∙ c .if1 .taken)
+    let at-loop-test = c .before .before .before .before in
+    pairs-stop (at-loop-test .before .loop .inv) (at-loop-test .loop-test .taken) (sym (c .before .holds .ensures) ∙ c .if1 .taken)
 
 loop-again : tie.Need-loop-again Inv-loop μ-loop
 loop-again c =
-    let l = c .before .before .before .before in
-    pairs-next (l .before .loop .inv) (l .loop-test .taken) (sym (c .before .holds .ensures) ∙ c .if1 .left)
+    let at-loop-test = c .before .before .before .before in
+    pairs-next (at-loop-test .before .loop .inv) (at-loop-test .loop-test .taken) (sym (c .before .holds .ensures) ∙ c .if1 .left)
 
 returns-2 : tie.Need-returns-2 Inv-loop μ-loop
 returns-2 c = omega (arith, pairs-end (c .before .before .loop .inv) (c .before .loop-test .left))

@@ -16,8 +16,8 @@ offset-in-requires c κs = (widths-lent Narrow refl refl, c .before .before .bef
 returns : tie.Need-returns
 unfolding zeroWidths doubleWidths doublesOf
 returns c =
-    let a = c .before .before .before .before .args in
-    by-width Narrow refl refl (λ (w : ℕ → ℕ). offsetBy w (a .ask) (a .row .now) (a .start) (a .end) (a .n)) (c .offset-in .ensures)
+    let given = c .before .before .before .before .args in
+    by-width Narrow refl refl (λ (w : ℕ → ℕ). offsetBy w (given .ask) (given .row .now) (given .start) (given .end) (given .n)) (c .offset-in .ensures)
 
 pub narrow-offset-spec : {M : Type 1} → statement M
 narrow-offset-spec = tie.close (tie.spec (λ c. search needs) (λ c. search needs) offset-in-requires returns)

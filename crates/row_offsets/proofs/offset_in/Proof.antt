@@ -11,14 +11,14 @@ returns c = rw (c .before .enum-told .given .1) (c .char-in .ensures)
 cells-in-requires : tie.Need-cells-in-requires
 cells-in-requires c κs =
     let start = c .before .before .before .before .before .before in
-    let a = start .args in
-    let most = part-most (a .row .now) (a .start) (a .n) .1 in
+    let given = start .args in
+    let most = part-most (given .row .now) (given .start) (given .n) .1 in
     (start .pre .0, rw (c .part-of .ensures) (omega (arith, start .pre .1)))
 
 returns-2 : tie.Need-returns-2
 returns-2 c =
-    let s = c .before in
-    rw (s .before .enum-told2 .given .1, ← s .part-of .ensures) (c .cells-in .ensures)
+    let at-part-of = c .before in
+    rw (at-part-of .before .enum-told2 .given .1, ← at-part-of .part-of .ensures) (c .cells-in .ensures)
 
 pub offset-in-spec : {M : Type 1} → statement M
 offset-in-spec =

@@ -9,20 +9,20 @@ returns : tie.Need-returns
 returns c = answer-refused _ (c .before .row-refusal .ensures) (c .if1 .taken)
 
 narrow-requires : tie.Need-narrow-offset-requires
-narrow-requires c κs = let f = c .before .before in accepted-brief _ (sym (f .before .row-refusal .ensures) ∙ f .if1 .left)
+narrow-requires c κs = let at-if1 = c .before .before in accepted-brief _ (sym (at-if1 .before .row-refusal .ensures) ∙ at-if1 .if1 .left)
 
 wide-requires : tie.Need-wide-offset-requires
-wide-requires c κs = let f = c .before .before in accepted-brief _ (sym (f .before .row-refusal .ensures) ∙ f .if1 .left)
+wide-requires c κs = let at-if1 = c .before .before in accepted-brief _ (sym (at-if1 .before .row-refusal .ensures) ∙ at-if1 .if1 .left)
 
 narrow : tie.Need-returns-2
 narrow c =
-    let f = c .before .before .before in
-    rw (c .before .enum-told .given .1) (answer-at (f .before .row-refusal .ensures) (f .if1 .left) (c .narrow-offset .ensures))
+    let at-if1 = c .before .before .before in
+    rw (c .before .enum-told .given .1) (answer-at (at-if1 .before .row-refusal .ensures) (at-if1 .if1 .left) (c .narrow-offset .ensures))
 
 wide : tie.Need-returns-3
 wide c =
-    let f = c .before .before .before in
-    rw (c .before .enum-told2 .given .1) (answer-at (f .before .row-refusal .ensures) (f .if1 .left) (c .wide-offset .ensures))
+    let at-if1 = c .before .before .before in
+    rw (c .before .enum-told2 .given .1) (answer-at (at-if1 .before .row-refusal .ensures) (at-if1 .if1 .left) (c .wide-offset .ensures))
 
 pub offset-of-spec : {M : Type 1} → statement M
 offset-of-spec =

@@ -17,8 +17,8 @@ offset-in-requires c κs = (widths-lent Wide refl refl, c .before .before .befor
 returns : tie.Need-returns
 unfolding zeroWidths wideDoubles doublesOf
 returns c =
-    let a = c .before .before .before .before .args in
-    by-width Wide refl refl (λ (w : ℕ → ℕ). offsetBy w (a .ask) (a .row .now) (a .start) (a .end) (a .n)) (c .offset-in .ensures)
+    let given = c .before .before .before .before .args in
+    by-width Wide refl refl (λ (w : ℕ → ℕ). offsetBy w (given .ask) (given .row .now) (given .start) (given .end) (given .n)) (c .offset-in .ensures)
 
 pub wide-offset-spec : {M : Type 1} → statement M
 wide-offset-spec = tie.close (tie.spec (λ c. search needs) (λ c. search needs) offset-in-requires returns)

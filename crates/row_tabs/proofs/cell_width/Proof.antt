@@ -10,15 +10,15 @@ use Rattle.row_tabs.proofs.cell_width.Tie as tie
 
 returns : tie.Need-returns
 returns c =
-    let a = c .before .before .before .before .args in
-    (c .tab-width .ensures .0 ∙ sym (cells-tab (widthBy (a .zeros .now) (a .doubles .now)) _ _ _ (c .before .if1 .taken)), c .tab-width .ensures .1)
+    let given = c .before .before .before .before .args in
+    (c .tab-width .ensures .0 ∙ sym (cells-tab (widthBy (given .zeros .now) (given .doubles .now)) _ _ _ (c .before .if1 .taken)), c .tab-width .ensures .1)
 
 returns-2 : tie.Need-returns-2
 returns-2 c =
-    let a = c .before .before .before .before .args in
-    let w = widthBy (a .zeros .now) (a .doubles .now) in
+    let given = c .before .before .before .before .args in
+    let width = widthBy (given .zeros .now) (given .doubles .now) in
     let is = c .width-in .ensures in
-    (is ∙ sym (cells-other w _ _ _ (c .before .if1 .left)), rw is (omega (arith, width-most (a .zeros .now) (a .doubles .now) (a .x))))
+    (is ∙ sym (cells-other width _ _ _ (c .before .if1 .left)), rw is (omega (arith, width-most (given .zeros .now) (given .doubles .now) (given .x))))
 
 pub cell-width-spec : {M : Type 1} → statement M
 cell-width-spec = tie.close (tie.spec (λ c κs. search needs) returns (λ c κs. search needs) returns-2)

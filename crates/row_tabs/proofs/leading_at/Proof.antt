@@ -20,19 +20,19 @@ loop-holds c = record { inside = omega arith; fits = omega arith; rest = refl }
 
 loop-again : tie.Need-loop-again Inv-loop μ-loop
 loop-again c =
-    let l = c .before .before in
-    leading-on-space (l .before .loop .inv) (l .loop-test .taken) (c .if1 .taken)
+    let at-loop-test = c .before .before in
+    leading-on-space (at-loop-test .before .loop .inv) (at-loop-test .loop-test .taken) (c .if1 .taken)
 
 returns : tie.Need-returns Inv-loop μ-loop
 returns c =
-    let l = c .before .before .before in
-    leading-stop (l .before .loop .inv) (l .loop-test .taken) (c .before .if1 .left) (c .if2 .taken)
+    let at-loop-test = c .before .before .before in
+    leading-stop (at-loop-test .before .loop .inv) (at-loop-test .loop-test .taken) (c .before .if1 .left) (c .if2 .taken)
 
 loop-again-2 : tie.Need-loop-again-2 Inv-loop μ-loop
 loop-again-2 c =
-    let l = c .before .before .before .before in
-    let w = c .tab-width .ensures in
-    leading-on-tab (l .before .loop .inv) (l .loop-test .taken) (c .before .if2 .left) (w .0) (w .1)
+    let at-loop-test = c .before .before .before .before in
+    let tab-width-told = c .tab-width .ensures in
+    leading-on-tab (at-loop-test .before .loop .inv) (at-loop-test .loop-test .taken) (c .before .if2 .left) (tab-width-told .0) (tab-width-told .1)
 
 returns-2 : tie.Need-returns-2 Inv-loop μ-loop
 returns-2 c = leading-end (c .before .loop .inv) (c .loop-test .left)

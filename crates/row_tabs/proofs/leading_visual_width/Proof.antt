@@ -13,15 +13,15 @@ returns c = answer-refused _ (c .before .refused .ensures) (c .if1 .taken)
 
 leading-at-requires : tie.Need-leading-at-requires
 leading-at-requires c κs =
-    let r = c .before .before .refused .ensures in
-    let n = c .before .if1 .left in
-    (brief _ _ r n, stops _ _ r n (c .stop-of .ensures))
+    let refused-told = c .before .before .refused .ensures in
+    let left = c .before .if1 .left in
+    (brief _ _ refused-told left, stops _ _ refused-told left (c .stop-of .ensures))
 
 returns-2 : tie.Need-returns-2
 returns-2 c =
-    let s = c .before in
-    answer-at (s .before .before .refused .ensures) (s .before .if1 .left)
-    (c .leading-at .ensures ∙ ap (λ (t : ℕ). leadingFrom t 0 (s .before .before .before .before .args .row .now)) (s .stop-of .ensures))
+    let at-stop-of = c .before in
+    answer-at (at-stop-of .before .before .refused .ensures) (at-stop-of .before .if1 .left)
+    (c .leading-at .ensures ∙ ap (λ (t : ℕ). leadingFrom t 0 (at-stop-of .before .before .before .before .args .row .now)) (at-stop-of .stop-of .ensures))
 
 pub leading-visual-width-spec : {M : Type 1} → statement M
 leading-visual-width-spec =

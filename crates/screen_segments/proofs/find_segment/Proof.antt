@@ -20,38 +20,42 @@ loop-holds c = seek-start _ _ _ _ _ _
 
 returns : tie.Need-returns Inv-loop μ-loop
 returns c =
-    let f = c .before in
-    let l = f .before .before in
-    let s = l .before .before .before .before .before .before in (
-      found-index (s .pre .1) (l .before .loop .inv) (l .loop-test .taken) (f .first-segment .ensures .0) (c .if1 .taken),
-      omega (arith, l .before .loop .inv .few),
+    let at-first-segment = c .before in
+    let at-loop-test = at-first-segment .before .before in
+    let at-start = at-loop-test .before .before .before .before .before .before in (
+      found-index (at-start .pre .1) (at-loop-test .before .loop .inv) (at-loop-test .loop-test .taken) (at-first-segment .first-segment .ensures .0)
+          (c .if1 .taken),
+      omega (arith, at-loop-test .before .loop .inv .few),
     )
 
 returns-2 : tie.Need-returns-2 Inv-loop μ-loop
 returns-2 c =
-    let f = c .before .before in
-    let l = f .before .before in
-    let s = l .before .before .before .before .before .before in (
-      found-col (s .pre .1) (l .before .loop .inv) (l .loop-test .taken) (f .first-segment .ensures .0) (c .if2 .taken),
-      omega (arith, l .before .loop .inv .few),
+    let at-first-segment = c .before .before in
+    let at-loop-test = at-first-segment .before .before in
+    let at-start = at-loop-test .before .before .before .before .before .before in (
+      found-col (at-start .pre .1) (at-loop-test .before .loop .inv) (at-loop-test .loop-test .taken) (at-first-segment .first-segment .ensures .0)
+          (c .if2 .taken),
+      omega (arith, at-loop-test .before .loop .inv .few),
     )
 
 returns-3 : tie.Need-returns-3 Inv-loop μ-loop
 returns-3 c =
-    let f = c .before .before .before in
-    let l = f .before .before in
-    let s = l .before .before .before .before .before .before in (
-      found-last (s .pre .1) (l .before .loop .inv) (l .loop-test .taken) (f .first-segment .ensures .0) (c .if3 .taken)
+    let at-first-segment = c .before .before .before in
+    let at-loop-test = at-first-segment .before .before in
+    let at-start = at-loop-test .before .before .before .before .before .before in (
+      found-last (at-start .pre .1) (at-loop-test .before .loop .inv) (at-loop-test .loop-test .taken) (at-first-segment .first-segment .ensures .0)
+          (c .if3 .taken)
           (omega (arith, c .before .if2 .left)),
-      omega (arith, l .before .loop .inv .few),
+      omega (arith, at-loop-test .before .loop .inv .few),
     )
 
 loop-again : tie.Need-loop-again Inv-loop μ-loop
 loop-again c =
-    let f = c .before .before .before in
-    let l = f .before .before in
-    let s = l .before .before .before .before .before .before in
-    seek-on (s .pre .1) (l .before .loop .inv) (l .loop-test .taken) (f .first-segment .ensures .0) (c .before .before .if1 .left)
+    let at-first-segment = c .before .before .before in
+    let at-loop-test = at-first-segment .before .before in
+    let at-start = at-loop-test .before .before .before .before .before .before in
+    seek-on (at-start .pre .1) (at-loop-test .before .loop .inv) (at-loop-test .loop-test .taken) (at-first-segment .first-segment .ensures .0)
+    (c .before .before .if1 .left)
     (omega (arith, c .before .if2 .left)) (c .if3 .left)
 
 -- the row is empty

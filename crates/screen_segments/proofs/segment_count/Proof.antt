@@ -8,10 +8,13 @@ use Rattle.screen_segments.proofs.segment_count.Tie as tie
 
 returns : tie.Need-returns
 returns c =
-    let f = c .before in
-    let a = f .before .before .before .before .before .args in
-    let w = widthBy (a .zeros .now) (a .doubles .now) in
-    (last-counts w (a .word) (a .width) (a .row .now) (f .find-segment .result) (f .find-segment .ensures .0), omega arith)
+    let at-find-segment = c .before in
+    let given = at-find-segment .before .before .before .before .before .args in
+    let width = widthBy (given .zeros .now) (given .doubles .now) in (
+      last-counts width (given .word) (given .width) (given .row .now) (at-find-segment .find-segment .result)
+          (at-find-segment .find-segment .ensures .0),
+      omega arith,
+    )
 
 pub segment-count-spec : {M : Type 1} → statement M
 segment-count-spec = tie.close (tie.spec (λ c κs. search needs) (λ c. search needs) returns)

@@ -20,29 +20,32 @@ loop-holds c = rw (c .at .ensures) (progress-start _ _ _)
 
 returns : tie.Need-returns Inv-loop μ-loop
 returns c =
-    let f = c .before .before .before in
-    let p = f .before .before .loop .inv in
-    progress-end p (commands-stop p (f .before .loop-test .taken) (f .find .ensures) (sym (c .before .is-stop .ensures) ∙ c .if1 .taken))
+    let at-find = c .before .before .before in
+    let invariant = at-find .before .before .loop .inv in
+    progress-end invariant
+    (commands-stop invariant (at-find .before .loop-test .taken) (at-find .find .ensures) (sym (c .before .is-stop .ensures) ∙ c .if1 .taken))
 
 -- there is room for the line
 put-line-requires : tie.Need-put-line-requires Inv-loop μ-loop
 put-line-requires c κs =
-    let i = c .before .before .before .before in
-    let f = i .before .before .before in
-    let s = sym (i .before .is-stop .ensures) ∙ i .if1 .left in
-    let r = progress-room (f .before .before .loop .inv) (f .before .loop-test .taken) (f .find .ensures) s (omega arith) in
+    let at-if1 = c .before .before .before .before in
+    let at-find = at-if1 .before .before .before in
+    let is-stop-so = sym (at-if1 .before .is-stop .ensures) ∙ at-if1 .if1 .left in
+    let by-progress-room = progress-room (at-find .before .before .loop .inv) (at-find .before .loop-test .taken) (at-find .find .ensures) is-stop-so
+    (omega arith) in
     rw (c .key .ensures, c .before .before .after .ensures, c .before .before .before .turn .ensures) (omega arith)
 
 loop-again : tie.Need-loop-again Inv-loop μ-loop
 loop-again c =
-    let w = c .before .before in
-    let t = w .before .before .before .before in
-    let i = t .before in
-    let f = i .before .before .before in
-    let s = sym (i .before .is-stop .ensures) ∙ i .if1 .left in
-    let v = rw (w .before .key .ensures, w .before .before .before .after .ensures, t .turn .ensures) at (w .put-line .ensures) in
-    rw (w .before .before .before .after .ensures, t .turn .ensures)
-    (progress-on (f .before .before .loop .inv) (f .before .loop-test .taken) (f .find .ensures) s v)
+    let at-put-line = c .before .before in
+    let at-turn = at-put-line .before .before .before .before in
+    let at-if1 = at-turn .before in
+    let at-find = at-if1 .before .before .before in
+    let is-stop-so = sym (at-if1 .before .is-stop .ensures) ∙ at-if1 .if1 .left in
+    let here = rw (at-put-line .before .key .ensures, at-put-line .before .before .before .after .ensures, at-turn .turn .ensures) at
+    (at-put-line .put-line .ensures) in
+    rw (at-put-line .before .before .before .after .ensures, at-turn .turn .ensures)
+    (progress-on (at-find .before .before .loop .inv) (at-find .before .loop-test .taken) (at-find .find .ensures) is-stop-so here)
 
 returns-2 : tie.Need-returns-2 Inv-loop μ-loop
 returns-2 c = progress-end (c .before .loop .inv) (commands-end _ _ (c .loop-test .left))

@@ -4,7 +4,9 @@ use Rattle.session.proofs.run.Statement.{statement}
 use Rattle.session.proofs.run.Tie as tie
 
 returns : tie.Need-returns
-returns c = rw (c .before .before .before .before .before .before .read-text .ensures .front) at (c .before .before .lines .ensures)
+returns c =
+    let at-read-text = c .before .before .before .before .before .before in
+    rw (at-read-text .read-text .ensures .front) at (c .before .before .lines .ensures)
 
 pub run-spec : {M : Type 1} → statement M
 run-spec =

@@ -8,20 +8,22 @@ use Rattle.session.proofs.session.Tie as tie
 
 run-requires : tie.Need-run-requires
 run-requires c κs =
-    let f = c .before .before in
-    (session-short _ (sym (f .from .given .1) ∙ f .before .before .begins .ensures), omega arith)
+    let at-from = c .before .before in
+    (session-short _ (sym (at-from .from .given .1) ∙ at-from .before .before .begins .ensures), omega arith)
 
 returns : tie.Need-returns
 returns c =
-    let f = c .before .before .before in
-    let input = f .before .before .before .before .args .input .now in
-    printed (session-runs input (sym (f .from .given .1) ∙ f .before .before .begins .ensures)) (omega (arith, session-fits input)) (c .run .ensures)
+    let at-from = c .before .before .before in
+    let input = at-from .before .before .before .before .args .input .now in
+    printed (session-runs input (sym (at-from .from .given .1) ∙ at-from .before .before .begins .ensures)) (omega (arith, session-fits input))
+    (c .run .ensures)
 
 returns-2 : tie.Need-returns-2
 returns-2 c =
-    let f = c .before .before in
-    let input = f .before .before .before .before .args .input .now in
-    printed (session-refused input (sym (f .enum-told .given .1) ∙ f .before .before .begins .ensures)) (omega (arith, session-fits input))
+    let at-enum-told = c .before .before in
+    let input = at-enum-told .before .before .before .before .args .input .now in
+    printed (session-refused input (sym (at-enum-told .enum-told .given .1) ∙ at-enum-told .before .before .begins .ensures))
+    (omega (arith, session-fits input))
     (c .refuse .ensures)
 
 pub session-spec : {M : Type 1} → statement M

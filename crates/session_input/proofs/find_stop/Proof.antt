@@ -19,13 +19,15 @@ loop-holds c = sought-start _
 
 returns : tie.Need-returns Inv-loop μ-loop
 returns c =
-    let l = c .before .before .before .before in
-    sought-here (l .before .loop .inv) (l .loop-test .taken) (c .before .before .before .find .ensures) (sym (c .before .is-stop .ensures) ∙ c .if1 .taken)
+    let at-loop-test = c .before .before .before .before in
+    sought-here (at-loop-test .before .loop .inv) (at-loop-test .loop-test .taken) (c .before .before .before .find .ensures)
+    (sym (c .before .is-stop .ensures) ∙ c .if1 .taken)
 
 loop-again : tie.Need-loop-again Inv-loop μ-loop
 loop-again c =
-    let l = c .before .before .before .before in
-    sought-on (l .before .loop .inv) (l .loop-test .taken) (c .before .before .before .find .ensures) (sym (c .before .is-stop .ensures) ∙ c .if1 .left)
+    let at-loop-test = c .before .before .before .before in
+    sought-on (at-loop-test .before .loop .inv) (at-loop-test .loop-test .taken) (c .before .before .before .find .ensures)
+    (sym (c .before .is-stop .ensures) ∙ c .if1 .left)
 
 returns-2 : tie.Need-returns-2 Inv-loop μ-loop
 returns-2 c = sought-end (c .before .loop .inv) (c .loop-test .left)

@@ -10,8 +10,8 @@ returns c = sym (count-none _ _ (c .before .find .ensures .at) (c .if1 .taken))
 
 returns-2 : tie.Need-returns-2
 returns-2 c =
-    let f = c .before .before .before .find .ensures in
-    c .digits .ensures ∙ sym (count-some _ _ (f .at) (f .within) (c .before .before .if1 .left))
+    let find-told = c .before .before .before .find .ensures in
+    c .digits .ensures ∙ sym (count-some _ _ (find-told .at) (find-told .within) (c .before .before .if1 .left))
 
 pub count-in-spec : {M : Type 1} → statement M
 count-in-spec =

@@ -28,41 +28,41 @@ loop-holds c = (omega arith, omega arith, refl)
 -- a byte below the digits, or above them
 returns-3 : tie.Need-returns-3 Inv-loop μ-loop
 returns-3 c =
-    let l = c .before .before .before .loop in
+    let at-loop = c .before .before .before .loop in
     sym
     (digits-of _ (omega arith) (omega arith)
-    ∙ l.inv .2
-    ∙ digits-low _ l.n l.i (c .before .before .loop-test .taken) (c .if3 .taken))
+    ∙ at-loop.inv .2
+    ∙ digits-low _ at-loop.n at-loop.i (c .before .before .loop-test .taken) (c .if3 .taken))
 
 returns-4 : tie.Need-returns-4 Inv-loop μ-loop
 returns-4 c =
-    let l = c .before .before .before .before .loop in
+    let at-loop = c .before .before .before .before .loop in
     sym
     (digits-of _ (omega arith) (omega arith)
-    ∙ l.inv .2
-    ∙ digits-high _ l.n l.i (c .before .before .before .loop-test .taken) (c .before .if3 .left) (c .if4 .taken))
+    ∙ at-loop.inv .2
+    ∙ digits-high _ at-loop.n at-loop.i (c .before .before .before .loop-test .taken) (c .before .if3 .left) (c .if4 .taken))
 
 -- nine digits fit
 mul-n : tie.Need-mul-n Inv-loop μ-loop
 mul-n c =
-    let l = c .before .before .before .before .loop in
-    omega (arith, digits-fit l.n l.i (l.inv .1) (omega arith))
+    let at-loop = c .before .before .before .before .loop in
+    omega (arith, digits-fit at-loop.n at-loop.i (at-loop.inv .1) (omega arith))
 
 add-n : tie.Need-add-n Inv-loop μ-loop
 add-n c =
-    let l = c .before .before .before .before .loop in
-    omega (arith, digits-fit l.n l.i (l.inv .1) (omega arith))
+    let at-loop = c .before .before .before .before .loop in
+    omega (arith, digits-fit at-loop.n at-loop.i (at-loop.inv .1) (omega arith))
 
 loop-again : tie.Need-loop-again Inv-loop μ-loop
 loop-again c =
-    let l = c .before .before .before .before .loop in
-    let on = digits-on _ l.n l.i (c .before .before .before .loop-test .taken) (c .before .if3 .left) (c .if4 .left) in
-    (omega arith, digits-most l.n l.i _ (l.inv .1) (c .if4 .left), l.inv .2 ∙ on)
+    let at-loop = c .before .before .before .before .loop in
+    let on = digits-on _ at-loop.n at-loop.i (c .before .before .before .loop-test .taken) (c .before .if3 .left) (c .if4 .left) in
+    (omega arith, digits-most at-loop.n at-loop.i _ (at-loop.inv .1) (c .if4 .left), at-loop.inv .2 ∙ on)
 
 returns-5 : tie.Need-returns-5 Inv-loop μ-loop
 returns-5 c =
-    let l = c .before .loop in
-    sym (digits-of _ (omega arith) (omega arith) ∙ l.inv .2 ∙ digits-end _ l.n l.i (c .loop-test .left))
+    let at-loop = c .before .loop in
+    sym (digits-of _ (omega arith) (omega arith) ∙ at-loop.inv .2 ∙ digits-end _ at-loop.n at-loop.i (c .loop-test .left))
 
 pub digits-spec : {M : Type 1} → statement M
 digits-spec =

@@ -18,20 +18,21 @@ abbrev μ-loop : tie.MeasureT-loop
 
 returns : tie.Need-returns Inv-loop μ-loop
 returns c =
-    let s = c .before .before .before .before in
-    let z = up-to-stop s.args.s.now (c .before .before .before .loop .i) s.args.x (c .before .before .loop-test .taken) (c .if1 .taken) in
+    let at-start = c .before .before .before .before in
+    let by-up-to-stop = up-to-stop at-start.args.s.now (c .before .before .before .loop .i) at-start.args.x (c .before .before .loop-test .taken)
+    (c .if1 .taken) in
     record { at = omega arith; after = omega arith; within = omega arith }
 
 loop-again : tie.Need-loop-again Inv-loop μ-loop
 loop-again c =
-    let s = c .before .before .before .before in
-    let z = up-to-on s.args.s.now (c .before .before .before .loop .i) s.args.x (c .before .before .loop-test .taken) (c .if1 .left) in
+    let at-start = c .before .before .before .before in
+    let by-up-to-on = up-to-on at-start.args.s.now (c .before .before .before .loop .i) at-start.args.x (c .before .before .loop-test .taken) (c .if1 .left) in
     (omega arith, omega arith, omega arith)
 
 returns-2 : tie.Need-returns-2 Inv-loop μ-loop
 returns-2 c =
-    let s = c .before .before in
-    let z = up-to-end s.args.s.now (c .before .loop .i) s.args.x (c .loop-test .left) in
+    let at-start = c .before .before in
+    let by-up-to-end = up-to-end at-start.args.s.now (c .before .loop .i) at-start.args.x (c .loop-test .left) in
     record { at = omega arith; after = omega arith; within = omega arith }
 
 pub find-spec : {M : Type 1} → statement M

@@ -25,13 +25,13 @@ loop-holds c = (omega arith, refl)
 -- two bytes differ
 returns-2 : tie.Need-returns-2 Inv-loop μ-loop
 returns-2 c =
-    let l = c .before .before .before .before .loop in
-    same-told _ _ (l.inv .1 ∙ same-stop _ _ l.i (omega arith) (omega arith) (c .if2 .taken))
+    let at-loop = c .before .before .before .before .loop in
+    same-told _ _ (at-loop.inv .1 ∙ same-stop _ _ at-loop.i (omega arith) (omega arith) (c .if2 .taken))
 
 loop-again : tie.Need-loop-again Inv-loop μ-loop
 loop-again c =
-    let l = c .before .before .before .before .loop in
-    (omega arith, l.inv .1 ∙ same-on _ _ l.i (omega arith) (omega arith) (c .if2 .left))
+    let at-loop = c .before .before .before .before .loop in
+    (omega arith, at-loop.inv .1 ∙ same-on _ _ at-loop.i (omega arith) (omega arith) (c .if2 .left))
 
 returns-3 : tie.Need-returns-3 Inv-loop μ-loop
 returns-3 c = same-told _ _ (c .before .loop .inv .1 ∙ same-end _ _ (c .before .loop .i) (omega arith) (omega arith))

@@ -16,13 +16,13 @@ sub-result c = omega (arith, rows-pos (c .before .before .before .args .t .now))
 
 returns-2 : tie.Need-returns-2
 returns-2 c =
-    let s = c .before .before .before in
-    omega (arith, content-nl (s .args .t .now) (omega (arith, c .before .before .if1 .left)) (c .if2 .taken))
+    let at-start = c .before .before .before in
+    omega (arith, content-nl (at-start .args .t .now) (omega (arith, c .before .before .if1 .left)) (c .if2 .taken))
 
 returns-3 : tie.Need-returns-3
 returns-3 c =
-    let s = c .before .before .before in
-    omega (arith, content-char (s .args .t .now) (omega (arith, c .before .before .if1 .left)) (c .if2 .left))
+    let at-start = c .before .before .before in
+    omega (arith, content-char (at-start .args .t .now) (omega (arith, c .before .before .if1 .left)) (c .if2 .left))
 
 pub content-of-spec : {M : Type 1} → statement M
 content-of-spec =

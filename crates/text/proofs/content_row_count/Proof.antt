@@ -16,9 +16,15 @@ returns c = rw (← c .before .text-refusal .ensures, ne-eqb _ _ (c .if1 .taken)
 
 cast-rows : tie.Need-cast-t5
 cast-rows c =
-    let k = c .before .before in
-    let t = k .before .before .args .t .now in
-    omega (arith, c .content-rows .ensures, content-near t, count-le t, accepted-short t (sym (k .text-refusal .ensures) ∙ c .before .if1 .left))
+    let at-text-refusal = c .before .before in
+    let text-now = at-text-refusal .before .before .args .t .now in
+    omega (
+      arith,
+      c .content-rows .ensures,
+      content-near text-now,
+      count-le text-now,
+      accepted-short text-now (sym (at-text-refusal .text-refusal .ensures) ∙ c .before .if1 .left),
+    )
 
 returns-2 : tie.Need-returns-2
 returns-2 c = rw (← c .before .before .text-refusal .ensures, eq-eqb _ _ (c .before .if1 .left)) (ap Rows (c .content-rows .ensures))

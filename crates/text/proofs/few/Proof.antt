@@ -18,13 +18,13 @@ abbrev μ-loop : tie.MeasureT-loop
 
 loop-again : tie.Need-loop-again Inv-loop μ-loop
 loop-again c =
-    let k = c .before .before in
-    omega (arith, count-nl (k .before .before .args .part .now) (k .before .loop .i) (k .loop-test .taken) (c .if1 .taken))
+    let at-loop-test = c .before .before in
+    omega (arith, count-nl (at-loop-test .before .before .args .part .now) (at-loop-test .before .loop .i) (at-loop-test .loop-test .taken) (c .if1 .taken))
 
 loop-again-2 : tie.Need-loop-again-2 Inv-loop μ-loop
 loop-again-2 c =
-    let k = c .before .before in
-    omega (arith, count-on (k .before .before .args .part .now) (k .before .loop .i) (k .loop-test .taken) (c .if1 .left))
+    let at-loop-test = c .before .before in
+    omega (arith, count-on (at-loop-test .before .before .args .part .now) (at-loop-test .before .loop .i) (at-loop-test .loop-test .taken) (c .if1 .left))
 
 returns : tie.Need-returns Inv-loop μ-loop
 returns c = omega (arith, count-end (c .before .before .args .part .now) (c .before .loop .i) (c .loop-test .left))

@@ -25,46 +25,50 @@ returns c = rw (not-true (c .before .args .high) (c .if1 .taken))
 
 loop-again : tie.Need-loop-again Inv-loop μ-loop
 loop-again c =
-    let k = c .before .before in
-    let t = k .before .before .args .t .now in
+    let at-loop = c .before .before in
+    let text-now = at-loop .before .before .args .t .now in
     let more = c .before .loop-test .taken in (
       search needs,
-      any-on notScalar t (k .loop .i) (k .loop .wrong) more (k .loop .inv .1),
-      any-on isSeparator t (k .loop .i) (k .loop .separator) more (k .loop .inv .2),
+      any-on notScalar text-now (at-loop .loop .i) (at-loop .loop .wrong) more (at-loop .loop .inv .1),
+      any-on isSeparator text-now (at-loop .loop .i) (at-loop .loop .separator) more (at-loop .loop .inv .2),
     )
 
 returns-2 : tie.Need-returns-2 Inv-loop μ-loop
 unfolding highRefusal
 returns-2 c =
-    let k = c .before .before in
-    let t = k .before .before .args .t .now in
-    rw (not-false (k .before .before .args .high) (k .before .if1 .left), any-end notScalar t (k .loop .i) (k .loop .wrong) (c .before .loop-test .left) (k .loop .inv .1), c .if2 .taken)
+    let at-loop = c .before .before in
+    let text-now = at-loop .before .before .args .t .now in
+    rw (
+      not-false (at-loop .before .before .args .high) (at-loop .before .if1 .left),
+      any-end notScalar text-now (at-loop .loop .i) (at-loop .loop .wrong) (c .before .loop-test .left) (at-loop .loop .inv .1),
+      c .if2 .taken,
+    )
 
 returns-3 : tie.Need-returns-3 Inv-loop μ-loop
 unfolding highRefusal
 returns-3 c =
-    let k = c .before .before .before in
-    let t = k .before .before .args .t .now in
+    let at-loop = c .before .before .before in
+    let text-now = at-loop .before .before .args .t .now in
     let done = c .before .before .loop-test .left in
     rw (
-      not-false (k .before .before .args .high) (k .before .if1 .left),
-      any-end notScalar t (k .loop .i) (k .loop .wrong) done (k .loop .inv .1),
+      not-false (at-loop .before .before .args .high) (at-loop .before .if1 .left),
+      any-end notScalar text-now (at-loop .loop .i) (at-loop .loop .wrong) done (at-loop .loop .inv .1),
       c .before .if2 .left,
-      any-end isSeparator t (k .loop .i) (k .loop .separator) done (k .loop .inv .2),
+      any-end isSeparator text-now (at-loop .loop .i) (at-loop .loop .separator) done (at-loop .loop .inv .2),
       c .if3 .taken,
     )
 
 returns-4 : tie.Need-returns-4 Inv-loop μ-loop
 unfolding highRefusal
 returns-4 c =
-    let k = c .before .before .before in
-    let t = k .before .before .args .t .now in
+    let at-loop = c .before .before .before in
+    let text-now = at-loop .before .before .args .t .now in
     let done = c .before .before .loop-test .left in
     rw (
-      not-false (k .before .before .args .high) (k .before .if1 .left),
-      any-end notScalar t (k .loop .i) (k .loop .wrong) done (k .loop .inv .1),
+      not-false (at-loop .before .before .args .high) (at-loop .before .if1 .left),
+      any-end notScalar text-now (at-loop .loop .i) (at-loop .loop .wrong) done (at-loop .loop .inv .1),
       c .before .if2 .left,
-      any-end isSeparator t (k .loop .i) (k .loop .separator) done (k .loop .inv .2),
+      any-end isSeparator text-now (at-loop .loop .i) (at-loop .loop .separator) done (at-loop .loop .inv .2),
       c .if3 .left,
     )
 

@@ -26,46 +26,47 @@ returns c = rw (lt-ltb _ _ (c .if1 .taken))
 
 loop-again : tie.Need-loop-again Inv-loop μ-loop
 loop-again c =
-    let k = c .before .before in
-    let t = k .before .before .before .args .t .now in
-    let i = k .loop .i in
+    let at-loop = c .before .before in
+    let text-now = at-loop .before .before .before .args .t .now in
+    let index = at-loop .loop .i in
     let more = c .before .loop-test .taken in
-    let found = k .loop .feed || k .loop .next in (
+    let found = at-loop .loop .feed || at-loop .loop .next in (
       search needs,
-      any-on isHigh t i (k .loop .high) more (k .loop .inv .1),
-      any-on isLow t i found more (k .loop .inv .2) ∙ ap (λ b. b || any isLow (drop (i + 1) t)) (each-its-own (k .loop .feed) (k .loop .next) _ _),
+      any-on isHigh text-now index (at-loop .loop .high) more (at-loop .loop .inv .1),
+      any-on isLow text-now index found more (at-loop .loop .inv .2)
+          ∙ ap (λ b. b || any isLow (drop (index + 1) text-now)) (each-its-own (at-loop .loop .feed) (at-loop .loop .next) _ _),
     )
 
 returns-2 : tie.Need-returns-2 Inv-loop μ-loop
 returns-2 c =
-    let k = c .before .before .before in
-    let t = k .before .before .before .args .t .now in
-    let found = any-end isHigh t (k .loop .i) (k .loop .high) (c .before .before .loop-test .left) (k .loop .inv .1) in
-    rw (by-passes t (k .before .if1 .left) _ (c .before .high-refusal .ensures ∙ rw found), ne-eqb _ 0 (c .if2 .taken))
+    let at-loop = c .before .before .before in
+    let text-now = at-loop .before .before .before .args .t .now in
+    let found = any-end isHigh text-now (at-loop .loop .i) (at-loop .loop .high) (c .before .before .loop-test .left) (at-loop .loop .inv .1) in
+    rw (by-passes text-now (at-loop .before .if1 .left) _ (c .before .high-refusal .ensures ∙ rw found), ne-eqb _ 0 (c .if2 .taken))
 
 returns-3 : tie.Need-returns-3 Inv-loop μ-loop
 returns-3 c =
-    let k = c .before .before .before .before in
-    let t = k .before .before .before .args .t .now in
+    let at-loop = c .before .before .before .before in
+    let text-now = at-loop .before .before .before .args .t .now in
     let done = c .before .before .before .loop-test .left in
-    let found = any-end isHigh t (k .loop .i) (k .loop .high) done (k .loop .inv .1) in
+    let found = any-end isHigh text-now (at-loop .loop .i) (at-loop .loop .high) done (at-loop .loop .inv .1) in
     rw (
-      by-passes t (k .before .if1 .left) _ (c .before .before .high-refusal .ensures ∙ rw found),
+      by-passes text-now (at-loop .before .if1 .left) _ (c .before .before .high-refusal .ensures ∙ rw found),
       eq-eqb _ 0 (c .before .if2 .left),
-      any-end isLow t (k .loop .i) (k .loop .feed || k .loop .next) done (k .loop .inv .2),
+      any-end isLow text-now (at-loop .loop .i) (at-loop .loop .feed || at-loop .loop .next) done (at-loop .loop .inv .2),
       c .if3 .taken,
     )
 
 returns-4 : tie.Need-returns-4 Inv-loop μ-loop
 returns-4 c =
-    let k = c .before .before .before .before in
-    let t = k .before .before .before .args .t .now in
+    let at-loop = c .before .before .before .before in
+    let text-now = at-loop .before .before .before .args .t .now in
     let done = c .before .before .before .loop-test .left in
-    let found = any-end isHigh t (k .loop .i) (k .loop .high) done (k .loop .inv .1) in
+    let found = any-end isHigh text-now (at-loop .loop .i) (at-loop .loop .high) done (at-loop .loop .inv .1) in
     rw (
-      by-passes t (k .before .if1 .left) _ (c .before .before .high-refusal .ensures ∙ rw found),
+      by-passes text-now (at-loop .before .if1 .left) _ (c .before .before .high-refusal .ensures ∙ rw found),
       eq-eqb _ 0 (c .before .if2 .left),
-      any-end isLow t (k .loop .i) (k .loop .feed || k .loop .next) done (k .loop .inv .2),
+      any-end isLow text-now (at-loop .loop .i) (at-loop .loop .feed || at-loop .loop .next) done (at-loop .loop .inv .2),
       c .if3 .left,
     )
 

@@ -24,12 +24,12 @@ loop-again c =
     let at-mark = c .before in
     let at-test = at-mark .before .before in
     let at-loop = at-test .before in
-    let t = at-loop .before .before .args .t .now in
+    let text-now = at-loop .before .before .args .t .now in
     let more = at-test .loop-test .taken in (
       search needs,
       omega (arith, at-loop .loop .inv .1),
-      omega (arith, at-loop .loop .inv .2, marks-on t (at-loop .loop .i) more (sym (at-mark .is-mark .ensures) ∙ c .if1 .taken)),
-      bits-on t (at-loop .loop .i) (at-loop .loop .bits) more (at-loop .loop .inv .3),
+      omega (arith, at-loop .loop .inv .2, marks-on text-now (at-loop .loop .i) more (sym (at-mark .is-mark .ensures) ∙ c .if1 .taken)),
+      bits-on text-now (at-loop .loop .i) (at-loop .loop .bits) more (at-loop .loop .inv .3),
     )
 
 loop-again-2 : tie.Need-loop-again-2 Inv-loop μ-loop
@@ -37,22 +37,22 @@ loop-again-2 c =
     let at-mark = c .before in
     let at-test = at-mark .before .before in
     let at-loop = at-test .before in
-    let t = at-loop .before .before .args .t .now in
+    let text-now = at-loop .before .before .args .t .now in
     let more = at-test .loop-test .taken in (
       search needs,
       omega (arith, at-loop .loop .inv .1),
-      omega (arith, at-loop .loop .inv .2, marks-over t (at-loop .loop .i) more (sym (at-mark .is-mark .ensures) ∙ c .if1 .left)),
-      bits-on t (at-loop .loop .i) (at-loop .loop .bits) more (at-loop .loop .inv .3),
+      omega (arith, at-loop .loop .inv .2, marks-over text-now (at-loop .loop .i) more (sym (at-mark .is-mark .ensures) ∙ c .if1 .left)),
+      bits-on text-now (at-loop .loop .i) (at-loop .loop .bits) more (at-loop .loop .inv .3),
     )
 
 returns : tie.Need-returns Inv-loop μ-loop
 returns c =
     let at-loop = c .before in
-    let t = at-loop .before .before .args .t .now in
+    let text-now = at-loop .before .before .args .t .now in
     let done = c .loop-test .left in
     record {
-      high = ap (leb 0x2000) (sym (bits-end t (at-loop .loop .i) (at-loop .loop .bits) done (at-loop .loop .inv .3)));
-      marks = omega (arith, at-loop .loop .inv .2, marks-end t (at-loop .loop .i) done);
+      high = ap (leb 0x2000) (sym (bits-end text-now (at-loop .loop .i) (at-loop .loop .bits) done (at-loop .loop .inv .3)));
+      marks = omega (arith, at-loop .loop .inv .2, marks-end text-now (at-loop .loop .i) done);
       few = omega (arith, at-loop .loop .inv .0, at-loop .loop .inv .1);
     }
 

@@ -25,11 +25,11 @@ returns-6 : tie.Need-returns-6
 returns-6 c =
     let at-table = c .before in
     let at-read = at-table .before .before .before .before in
-    let t = at-read .before .before .before .before .args .t .now in
+    let text-now = at-read .before .before .before .before .args .t .now in
     let held = sym (at-table .before .holds .ensures) ∙ not-false _ (at-table .if3 .left) in
-    let as-many = held-count t _ _ held in
+    let as-many = held-count text-now _ _ held in
     tells-rows _ _ _
-    (accepted t (at-read .before .if1 .left) (sym (at-read .read .ensures .high) ∙ c .if4 .left) (omega (arith, as-many, at-read .read .ensures .marks)))
+    (accepted text-now (at-read .before .if1 .left) (sym (at-read .read .ensures .high) ∙ c .if4 .left) (omega (arith, as-many, at-read .read .ensures .marks)))
     held (omega (arith, at-table .before .before .if2 .left))
 
 pub rows-by-spec : {M : Type 1} → statement M

@@ -9,7 +9,7 @@ use Rattle.widths.proofs.wide_width.Tie as tie
 
 returns : tie.Need-returns
 unfolding widthAs
-returns c = let x = c .before .before .args .x in c .width .ensures ∙ wide-same x (class-low x (c .before .if1 .taken))
+returns c = let given-x = c .before .before .args .x in c .width .ensures ∙ wide-same given-x (class-low given-x (c .before .if1 .taken))
 
 pub wide-width-spec : {M : Type 1} → statement M
 wide-width-spec = tie.close (tie.spec (λ c κs. search needs) returns (λ c κs. search needs) (λ c. search needs))

@@ -27,15 +27,16 @@ loop-holds c = refl
 
 returns : tie.Need-returns Inv-loop μ-loop
 returns c =
-    let k = c .before .before .before in
-    let row = k .before .before .before .args .row .now in
-    sym (k .before .loop .inv ∙ first-stop (test row) _ _ (k .loop-test .taken) (sym (c .before .is-key-bracket .ensures) ∙ c .if1 .taken))
+    let at-loop-test = c .before .before .before in
+    let row = at-loop-test .before .before .before .args .row .now in
+    sym (at-loop-test .before .loop .inv
+    ∙ first-stop (test row) _ _ (at-loop-test .loop-test .taken) (sym (c .before .is-key-bracket .ensures) ∙ c .if1 .taken))
 
 loop-again : tie.Need-loop-again Inv-loop μ-loop
 loop-again c =
-    let k = c .before .before .before in
-    let row = k .before .before .before .args .row .now in
-    k .before .loop .inv ∙ first-on (test row) _ _ (k .loop-test .taken) (sym (c .before .is-key-bracket .ensures) ∙ c .if1 .left)
+    let at-loop-test = c .before .before .before in
+    let row = at-loop-test .before .before .before .args .row .now in
+    at-loop-test .before .loop .inv ∙ first-on (test row) _ _ (at-loop-test .loop-test .taken) (sym (c .before .is-key-bracket .ensures) ∙ c .if1 .left)
 
 returns-2 : tie.Need-returns-2 Inv-loop μ-loop
 returns-2 c = sym (c .before .loop .inv ∙ first-end (test (c .before .before .before .args .row .now)) _ _ (c .loop-test .left))

@@ -40,16 +40,16 @@ returns-8 c = rw (c .match .keys8)
 returns-9 : tie.Need-returns-9
 unfolding sideOf
 returns-9 c =
-    let r = c .match .rest in
+    let other = c .match .rest in
     rw (
-      ne-eqb _ _ (r .0 .0 .0 .0 .0 .0 .0 .1),
-      ne-eqb _ _ (r .0 .0 .0 .0 .0 .0 .1),
-      ne-eqb _ _ (r .0 .0 .0 .0 .0 .1),
-      ne-eqb _ _ (r .0 .0 .0 .0 .1),
-      ne-eqb _ _ (r .0 .0 .0 .1),
-      ne-eqb _ _ (r .0 .0 .1),
-      ne-eqb _ _ (r .0 .1),
-      ne-eqb _ _ (r .1),
+      ne-eqb _ _ (other .0 .0 .0 .0 .0 .0 .0 .1),
+      ne-eqb _ _ (other .0 .0 .0 .0 .0 .0 .1),
+      ne-eqb _ _ (other .0 .0 .0 .0 .0 .1),
+      ne-eqb _ _ (other .0 .0 .0 .0 .1),
+      ne-eqb _ _ (other .0 .0 .0 .1),
+      ne-eqb _ _ (other .0 .0 .1),
+      ne-eqb _ _ (other .0 .1),
+      ne-eqb _ _ (other .1),
     )
 
 pub side-of-spec : {M : Type 1} → statement M

@@ -21,65 +21,87 @@ abbrev μ-loop : tie.MeasureT-loop
 
 loop-holds : tie.Need-loop-holds Inv-loop μ-loop
 loop-holds c =
-    let p = c .before .pre in
-    (behind-start _ _ _ _ _ (p .1) (p .0 .stands .within) (p .0 .deep), stands-own (p .0 .stands), p .0 .short, p .0 .bound)
+    let required = c .before .pre in (
+      behind-start _ _ _ _ _ (required .1) (required .0 .stands .within) (required .0 .deep),
+      stands-own (required .0 .stands),
+      required .0 .short,
+      required .0 .bound,
+    )
 
 -- the open that brings the depth to none, in its row
-met : (c : tie.Then2 Inv-loop μ-loop) → let k = c .before .before .before .before in
-    Stands (k .before .before .args .t .now) (k .loop .row) (rowStart (k .before .before .args .t .now) (k .loop .row)) (k .loop .i - 1)
+met : (c : tie.Then2 Inv-loop μ-loop) → let at-loop = c .before .before .before .before in
+    Stands (at-loop .before .before .args .t .now) (at-loop .loop .row) (rowStart (at-loop .before .before .args .t .now) (at-loop .loop .row))
+    (at-loop .loop .i - 1)
 met c =
-    let k = c .before .before .before in
-    let v = k .before .loop .inv in
-    back-char (v .1) (k .loop-test .taken) (λ f. v .0 .hands .open-char (sym (c .before .if1 .taken) ∙ f))
+    let at-loop-test = c .before .before .before in
+    let invariant = at-loop-test .before .loop .inv in
+    back-char (invariant .1) (at-loop-test .loop-test .taken) (λ f. invariant .0 .hands .open-char (sym (c .before .if1 .taken) ∙ f))
 
 place-requires : tie.Need-place-requires Inv-loop μ-loop
 place-requires c κs =
-    let s = stands-up (met (c .before)) (c .up .ensures) in
-    omega (arith, s .from, s .below, s .within, c .before .before .before .before .before .loop .inv .2)
+    let by-stands-up = stands-up (met (c .before)) (c .up .ensures) in
+    omega (arith, by-stands-up .from, by-stands-up .below, by-stands-up .within, c .before .before .before .before .before .loop .inv .2)
 
 returns : tie.Need-returns Inv-loop μ-loop
 returns c =
-    let k = c .before .before .before .before .before in
-    let found = behind-found (k .before .loop .inv .0) (k .loop-test .taken) (c .before .before .before .if1 .taken) (c .before .before .if2 .taken) in
+    let at-loop-test = c .before .before .before .before .before in
+    let found = behind-found (at-loop-test .before .loop .inv .0) (at-loop-test .loop-test .taken) (c .before .before .before .if1 .taken)
+    (c .before .before .if2 .taken) in
     c .place .ensures ∙ placed-at (stands-up (met (c .before .before)) (c .before .up .ensures)) found
 
 -- another open
 loop-again : tie.Need-loop-again Inv-loop μ-loop
 loop-again c =
-    let k = c .before .before .before in
-    let v = k .before .loop .inv in
-    let h = k .loop-test .taken in
-    let e = c .before .if1 .taken in
-    (behind-open (v .0) h e (c .if2 .left), back-char (v .1) h (λ f. v .0 .hands .open-char (sym e ∙ f)), v .2, v .3)
+    let at-loop-test = c .before .before .before in
+    let invariant = at-loop-test .before .loop .inv in
+    let tested = at-loop-test .loop-test .taken in
+    let taken = c .before .if1 .taken in (
+      behind-open (invariant .0) tested taken (c .if2 .left),
+      back-char (invariant .1) tested (λ f. invariant .0 .hands .open-char (sym taken ∙ f)),
+      invariant .2,
+      invariant .3,
+    )
 
 -- another close
 loop-again-2 : tie.Need-loop-again-2 Inv-loop μ-loop
 loop-again-2 c =
-    let k = c .before .before .before in
-    let v = k .before .loop .inv in
-    let h = k .loop-test .taken in
-    (behind-close (v .0) h (c .if3 .taken), back-char (v .1) h (λ f. v .0 .hands .close-char (sym (c .if3 .taken) ∙ f)), v .2, v .3)
+    let at-loop-test = c .before .before .before in
+    let invariant = at-loop-test .before .loop .inv in
+    let tested = at-loop-test .loop-test .taken in (
+      behind-close (invariant .0) tested (c .if3 .taken),
+      back-char (invariant .1) tested (λ f. invariant .0 .hands .close-char (sym (c .if3 .taken) ∙ f)),
+      invariant .2,
+      invariant .3,
+    )
 
 -- a separator
 sub-row : tie.Need-sub-row Inv-loop μ-loop
 sub-row c =
-    let k = c .before .before .before .before in
-    omega (arith, back-nl (k .before .loop .inv .1) (k .loop-test .taken) (c .if4 .taken) .1)
+    let at-loop-test = c .before .before .before .before in
+    omega (arith, back-nl (at-loop-test .before .loop .inv .1) (at-loop-test .loop-test .taken) (c .if4 .taken) .1)
 
 loop-again-3 : tie.Need-loop-again-3 Inv-loop μ-loop
 loop-again-3 c =
-    let k = c .before .before .before .before in
-    let v = k .before .loop .inv in
-    let h = k .loop-test .taken in
-    (behind-other (v .0) h (c .before .before .if1 .left) (c .before .if3 .left), back-nl (v .1) h (c .if4 .taken) .2, v .2, v .3)
+    let at-loop-test = c .before .before .before .before in
+    let invariant = at-loop-test .before .loop .inv in
+    let tested = at-loop-test .loop-test .taken in (
+      behind-other (invariant .0) tested (c .before .before .if1 .left) (c .before .if3 .left),
+      back-nl (invariant .1) tested (c .if4 .taken) .2,
+      invariant .2,
+      invariant .3,
+    )
 
 -- any other code point
 loop-again-4 : tie.Need-loop-again-4 Inv-loop μ-loop
 loop-again-4 c =
-    let k = c .before .before .before .before in
-    let v = k .before .loop .inv in
-    let h = k .loop-test .taken in
-    (behind-other (v .0) h (c .before .before .if1 .left) (c .before .if3 .left), back-char (v .1) h (c .if4 .left), v .2, v .3)
+    let at-loop-test = c .before .before .before .before in
+    let invariant = at-loop-test .before .loop .inv in
+    let tested = at-loop-test .loop-test .taken in (
+      behind-other (invariant .0) tested (c .before .before .if1 .left) (c .before .if3 .left),
+      back-char (invariant .1) tested (c .if4 .left),
+      invariant .2,
+      invariant .3,
+    )
 
 returns-2 : tie.Need-returns-2 Inv-loop μ-loop
 returns-2 c = placed-none (c .before .before .before .args .t .now) (behind-none (c .before .loop .inv .0) (c .loop-test .left))

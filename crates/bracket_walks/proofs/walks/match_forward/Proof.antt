@@ -21,51 +21,69 @@ abbrev μ-loop : tie.MeasureT-loop
 
 loop-holds : tie.Need-loop-holds Inv-loop μ-loop
 loop-holds c =
-    let p = c .before .pre in
-    (ahead-start _ _ _ _ _ (p .1) (p .0 .stands .within) (p .0 .deep), p .0 .stands, p .0 .short, p .0 .bound)
+    let required = c .before .pre in
+    (ahead-start _ _ _ _ _ (required .1) (required .0 .stands .within) (required .0 .deep), required .0 .stands, required .0 .short, required .0 .bound)
 
 place-requires : tie.Need-place-requires Inv-loop μ-loop
-place-requires c κs = let v = c .before .before .before .before .loop .inv in omega (arith, v .1 .from, v .1 .below, v .1 .within, v .2, v .3)
+place-requires c κs = let invariant =
+    c .before .before .before .before .loop .inv in omega (arith, invariant .1 .from, invariant .1 .below, invariant .1 .within, invariant .2, invariant .3)
 
 -- the close that brings the depth to none
 returns : tie.Need-returns Inv-loop μ-loop
 returns c =
-    let k = c .before .before .before .before in
-    let v = k .before .loop .inv in
-    c .place .ensures ∙ placed-at (v .1) (ahead-found (v .0) (k .loop-test .taken) (c .before .before .if1 .taken) (c .before .if2 .taken))
+    let at-loop-test = c .before .before .before .before in
+    let invariant = at-loop-test .before .loop .inv in
+    c .place .ensures
+    ∙ placed-at (invariant .1) (ahead-found (invariant .0) (at-loop-test .loop-test .taken) (c .before .before .if1 .taken) (c .before .if2 .taken))
 
 -- another close
 loop-again : tie.Need-loop-again Inv-loop μ-loop
 loop-again c =
-    let k = c .before .before .before in
-    let v = k .before .loop .inv in
-    let h = k .loop-test .taken in
-    let e = c .before .if1 .taken in
-    (ahead-close (v .0) h e (c .if2 .left), step-char (v .1) h (λ f. v .0 .hands .close-char (sym e ∙ f)), v .2, v .3)
+    let at-loop-test = c .before .before .before in
+    let invariant = at-loop-test .before .loop .inv in
+    let tested = at-loop-test .loop-test .taken in
+    let taken = c .before .if1 .taken in (
+      ahead-close (invariant .0) tested taken (c .if2 .left),
+      step-char (invariant .1) tested (λ f. invariant .0 .hands .close-char (sym taken ∙ f)),
+      invariant .2,
+      invariant .3,
+    )
 
 -- another open
 loop-again-2 : tie.Need-loop-again-2 Inv-loop μ-loop
 loop-again-2 c =
-    let k = c .before .before .before in
-    let v = k .before .loop .inv in
-    let h = k .loop-test .taken in
-    (ahead-open (v .0) h (c .if3 .taken), step-char (v .1) h (λ f. v .0 .hands .open-char (sym (c .if3 .taken) ∙ f)), v .2, v .3)
+    let at-loop-test = c .before .before .before in
+    let invariant = at-loop-test .before .loop .inv in
+    let tested = at-loop-test .loop-test .taken in (
+      ahead-open (invariant .0) tested (c .if3 .taken),
+      step-char (invariant .1) tested (λ f. invariant .0 .hands .open-char (sym (c .if3 .taken) ∙ f)),
+      invariant .2,
+      invariant .3,
+    )
 
 -- a separator
 loop-again-3 : tie.Need-loop-again-3 Inv-loop μ-loop
 loop-again-3 c =
-    let k = c .before .before .before .before in
-    let v = k .before .loop .inv in
-    let h = k .loop-test .taken in
-    (ahead-other (v .0) h (c .before .if3 .left) (c .before .before .if1 .left), step-nl (v .1) h (c .if4 .taken), v .2, v .3)
+    let at-loop-test = c .before .before .before .before in
+    let invariant = at-loop-test .before .loop .inv in
+    let tested = at-loop-test .loop-test .taken in (
+      ahead-other (invariant .0) tested (c .before .if3 .left) (c .before .before .if1 .left),
+      step-nl (invariant .1) tested (c .if4 .taken),
+      invariant .2,
+      invariant .3,
+    )
 
 -- any other code point
 loop-again-4 : tie.Need-loop-again-4 Inv-loop μ-loop
 loop-again-4 c =
-    let k = c .before .before .before .before in
-    let v = k .before .loop .inv in
-    let h = k .loop-test .taken in
-    (ahead-other (v .0) h (c .before .if3 .left) (c .before .before .if1 .left), step-char (v .1) h (c .if4 .left), v .2, v .3)
+    let at-loop-test = c .before .before .before .before in
+    let invariant = at-loop-test .before .loop .inv in
+    let tested = at-loop-test .loop-test .taken in (
+      ahead-other (invariant .0) tested (c .before .if3 .left) (c .before .before .if1 .left),
+      step-char (invariant .1) tested (c .if4 .left),
+      invariant .2,
+      invariant .3,
+    )
 
 returns-2 : tie.Need-returns-2 Inv-loop μ-loop
 returns-2 c = placed-none (c .before .before .before .args .t .now) (ahead-none (c .before .loop .inv .0) (c .loop-test .left))

@@ -8,43 +8,47 @@ use Rattle.bracket_walks.proofs.walks.partner.Tie as tie
 
 match-forward-requires : tie.Need-match-forward-requires
 match-forward-requires c κs =
-    let m = c .before .before .before in
-    let s = m .before .before .before .before .before in
-    let side = sym (m .before .before .side-of .ensures) ∙ m .s .given .1 in
-    open-asked (s .args .t .now) (s .args .at) (s .pre) (m .s .given .0 .0) (c .before .open-code .ensures) (c .close-code .ensures) side
+    let at-s = c .before .before .before in
+    let at-start = at-s .before .before .before .before .before in
+    let side = sym (at-s .before .before .side-of .ensures) ∙ at-s .s .given .1 in
+    open-asked (at-start .args .t .now) (at-start .args .at) (at-start .pre) (at-s .s .given .0 .0) (c .before .open-code .ensures)
+    (c .close-code .ensures) side
 
 match-backward-requires : tie.Need-match-backward-requires
 match-backward-requires c κs =
-    let m = c .before .before .before in
-    let s = m .before .before .before .before .before in
-    let side = sym (m .before .before .side-of .ensures) ∙ m .s2 .given .1 in
-    close-asked (s .args .t .now) (s .args .at) (s .pre) (m .s2 .given .0 .0) (c .before .open-code2 .ensures) (c .close-code2 .ensures) side
+    let at-s2 = c .before .before .before in
+    let at-start = at-s2 .before .before .before .before .before in
+    let side = sym (at-s2 .before .before .side-of .ensures) ∙ at-s2 .s2 .given .1 in
+    close-asked (at-start .args .t .now) (at-start .args .at) (at-start .pre) (at-s2 .s2 .given .0 .0) (c .before .open-code2 .ensures)
+    (c .close-code2 .ensures) side
 
 -- an open
 returns : tie.Need-returns
 returns c =
-    let m = c .before .before .before .before in
-    let b = m .before .before .before .before .before in
-    let a = b .args in
-    let side = sym (m .before .before .side-of .ensures) ∙ m .s .given .1 in
-    let o = c .before .before .open-code .ensures in
-    open-answer (a .t .now) (a .at) (b .pre) (m .s .given .0 .0) o (c .before .close-code .ensures) side (c .match-forward .ensures)
+    let at-s = c .before .before .before .before in
+    let at-start = at-s .before .before .before .before .before in
+    let given = at-start .args in
+    let side = sym (at-s .before .before .side-of .ensures) ∙ at-s .s .given .1 in
+    let open-code-told = c .before .before .open-code .ensures in
+    open-answer (given .t .now) (given .at) (at-start .pre) (at-s .s .given .0 .0) open-code-told (c .before .close-code .ensures) side
+    (c .match-forward .ensures)
 
 -- a close
 returns-2 : tie.Need-returns-2
 returns-2 c =
-    let m = c .before .before .before .before in
-    let b = m .before .before .before .before .before in
-    let a = b .args in
-    let side = sym (m .before .before .side-of .ensures) ∙ m .s2 .given .1 in
-    let o = c .before .before .open-code2 .ensures in
-    close-answer (a .t .now) (a .at) (b .pre) (m .s2 .given .0 .0) o (c .before .close-code2 .ensures) side (c .match-backward .ensures)
+    let at-s2 = c .before .before .before .before in
+    let at-start = at-s2 .before .before .before .before .before in
+    let given = at-start .args in
+    let side = sym (at-s2 .before .before .side-of .ensures) ∙ at-s2 .s2 .given .1 in
+    let open-code2-told = c .before .before .open-code2 .ensures in
+    close-answer (given .t .now) (given .at) (at-start .pre) (at-s2 .s2 .given .0 .0) open-code2-told (c .before .close-code2 .ensures) side
+    (c .match-backward .ensures)
 
 -- no bracket
 returns-3 : tie.Need-returns-3
 returns-3 c =
-    let a = c .before .before .before .before .before .args in
-    no-answer (a .t .now) (a .at) (sym (c .before .before .side-of .ensures) ∙ c .enum-told .given .1)
+    let given = c .before .before .before .before .before .args in
+    no-answer (given .t .now) (given .at) (sym (c .before .before .side-of .ensures) ∙ c .enum-told .given .1)
 
 pub partner-spec : {M : Type 1} → statement M
 partner-spec =

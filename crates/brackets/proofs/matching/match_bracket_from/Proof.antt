@@ -9,30 +9,33 @@ use Rattle.brackets.proofs.matching.match_bracket_from.Statement.{state
 use Rattle.brackets.proofs.matching.match_bracket_from.Tie as tie
 
 -- the bracket that the row has
-starts : (c : tie.After-known-told) → let a = c .before .before .before .before .before .before .args in
-    Starts (a .t .now) (a .l) (a .l .start + c .before .f .given .0 .0)
+starts : (c : tie.After-known-told) → let given = c .before .before .before .before .before .before .args in
+    Starts (given .t .now) (given .l) (given .l .start + c .before .f .given .0 .0)
 starts c =
-    let m = c .before in
-    let b = m .before .before in
-    let s = b .before .before .before in
-    jump-starts (s .args .t .now) (s .pre .0) (s .pre .1) (s .args .col) (b .before .row .ensures) (b .first-bracket .ensures) _ (m .f .given .1)
+    let at-f = c .before in
+    let at-first-bracket = at-f .before .before in
+    let at-start = at-first-bracket .before .before .before in
+    jump-starts (at-start .args .t .now) (at-start .pre .0) (at-start .pre .1) (at-start .args .col) (at-first-bracket .before .row .ensures)
+    (at-first-bracket .first-bracket .ensures) _ (at-f .f .given .1)
 
 add-partner : tie.Need-add-partner
-add-partner c = let h = starts c in omega (arith, h .inside, h .short)
+add-partner c = let by-starts = starts c in omega (arith, by-starts .inside, by-starts .short)
 
 returns : tie.Need-returns
 returns c =
-    let m = c .before .before in
-    let b = m .before .before in
-    let s = b .before .before .before in
-    let e = b .before .row .ensures in
-    jump-answer (s .args .t .now) (s .pre .0) (s .pre .1) (s .args .col) e (b .first-bracket .ensures) _ (m .f .given .1) (c .partner .ensures)
+    let at-f = c .before .before in
+    let at-first-bracket = at-f .before .before in
+    let at-start = at-first-bracket .before .before .before in
+    let row-told = at-first-bracket .before .row .ensures in
+    jump-answer (at-start .args .t .now) (at-start .pre .0) (at-start .pre .1) (at-start .args .col) row-told
+    (at-first-bracket .first-bracket .ensures) _ (at-f .f .given .1) (c .partner .ensures)
 
 returns-2 : tie.Need-returns-2
 returns-2 c =
-    let b = c .before .before in
-    let s = b .before .before .before in
-    jump-none (s .args .t .now) (s .pre .0) (s .pre .1) (s .args .col) (b .before .row .ensures) (b .first-bracket .ensures) (c .enum-told .given .1)
+    let at-first-bracket = c .before .before in
+    let at-start = at-first-bracket .before .before .before in
+    jump-none (at-start .args .t .now) (at-start .pre .0) (at-start .pre .1) (at-start .args .col) (at-first-bracket .before .row .ensures)
+    (at-first-bracket .first-bracket .ensures) (c .enum-told .given .1)
 
 pub match-bracket-from-spec : {M : Type 1} → statement M
 match-bracket-from-spec =

@@ -20,26 +20,26 @@ abbrev μ-loop : tie.MeasureT-loop
 -- the row ends at a separator
 returns : tie.Need-returns Inv-loop μ-loop
 returns c =
-    let k = c .before .before in
-    let v = k .before .loop .inv in
-    column-nl (v .0) _ _ (v .1) (k .loop-test .taken) (c .if1 .taken)
+    let at-loop-test = c .before .before in
+    let invariant = at-loop-test .before .loop .inv in
+    column-nl (invariant .0) _ _ (invariant .1) (at-loop-test .loop-test .taken) (c .if1 .taken)
 
 -- the column
 returns-2 : tie.Need-returns-2 Inv-loop μ-loop
 returns-2 c =
-    let k = c .before .before .before in
-    let v = k .before .loop .inv in
-    column-at (v .0) _ _ (v .1) (k .loop-test .taken) (c .before .if1 .left) (c .if2 .taken)
+    let at-loop-test = c .before .before .before in
+    let invariant = at-loop-test .before .loop .inv in
+    column-at (invariant .0) _ _ (invariant .1) (at-loop-test .loop-test .taken) (c .before .if1 .left) (c .if2 .taken)
 
 loop-again : tie.Need-loop-again Inv-loop μ-loop
 loop-again c =
-    let k = c .before .before .before in
-    let v = k .before .loop .inv in
-    (step-char (v .0) (k .loop-test .taken) (c .before .if1 .left), omega (arith, v .1, c .if2 .left))
+    let at-loop-test = c .before .before .before in
+    let invariant = at-loop-test .before .loop .inv in
+    (step-char (invariant .0) (at-loop-test .loop-test .taken) (c .before .if1 .left), omega (arith, invariant .1, c .if2 .left))
 
 -- or with the text
 returns-3 : tie.Need-returns-3 Inv-loop μ-loop
-returns-3 c = let v = c .before .loop .inv in column-end (v .0) _ _ (v .1) (c .loop-test .left)
+returns-3 c = let invariant = c .before .loop .inv in column-end (invariant .0) _ _ (invariant .1) (c .loop-test .left)
 
 pub offset-of-spec : {M : Type 1} → statement M
 offset-of-spec =

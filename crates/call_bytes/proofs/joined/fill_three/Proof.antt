@@ -9,9 +9,9 @@ use Rattle.call_bytes.proofs.joined.fill_three.Tie as tie
 -- something is unfit
 returns : tie.Need-returns
 returns c =
-    let a = c .before .before .before .before .before .before .args in
+    let given = c .before .before .before .before .before .before .args in
     record {
-      numbered = c .before .unfit .ensures ∙ unfit-three (a .first .now) (a .second .now) (a .third .now) (a .room .now);
+      numbered = c .before .unfit .ensures ∙ unfit-three (given .first .now) (given .second .now) (given .third .now) (given .room .now);
       fit = λ z. absurd (c .if1 .taken z);
       kept = λ _. refl;
     }
@@ -22,10 +22,12 @@ decode-three-requires c κs = fit-room _ _ _ (sym (c .before .before .unfit .ens
 -- the room is filled
 returns-2 : tie.Need-returns-2
 returns-2 c =
-    let b4 = c .before .before .before .before in
-    let a = b4 .before .before .before .before .before .before .args in
+    let at-if1 = c .before .before .before .before in
+    let given = at-if1 .before .before .before .before .before .before .args in
     record {
-      numbered = sym (b4 .if1 .left) ∙ b4 .before .unfit .ensures ∙ unfit-three (a .first .now) (a .second .now) (a .third .now) (a .room .now);
+      numbered =
+          sym (at-if1 .if1 .left) ∙ at-if1 .before .unfit .ensures
+          ∙ unfit-three (given .first .now) (given .second .now) (given .third .now) (given .room .now);
       fit = λ _. c .before .before .decode-three .ensures;
       kept = λ n. absurd (n refl);
     }

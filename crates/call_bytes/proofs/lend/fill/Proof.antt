@@ -15,10 +15,10 @@ decode-requires c κs = fit-room _ _ _ (sym (c .before .before .unfit .ensures) 
 -- the room is filled
 returns-2 : tie.Need-returns-2
 returns-2 c =
-    let d = c .before .before .decode .ensures in
+    let decode-told = c .before .before .decode .ensures in
     record {
       numbered = sym (c .before .before .before .before .if1 .left) ∙ c .before .before .before .before .before .unfit .ensures;
-      fit = λ _. record { count = refl; room-left = d .room-left; within = d .within; front = d .front };
+      fit = λ _. record { count = refl; room-left = decode-told .room-left; within = decode-told .within; front = decode-told .front };
       kept = λ n. absurd (n refl);
     }
 

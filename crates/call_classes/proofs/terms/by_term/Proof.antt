@@ -9,8 +9,8 @@ returns : tie.Need-returns
 unfolding byTerm leftBy
 returns c =
     let at-call = c .before .before in
-    let s = at-call .word-by-class .ensures in
-    rw (at-call .before .before .before .a .given .1) (s .0, s .1)
+    let word-by-class-told = at-call .word-by-class .ensures in
+    rw (at-call .before .before .before .a .given .1) (word-by-class-told .0, word-by-class-told .1)
 
 returns-2 : tie.Need-returns-2
 unfolding byTerm leftBy

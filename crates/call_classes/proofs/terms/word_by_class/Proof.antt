@@ -16,17 +16,19 @@ returns c =
     let at-number = at-call .before .before in
     let at-caret = at-number .before in
     let given = at-caret .before .before .before .before .before .args in
-    let k = at-caret .caret-of .result in
-    let s = at-call .by-term .ensures in (
+    let caret-of-result = at-caret .caret-of .result in
+    let by-term-told = at-call .by-term .ensures in (
       replied-of moved
-          (s .0
-          ∙ ap (λ (a : Term). byTerm a (isBig (given .big)) (given .count) k (given .text .now) (given .folds .now) (given .list .now) (given .classes .now))
+          (by-term-told .0
+          ∙ ap (λ (a : Term). byTerm a (isBig (given .big)) (given .count) caret-of-result (given .text .now) (given .folds .now) (given .list .now)
+          (given .classes .now))
           (at-number .term-of .ensures)
           ∙ ap (λ (x : Caret). byTerm (termOf (given .op)) (isBig (given .big)) (given .count) x (given .text .now) (given .folds .now) (given .list .now)
           (given .classes .now)) (at-caret .caret-of .ensures))
           (c .place .ensures),
-      s .1
-          ∙ ap (λ (a : Term). leftBy a k (given .text .now) (given .folds .now) (given .list .now) (given .classes .now)) (at-number .term-of .ensures)
+      by-term-told .1
+          ∙ ap (λ (a : Term). leftBy a caret-of-result (given .text .now) (given .folds .now) (given .list .now) (given .classes .now))
+          (at-number .term-of .ensures)
           ∙ ap (λ (x : Caret). leftBy (termOf (given .op)) x (given .text .now) (given .folds .now) (given .list .now) (given .classes .now))
           (at-caret .caret-of .ensures),
     )

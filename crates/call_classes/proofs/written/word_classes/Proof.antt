@@ -6,8 +6,8 @@ use Rattle.call_classes.proofs.written.word_classes.Tie as tie
 
 returns : tie.Need-returns
 returns c =
-    let s = c .before .before .before .before .classes-told .ensures in
-    (replied-as (s .0) (c .reply .ensures), s .1)
+    let classes-told = c .before .before .before .before .classes-told .ensures in
+    (replied-as (classes-told .0) (c .reply .ensures), classes-told .1)
 
 pub word-classes-spec : {M : Type 1} → statement M
 word-classes-spec = tie.close (tie.spec (λ c κs. search needs) (λ c κs. search needs) (λ c. search needs) returns)

@@ -10,11 +10,12 @@ use Rattle.call_folds.proofs.kept.screen_kept.Tie as tie
 
 returns : tie.Need-returns
 returns c =
-    let v = c .before .before in
-    let a = v .before .before .before .before .args in
+    let at-kept-by = c .before .before in
+    let given = at-kept-by .before .before .before .before .args in
     replied-of movedSix
-    (v .kept-by .ensures
-    ∙ ap (λ (k : Caret). screenKept (a .op) (a .mode) (a .width) (a .count) (a .tabstop) k (a .text .now) (a .folds .now)) (v .before .caret-six .ensures))
+    (at-kept-by .kept-by .ensures
+    ∙ ap (λ (k : Caret). screenKept (given .op) (given .mode) (given .width) (given .count) (given .tabstop) k (given .text .now) (given .folds .now))
+    (at-kept-by .before .caret-six .ensures))
     (c .place-six .ensures)
 
 pub screen-kept-spec : {M : Type 1} → statement M

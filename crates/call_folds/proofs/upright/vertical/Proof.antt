@@ -10,11 +10,12 @@ use Rattle.call_folds.proofs.upright.vertical.Tie as tie
 
 returns : tie.Need-returns
 returns c =
-    let v = c .before .before in
-    let a = v .before .before .before .before .args in
+    let at-vertical-by = c .before .before in
+    let given = at-vertical-by .before .before .before .before .args in
     replied-of moved
-    (v .vertical-by .ensures
-    ∙ ap (λ (k : Caret). vertical (a .op) (a .mode) (a .width) (a .count) (a .tabstop) k (a .text .now) (a .folds .now)) (v .before .caret-of .ensures))
+    (at-vertical-by .vertical-by .ensures
+    ∙ ap (λ (k : Caret). vertical (given .op) (given .mode) (given .width) (given .count) (given .tabstop) k (given .text .now) (given .folds .now))
+    (at-vertical-by .before .caret-of .ensures))
     (c .place .ensures)
 
 pub vertical-spec : {M : Type 1} → statement M

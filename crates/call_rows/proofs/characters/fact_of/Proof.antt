@@ -15,32 +15,34 @@ returns c = rw (c .before .before .match .keys1) (ap Value (c .bit-of .ensures �
 returns-2 : tie.Need-returns-2
 unfolding fact
 returns-2 c =
-    let b = c .before in let m = b .before .before in
-    rw (m .match .keys2) (c .tested .ensures ∙ ap (tested (m .before .args .x)) (b .bit-of2 .ensures ∙ ap bit (b .before .is-white .ensures)))
+    let at-bit-of2 = c .before in let at-match = at-bit-of2 .before .before in
+    rw (at-match .match .keys2)
+    (c .tested .ensures ∙ ap (tested (at-match .before .args .x)) (at-bit-of2 .bit-of2 .ensures ∙ ap bit (at-bit-of2 .before .is-white .ensures)))
 
 returns-3 : tie.Need-returns-3
 unfolding fact
 returns-3 c =
-    let b = c .before in let m = b .before .before in
-    rw (m .match .keys3) (c .tested2 .ensures ∙ ap (tested (m .before .args .x)) (b .bit-of3 .ensures ∙ ap bit (b .before .is-letter .ensures)))
+    let at-bit-of3 = c .before in let at-match = at-bit-of3 .before .before in
+    rw (at-match .match .keys3)
+    (c .tested2 .ensures ∙ ap (tested (at-match .before .args .x)) (at-bit-of3 .bit-of3 .ensures ∙ ap bit (at-bit-of3 .before .is-letter .ensures)))
 
 returns-4 : tie.Need-returns-4
 unfolding fact
 returns-4 c =
-    let m = c .before .before in
-    rw (m .match .keys4) (c .tested3 .ensures ∙ ap (tested (m .before .args .x)) (c .before .width .ensures))
+    let at-match = c .before .before in
+    rw (at-match .match .keys4) (c .tested3 .ensures ∙ ap (tested (at-match .before .args .x)) (c .before .width .ensures))
 
 returns-5 : tie.Need-returns-5
 unfolding fact
 returns-5 c =
-    let m = c .before .before in
-    rw (m .match .keys5) (c .tested4 .ensures ∙ ap (tested (m .before .args .x)) (c .before .width2 .ensures))
+    let at-match = c .before .before in
+    rw (at-match .match .keys5) (c .tested4 .ensures ∙ ap (tested (at-match .before .args .x)) (c .before .width2 .ensures))
 
 returns-6 : tie.Need-returns-6
 unfolding fact
 returns-6 c =
-    let m = c .match .rest in
-    rw (ne-eqb _ 0 (m .0 .0 .0 .0 .1), ne-eqb _ 1 (m .0 .0 .0 .1), ne-eqb _ 2 (m .0 .0 .1), ne-eqb _ 3 (m .0 .1), ne-eqb _ 259 (m .1))
+    let other = c .match .rest in
+    rw (ne-eqb _ 0 (other .0 .0 .0 .0 .1), ne-eqb _ 1 (other .0 .0 .0 .1), ne-eqb _ 2 (other .0 .0 .1), ne-eqb _ 3 (other .0 .1), ne-eqb _ 259 (other .1))
 
 pub fact-of-spec : {M : Type 1} → statement M
 fact-of-spec =

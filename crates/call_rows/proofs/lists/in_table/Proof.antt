@@ -14,9 +14,9 @@ returns c = rw (sym (c .before .is-scalar .ensures) ∙ not-true _ (c .if1 .take
 returns-2 : tie.Need-returns-2
 unfolding inTable
 returns-2 c =
-    let b = c .before .before in
-    rw (sym (b .before .is-scalar .ensures) ∙ not-false _ (b .if1 .left))
-    (c .by-table .ensures ∙ ap (λ (p : Parsed). byTable p (b .before .before .before .args .x)) (c .before .parse .ensures))
+    let at-if1 = c .before .before in
+    rw (sym (at-if1 .before .is-scalar .ensures) ∙ not-false _ (at-if1 .if1 .left))
+    (c .by-table .ensures ∙ ap (λ (p : Parsed). byTable p (at-if1 .before .before .before .args .x)) (c .before .parse .ensures))
 
 pub in-table-spec : {M : Type 1} → statement M
 in-table-spec =

@@ -21,8 +21,8 @@ returns-3 c = rw (c .before .before .match .keys3) (c .told-matched .ensures ∙
 returns-4 : tie.Need-returns-4
 unfolding keyword
 returns-4 c =
-    let m = c .match .rest in
-    rw (ne-eqb _ 0 (m .0 .0 .1), ne-eqb _ 1 (m .0 .1), ne-eqb _ 2 (m .1))
+    let other = c .match .rest in
+    rw (ne-eqb _ 0 (other .0 .0 .1), ne-eqb _ 1 (other .0 .1), ne-eqb _ 2 (other .1))
 
 pub keyword-by-spec : {M : Type 1} → statement M
 keyword-by-spec =

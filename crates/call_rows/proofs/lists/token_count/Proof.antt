@@ -13,8 +13,8 @@ returns c = rw (← c .before .before .parse .ensures, ne-eqb _ 0 (c .if1 .taken
 
 cast : tie.Need-cast-t4
 cast c =
-    let b = c .before .before .before in
-    omega (arith, parse-length (b .before .before .args .list .now) (b .parse .result) (b .parse .ensures) (c .before .if1 .left))
+    let at-parse = c .before .before .before in
+    omega (arith, parse-length (at-parse .before .before .args .list .now) (at-parse .parse .result) (at-parse .parse .ensures) (c .before .if1 .left))
 
 returns-2 : tie.Need-returns-2
 unfolding tokenCount

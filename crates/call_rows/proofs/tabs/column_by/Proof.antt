@@ -25,8 +25,8 @@ returns-4 c = rw (c .before .before .match .keys4) (c .told-column4 .ensures ∙
 returns-5 : tie.Need-returns-5
 unfolding tabColumnUnder
 returns-5 c =
-    let m = c .match .rest in
-    rw (ne-eqb _ 0 (m .0 .0 .0 .1), ne-eqb _ 1 (m .0 .0 .1), ne-eqb _ 2 (m .0 .1), ne-eqb _ 3 (m .1))
+    let other = c .match .rest in
+    rw (ne-eqb _ 0 (other .0 .0 .0 .1), ne-eqb _ 1 (other .0 .0 .1), ne-eqb _ 2 (other .0 .1), ne-eqb _ 3 (other .1))
 
 pub column-by-spec : {M : Type 1} → statement M
 column-by-spec =

@@ -9,27 +9,30 @@ use Rattle.call_rows.proofs.wraps.segments_by.Tie as tie
 returns : tie.Need-returns
 unfolding modeOf
 returns c =
-    let b = c .before .before .before in
-    segmented-by (rw (b .before .before .match .keys1)) (omega (arith, b .before .before .match .keys1)) (b .wrap-segments .ensures) (c .told-segments .ensures)
+    let at-wrap-segments = c .before .before .before in
+    segmented-by (rw (at-wrap-segments .before .before .match .keys1)) (omega (arith, at-wrap-segments .before .before .match .keys1))
+    (at-wrap-segments .wrap-segments .ensures) (c .told-segments .ensures)
 
 returns-2 : tie.Need-returns-2
 unfolding modeOf
 returns-2 c =
-    let b = c .before .before .before in
-    segmented-by (rw (b .before .before .match .keys2)) (omega (arith, b .before .before .match .keys2)) (b .wrap-segments2 .ensures)
+    let at-wrap-segments2 = c .before .before .before in
+    segmented-by (rw (at-wrap-segments2 .before .before .match .keys2)) (omega (arith, at-wrap-segments2 .before .before .match .keys2))
+    (at-wrap-segments2 .wrap-segments2 .ensures)
     (c .told-segments2 .ensures)
 
 returns-3 : tie.Need-returns-3
 unfolding modeOf
 returns-3 c =
-    let b = c .before .before .before in
-    segmented-by (rw (b .before .before .match .keys3)) (omega (arith, b .before .before .match .keys3)) (b .wrap-segments3 .ensures)
+    let at-wrap-segments3 = c .before .before .before in
+    segmented-by (rw (at-wrap-segments3 .before .before .match .keys3)) (omega (arith, at-wrap-segments3 .before .before .match .keys3))
+    (at-wrap-segments3 .wrap-segments3 .ensures)
     (c .told-segments3 .ensures)
 
 returns-4 : tie.Need-returns-4
 returns-4 c =
-    let m = c .match .rest in
-    segmented-none (omega (arith, m .0 .0 .1, m .0 .1, m .1))
+    let other = c .match .rest in
+    segmented-none (omega (arith, other .0 .0 .1, other .0 .1, other .1))
 
 pub segments-by-spec : {M : Type 1} → statement M
 segments-by-spec =

@@ -8,8 +8,8 @@ returns : tie.Need-returns
 returns c =
     let at-answer = c .before .before .before .before in
     let at-setting = at-answer .before .before in
-    let s = rw (at-setting .setting-of .ensures, at-setting .before .plain-of .ensures) at (at-answer .segments-by .ensures) in
-    (replied-as (s .answers) (c .reply .ensures), s .leaves)
+    let here = rw (at-setting .setting-of .ensures, at-setting .before .plain-of .ensures) at (at-answer .segments-by .ensures) in
+    (replied-as (here .answers) (c .reply .ensures), here .leaves)
 
 pub wrap-segments-spec : {M : Type 1} → statement M
 wrap-segments-spec =

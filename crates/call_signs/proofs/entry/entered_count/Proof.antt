@@ -22,10 +22,10 @@ returns c = rw (← c .before .before .before .enter .ensures, ne-eqb _ 0 (c .be
 cast-t5 : tie.Need-cast-t5
 cast-t5 c =
     let at-entry = c .before .before .before in
-    let l = at-entry .before .before .args .list .now in
+    let list-now = at-entry .before .before .args .list .now in
     let same = ap (λ (e : Entered). e .spec .len) (at-entry .enter .ensures) in
     let none = sym (ap (λ (e : Entered). e .refusal) (at-entry .enter .ensures)) ∙ c .before .if1 .left in
-    omega (arith, same, entry-few l none)
+    omega (arith, same, entry-few list-now none)
 
 returns-2 : tie.Need-returns-2
 unfolding enteredCount

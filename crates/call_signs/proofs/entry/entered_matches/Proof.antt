@@ -18,9 +18,9 @@ by-entry-requires c κs = rw (c .enter .ensures) (entry-place (c .before .before
 returns-2 : tie.Need-returns-2
 unfolding enteredMatches
 returns-2 c =
-    let b = c .before .before in
-    rw (sym (b .before .is-scalar .ensures) ∙ not-false _ (b .if1 .left))
-    (c .by-entry .ensures ∙ ap (λ (e : Entered). byEntry e (b .before .before .before .args .x)) (c .before .enter .ensures))
+    let at-if1 = c .before .before in
+    rw (sym (at-if1 .before .is-scalar .ensures) ∙ not-false _ (at-if1 .if1 .left))
+    (c .by-entry .ensures ∙ ap (λ (e : Entered). byEntry e (at-if1 .before .before .before .args .x)) (c .before .enter .ensures))
 
 pub entered-matches-spec : {M : Type 1} → statement M
 entered-matches-spec =

@@ -9,8 +9,8 @@ use Rattle.call_signs.proofs.plain.plain_told.Tie as tie
 cast-t9 : tie.Need-cast-t9
 cast-t9 c =
     let at-call = c .before .before .before .before .before in
-    let a = at-call .before .before .before .before .args in
-    let most = plain-size (a .list .now) (a .written .now) (at-call .without-plus .result) (at-call .without-plus .last .1 .0)
+    let given = at-call .before .before .before .before .args in
+    let most = plain-size (given .list .now) (given .written .now) (at-call .without-plus .result) (at-call .without-plus .last .1 .0)
     (at-call .without-plus .ensures) (c .before .n .given .0 .0) (c .before .n .given .1) in
     omega (arith, most)
 
@@ -18,16 +18,16 @@ returns : tie.Need-returns
 unfolding toldOf
 returns c =
     let at-call = c .before .before .before .before .before in
-    let a = at-call .before .before .before .before .args in
-    plain-told (a .list .now) (a .written .now) (at-call .without-plus .result) (at-call .without-plus .last .1 .0)
+    let given = at-call .before .before .before .before .args in
+    plain-told (given .list .now) (given .written .now) (at-call .without-plus .result) (at-call .without-plus .last .1 .0)
     (at-call .without-plus .ensures) _ (sym (ap toldOf (c .before .n .given .1)))
 
 returns-2 : tie.Need-returns-2
 unfolding toldOf
 returns-2 c =
     let at-call = c .before .before .before .before .before in
-    let a = at-call .before .before .before .before .args in
-    plain-told (a .list .now) (a .written .now) (at-call .without-plus .result) (at-call .without-plus .last .1 .0)
+    let given = at-call .before .before .before .before .args in
+    plain-told (given .list .now) (given .written .now) (at-call .without-plus .result) (at-call .without-plus .last .1 .0)
     (at-call .without-plus .ensures) _ (sym (ap toldOf (c .before .f .given .1)))
 
 pub plain-told-spec : {M : Type 1} → statement M

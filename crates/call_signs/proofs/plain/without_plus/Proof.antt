@@ -6,8 +6,8 @@ use Rattle.call_signs.proofs.plain.without_plus.Tie as tie
 
 returns : tie.Need-returns
 returns c =
-    let s = c .before .before .before .before .plain-told .ensures in
-    (replied-as (s .0) (c .reply .ensures), s .1)
+    let plain-told = c .before .before .before .before .plain-told .ensures in
+    (replied-as (plain-told .0) (c .reply .ensures), plain-told .1)
 
 pub without-plus-spec : {M : Type 1} → statement M
 without-plus-spec = tie.close (tie.spec (λ c κs. search needs) (λ c κs. search needs) (λ c. search needs) returns)

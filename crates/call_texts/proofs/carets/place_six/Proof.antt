@@ -11,15 +11,15 @@ returns c =
     let keeps = within .before in
     let column = keeps .before in
     let held = column .before in
-    let e = held .before .before .m .given .1 in
+    let m-is = held .before .before .m .given .1 in
     record {
-      numbered = rw e;
-      out-left = rw (e, held .held-of .ensures, column .column-of .ensures, keeps .keeps-of .ensures, within .within-of .ensures);
+      numbered = rw m-is;
+      out-left = rw (m-is, held .held-of .ensures, column .column-of .ensures, keeps .keeps-of .ensures, within .within-of .ensures);
     }
 
 returns-2 : tie.Need-returns-2
 unfolding movedSix
-returns-2 c = let e = c .before .m2 .given .1 in record { numbered = rw e; out-left = rw e }
+returns-2 c = let m2-is = c .before .m2 .given .1 in record { numbered = rw m2-is; out-left = rw m2-is }
 
 pub place-six-spec : {M : Type 1} → statement M
 place-six-spec =

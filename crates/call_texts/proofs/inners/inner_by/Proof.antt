@@ -24,8 +24,8 @@ returns-4 c = rw (c .before .match .keys4) (c .inner-pair4 .ensures)
 returns-5 : tie.Need-returns-5
 unfolding innerBy
 returns-5 c =
-    let m = c .match .rest in
-    rw (ne-eqb _ 0 (m .0 .0 .0 .1), ne-eqb _ 1 (m .0 .0 .1), ne-eqb _ 2 (m .0 .1), ne-eqb _ 3 (m .1))
+    let other = c .match .rest in
+    rw (ne-eqb _ 0 (other .0 .0 .0 .1), ne-eqb _ 1 (other .0 .0 .1), ne-eqb _ 2 (other .0 .1), ne-eqb _ 3 (other .1))
 
 pub inner-by-spec : {M : Type 1} → statement M
 inner-by-spec =

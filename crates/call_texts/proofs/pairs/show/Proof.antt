@@ -19,15 +19,15 @@ col-fits c =
 
 returns : tie.Need-returns
 unfolding partnered
-returns c = let e = c .before .before .before .before .m .given .1 in record { numbered = rw e; out-left = rw e }
+returns c = let m-is = c .before .before .before .before .m .given .1 in record { numbered = rw m-is; out-left = rw m-is }
 
 returns-2 : tie.Need-returns-2
 unfolding partnered
-returns-2 c = let e = c .before .enum-told .given .1 in record { numbered = rw e; out-left = rw e }
+returns-2 c = let answer-is = c .before .enum-told .given .1 in record { numbered = rw answer-is; out-left = rw answer-is }
 
 returns-3 : tie.Need-returns-3
 unfolding partnered
-returns-3 c = let e = c .before .m2 .given .1 in record { numbered = rw e; out-left = rw e }
+returns-3 c = let m2-is = c .before .m2 .given .1 in record { numbered = rw m2-is; out-left = rw m2-is }
 
 pub show-spec : {M : Type 1} → statement M
 show-spec =

@@ -6,8 +6,8 @@ use Rattle.call_vim.proofs.list.vim_write.Tie as tie
 
 returns : tie.Need-returns
 returns c =
-    let s = c .before .before .before .before .vim-written .ensures in
-    (rw (← s .0) (c .reply-placed .ensures), s .1)
+    let vim-written-told = c .before .before .before .before .vim-written .ensures in
+    (rw (← vim-written-told .0) (c .reply-placed .ensures), vim-written-told .1)
 
 pub vim-write-spec : {M : Type 1} → statement M
 vim-write-spec = tie.close (tie.spec (λ c κs. search needs) (λ c κs. search needs) (λ c. search needs) returns)

@@ -14,28 +14,45 @@ placed-at-requires : tie.Need-placed-at-requires
 placed-at-requires c κs = rw (c .before .before .parse .ensures) (read-place (c .before .before .before .before .before .args .list .now))
 
 returns : tie.Need-returns
-returns c = writing-refused (c .before .before .before .before .before .before .args .list .now) (c .before .before .before .before .before .before .args .written .now) _ (c .before .before .before .parse .ensures) _ (c .placed-at .ensures) (c .before .if1 .taken)
+returns c =
+    let at-start = c .before .before .before .before .before .before in
+    writing-refused (at-start .args .list .now) (at-start .args .written .now) _ (c .before .before .before .parse .ensures) _ (c .placed-at .ensures)
+    (c .before .if1 .taken)
 
 cast-t13 : tie.Need-cast-t13
 cast-t13 c =
-    let l = c .before .before .before .before .before .before .before .before .before .before .before .before .before .args .list .now in
-    let room = c .before .before .before .before .before .before .before .before .before .before .before .before .before .args .written .now in
+    let at-if1 = c .before .before .before .before .before .before .before .before in
+    let at-start = at-if1 .before .before .before .before .before in
+    let list-now = at-start .args .list .now in
+    let room = at-start .args .written .now in
     let is = c .before .before .before .before .before .before .before .before .before .before .parse .ensures in
-    let none = sym (ap (λ (r : VimRead). r .refusal) is) ∙ c .before .before .before .before .before .before .before .before .if1 .left in
-    let made = sym (ap (λ (r : VimRead). writtenOf (r .spec) room) is) ∙ sym (c .before .before .before .before .before .write .ensures .0) ∙ c .before .n .given .1 in
-    omega (arith, written-size l room _ none made)
+    let none = sym (ap (λ (r : VimRead). r .refusal) is) ∙ at-if1 .if1 .left in
+    let made = sym (ap (λ (r : VimRead). writtenOf (r .spec) room) is) ∙ sym (c .before .before .before .before .before .write .ensures .0)
+    ∙ c .before .n .given .1 in
+    omega (arith, written-size list-now room _ none made)
 
 returns-2 : tie.Need-returns-2
 unfolding writtenPlaced
 returns-2 c =
-    let w = writing-told (c .before .before .before .before .before .before .before .before .before .before .before .before .before .args .list .now) (c .before .before .before .before .before .before .before .before .before .before .before .before .before .args .written .now) _ (c .before .before .before .before .before .before .before .before .before .before .parse .ensures) (c .before .before .before .before .before .before .before .before .if1 .left) _ _ (c .before .before .before .before .before .write .ensures) in
-    (sym (ap writtenPlaced (c .before .n .given .1)) ∙ w .0, w .1)
+    let at-if1 = c .before .before .before .before .before .before .before .before in
+    let at-parse = at-if1 .before .before in
+    let at-start = at-parse .before .before .before in
+    let by-writing-told = writing-told (at-start .args .list .now) (at-start .args .written .now) _ (at-parse .parse .ensures) (at-if1 .if1 .left) _ _
+    (c .before .before .before .before .before .write .ensures) in
+    (sym (ap writtenPlaced (c .before .n .given .1)) ∙ by-writing-told .0, by-writing-told .1)
 
 returns-3 : tie.Need-returns-3
 unfolding writtenPlaced
 returns-3 c =
-    let w = writing-told (c .before .before .before .before .before .before .before .before .before .before .before .before .before .args .list .now) (c .before .before .before .before .before .before .before .before .before .before .before .before .before .args .written .now) _ (c .before .before .before .before .before .before .before .before .before .before .parse .ensures) (c .before .before .before .before .before .before .before .before .if1 .left) _ _ (c .before .before .before .before .before .write .ensures) in
-    (sym (ap writtenPlaced (c .before .f .given .1)) ∙ w .0, w .1)
+    let at-if1 = c .before .before .before .before .before .before .before .before in
+    let at-parse = at-if1 .before .before in
+    let at-start = at-parse .before .before .before in
+    let by-writing-told = writing-told (at-start .args .list .now) (at-start .args .written .now) _ (at-parse .parse .ensures) (at-if1 .if1 .left) _ _
+    (c .before .before .before .before .before .write .ensures) in
+    (sym (ap writtenPlaced (c .before .f .given .1)) ∙ by-writing-told .0, by-writing-told .1)
 
 pub vim-written-spec : {M : Type 1} → statement M
-vim-written-spec = tie.close (tie.spec (λ c κs. search needs) placed-at-requires returns (λ c κs. search needs) (λ c. search needs) cast-t13 (λ c. search needs) (λ c. search needs) (λ c. search needs) returns-2 (λ c. search needs) returns-3)
+vim-written-spec =
+    tie.close
+    (tie.spec (λ c κs. search needs) placed-at-requires returns (λ c κs. search needs) (λ c. search needs) cast-t13 (λ c. search needs)
+    (λ c. search needs) (λ c. search needs) returns-2 (λ c. search needs) returns-3)

@@ -27,10 +27,10 @@ returns c =
     let at-number = at-term .before in
     let at-caret = at-number .before in
     let given = at-caret .before .before .before .before .args in
-    let k = at-caret .caret-of .result in
+    let caret-of-result = at-caret .caret-of .result in
     replied-of vimMoved
     (at-term .by-term .ensures
-    ∙ ap (λ (a : Term). byVimTerm a (isBig (given .big)) (given .count) k (given .text .now) (given .folds .now) (given .list .now))
+    ∙ ap (λ (a : Term). byVimTerm a (isBig (given .big)) (given .count) caret-of-result (given .text .now) (given .folds .now) (given .list .now))
     (at-number .term-of .ensures)
     ∙ ap (λ (x : Caret). byVimTerm (termOf (given .op)) (isBig (given .big)) (given .count) x (given .text .now) (given .folds .now) (given .list .now))
     (at-caret .caret-of .ensures))

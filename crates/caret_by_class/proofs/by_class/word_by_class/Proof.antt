@@ -18,7 +18,9 @@ use Rattle.caret_by_class.proofs.by_class.word_by_class.Statement.{stat
 use Rattle.caret_by_class.proofs.by_class.word_by_class.Tie as tie
 
 slice-aggregate-own : tie.Need-slice-aggregate-own
-slice-aggregate-own c = part-count (c .before .before .before .before .before .before .args .folds .now) (c .before .taken .ensures .0)
+slice-aggregate-own c =
+    let at-start = c .before .before .before .before .before .before in
+    part-count (at-start .args .folds .now) (c .before .taken .ensures .0)
 
 -- text, caret or folds
 returns : tie.Need-returns
@@ -27,10 +29,12 @@ returns c =
     let at-entry = at-folds .before in
     let at-own = at-entry .before .before in
     let given = at-own .before .before .before .before .before .args in
-    let e = entered-three (given .t .now) _ (foldsOf (given .m) (given .folds .now)) (given .k) _ (at-entry .enter .ensures) (at-own .taken .ensures .1)
+    let by-entered-three = entered-three (given .t .now) _ (foldsOf (given .m) (given .folds .now)) (given .k) _ (at-entry .enter .ensures)
+    (at-own .taken .ensures .1)
     (at-folds .or-folds .ensures) in
-    let q = sym (by-three (given .t .now) (foldsOf (given .m) (given .folds .now)) (given .list .now) (given .k) (given .classes .now) _ e (c .if1 .taken)) in
-    (answer-refused q _ (c .if1 .taken), slice-kept q (given .t .now) (given .list .now) (given .classes .now) (c .if1 .taken))
+    let three-told = sym (by-three (given .t .now) (foldsOf (given .m) (given .folds .now)) (given .list .now) (given .k)
+    (given .classes .now) _ by-entered-three (c .if1 .taken)) in
+    (answer-refused three-told _ (c .if1 .taken), slice-kept three-told (given .t .now) (given .list .now) (given .classes .now) (c .if1 .taken))
 
 -- the list
 returns-2 : tie.Need-returns-2
@@ -41,12 +45,13 @@ returns-2 c =
     let at-entry = at-folds .before in
     let at-own = at-entry .before .before in
     let given = at-own .before .before .before .before .before .args in
-    let e = entered-three (given .t .now) _ (foldsOf (given .m) (given .folds .now)) (given .k) _ (at-entry .enter .ensures) (at-own .taken .ensures .1)
+    let by-entered-three = entered-three (given .t .now) _ (foldsOf (given .m) (given .folds .now)) (given .k) _ (at-entry .enter .ensures)
+    (at-own .taken .ensures .1)
     (at-folds .or-folds .ensures) in
-    let p = ap (λ (x : Parsed). x .refusal) (at-parse .parse .ensures) in
-    let q = p ∙ sym (by-list (given .t .now) (foldsOf (given .m) (given .folds .now)) (given .list .now) (given .k) (given .classes .now)
-    (sym e ∙ at-test .if1 .left) (λ z. c .if2 .taken (p ∙ z))) in
-    (answer-refused q _ (c .if2 .taken), slice-kept q (given .t .now) (given .list .now) (given .classes .now) (c .if2 .taken))
+    let same-refusal = ap (λ (x : Parsed). x .refusal) (at-parse .parse .ensures) in
+    let list-told = same-refusal ∙ sym (by-list (given .t .now) (foldsOf (given .m) (given .folds .now)) (given .list .now) (given .k) (given .classes .now)
+    (sym by-entered-three ∙ at-test .if1 .left) (λ z. c .if2 .taken (same-refusal ∙ z))) in
+    (answer-refused list-told _ (c .if2 .taken), slice-kept list-told (given .t .now) (given .list .now) (given .classes .now) (c .if2 .taken))
 
 -- the places
 returns-3 : tie.Need-returns-3
@@ -59,12 +64,14 @@ returns-3 c =
     let at-entry = at-folds .before in
     let at-own = at-entry .before .before in
     let given = at-own .before .before .before .before .before .args in
-    let e = entered-three (given .t .now) _ (foldsOf (given .m) (given .folds .now)) (given .k) _ (at-entry .enter .ensures) (at-own .taken .ensures .1)
+    let by-entered-three = entered-three (given .t .now) _ (foldsOf (given .m) (given .folds .now)) (given .k) _ (at-entry .enter .ensures)
+    (at-own .taken .ensures .1)
     (at-folds .or-folds .ensures) in
-    let p = ap (λ (x : Parsed). x .refusal) (at-parse .parse .ensures) in
-    let q = at-places .places-refusal .ensures ∙ sym (by-places (given .t .now) (foldsOf (given .m) (given .folds .now)) (given .list .now) (given .k)
-    (given .classes .now) (sym e ∙ at-test .if1 .left) (sym p ∙ at-list .if2 .left)) in
-    (answer-refused q _ (c .if3 .taken), slice-kept q (given .t .now) (given .list .now) (given .classes .now) (c .if3 .taken))
+    let same-refusal = ap (λ (x : Parsed). x .refusal) (at-parse .parse .ensures) in
+    let places-refusal-is = at-places .places-refusal .ensures
+    ∙ sym (by-places (given .t .now) (foldsOf (given .m) (given .folds .now)) (given .list .now) (given .k)
+    (given .classes .now) (sym by-entered-three ∙ at-test .if1 .left) (sym same-refusal ∙ at-list .if2 .left)) in
+    (answer-refused places-refusal-is _ (c .if3 .taken), slice-kept places-refusal-is (given .t .now) (given .list .now) (given .classes .now) (c .if3 .taken))
 
 by-classes-requires : tie.Need-by-classes-requires
 by-classes-requires c κs =
@@ -76,12 +83,13 @@ by-classes-requires c κs =
     let at-entry = at-folds .before in
     let at-own = at-entry .before .before in
     let given = at-own .before .before .before .before .before .args in
-    let e = entered-three (given .t .now) _ (take (at-own .taken .result) (given .folds .now)) (given .k) _ (at-entry .enter .ensures) refl
+    let by-entered-three = entered-three (given .t .now) _ (take (at-own .taken .result) (given .folds .now)) (given .k) _ (at-entry .enter .ensures) refl
     (at-folds .or-folds .ensures) in
-    let z = three-none (given .t .now) (take (at-own .taken .result) (given .folds .now)) (given .k) (sym e ∙ at-test .if1 .left) in (
-      z .0,
-      z .1,
-      z .2,
+    let by-three-none = three-none (given .t .now) (take (at-own .taken .result) (given .folds .now)) (given .k)
+    (sym by-entered-three ∙ at-test .if1 .left) in (
+      by-three-none .0,
+      by-three-none .1,
+      by-three-none .2,
       parse-length (given .list .now) (at-parse .parse .result) (at-parse .parse .ensures) (at-list .if2 .left),
       places-there (given .t .now) (given .classes .now) (sym (at-places .places-refusal .ensures) ∙ c .before .if3 .left),
     )
@@ -98,19 +106,21 @@ returns-4 c =
     let at-entry = at-folds .before in
     let at-own = at-entry .before .before in
     let given = at-own .before .before .before .before .before .args in
-    let e = entered-three (given .t .now) _ (foldsOf (given .m) (given .folds .now)) (given .k) _ (at-entry .enter .ensures) (at-own .taken .ensures .1)
+    let by-entered-three = entered-three (given .t .now) _ (foldsOf (given .m) (given .folds .now)) (given .k) _ (at-entry .enter .ensures)
+    (at-own .taken .ensures .1)
     (at-folds .or-folds .ensures) in
-    let p = ap (λ (x : Parsed). x .refusal) (at-parse .parse .ensures) in
-    let q = at-places .places-refusal .ensures ∙ sym (by-places (given .t .now) (foldsOf (given .m) (given .folds .now)) (given .list .now) (given .k)
-    (given .classes .now) (sym e ∙ at-test .if1 .left) (sym p ∙ at-list .if2 .left)) in
+    let same-refusal = ap (λ (x : Parsed). x .refusal) (at-parse .parse .ensures) in
+    let places-refusal-is = at-places .places-refusal .ensures
+    ∙ sym (by-places (given .t .now) (foldsOf (given .m) (given .folds .now)) (given .list .now) (given .k)
+    (given .classes .now) (sym by-entered-three ∙ at-test .if1 .left) (sym same-refusal ∙ at-list .if2 .left)) in
     let kept-is = parse-kept (given .list .now) (at-parse .parse .result) (at-parse .parse .ensures) (at-list .if2 .left) in
-    let a = at-call .by-classes .ensures .0
+    let by-classes-is = at-call .by-classes .ensures .0
     ∙ ap (λ (ts : List Token). wordCaret (given .t .now) (take (at-own .taken .result) (given .folds .now)) (anyToken ts)
     (given .big) (given .m) (given .stop) (given .count) (given .k)) kept-is
     ∙ ap (λ (own : List ℕ). wordCaret (given .t .now) own (inList (given .list .now)) (given .big) (given .m) (given .stop)
     (given .count) (given .k)) (at-own .taken .ensures .1) in (
-      answer-given q _ _ (at-last .if3 .left) a,
-      slice-written q (given .t .now) (given .list .now) (given .classes .now) _ (at-last .if3 .left)
+      answer-given places-refusal-is _ _ (at-last .if3 .left) by-classes-is,
+      slice-written places-refusal-is (given .t .now) (given .list .now) (given .classes .now) _ (at-last .if3 .left)
           (at-call .by-classes .ensures .1 ∙ ap (λ (ts : List Token). holding (classesOf (anyToken ts) (given .t .now)) (given .classes .now)) kept-is),
     )
 

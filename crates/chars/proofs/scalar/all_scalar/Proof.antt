@@ -22,15 +22,15 @@ loop-holds c = (search needs, refl)
 
 loop-again : tie.Need-loop-again Inv-loop μ-loop
 loop-again c =
-    let s = c .before .before .before in
-    let w = c .before .before .loop in
-    (search needs, any-on notScalar s.args.l.now (w .i) (w .wrong) (c .before .loop-test .taken) (w .inv .1))
+    let at-start = c .before .before .before in
+    let at-loop = c .before .before .loop in
+    (search needs, any-on notScalar at-start.args.l.now (at-loop .i) (at-loop .wrong) (c .before .loop-test .taken) (at-loop .inv .1))
 
 returns : tie.Need-returns Inv-loop μ-loop
 returns c =
-    let s = c .before .before in
-    let w = c .before .loop in
-    ap not (sym (any-end notScalar s.args.l.now (w .i) (w .wrong) (c .loop-test .left) (w .inv .1)))
+    let at-start = c .before .before in
+    let at-loop = c .before .loop in
+    ap not (sym (any-end notScalar at-start.args.l.now (at-loop .i) (at-loop .wrong) (c .loop-test .left) (at-loop .inv .1)))
 
 pub all-scalar-spec : {M : Type 1} → statement M
 all-scalar-spec =

@@ -9,8 +9,8 @@ returns : tie.Need-returns
 returns c =
     let put = c .before .before in
     let moved = put .before .before .before .before in
-    let a = moved .before .before .before .args in
-    deleted (a.buf .now) a.len a.a (omega arith) a.b (omega arith) (omega arith) (moved .close-up .ensures) (put .put-zeros .ensures)
+    let given = moved .before .before .before .args in
+    deleted (given.buf .now) given.len given.a (omega arith) given.b (omega arith) (omega arith) (moved .close-up .ensures) (put .put-zeros .ensures)
     (omega arith)
     (omega arith)
 

@@ -18,22 +18,22 @@ abbrev μ-loop : tie.MeasureT-loop
 
 loop-holds : tie.Need-loop-holds Inv-loop μ-loop
 loop-holds c =
-    let a = c .args in
-    let n = length-slice a.b a.len (a.buf .now) (omega arith) in
+    let given = c .args in
+    let by-length-slice = length-slice given.b given.len (given.buf .now) (omega arith) in
     (omega arith, up-none _ _ _ (omega arith))
 
 loop-again : tie.Need-loop-again Inv-loop μ-loop
 loop-again c =
-    let l = c .before .before .loop in
-    let a = c .before .before .before .args in
-    let n = length-slice a.b a.len (a.buf .now) (omega arith) in
-    let read = up-read (l.inv .1) (a.b + l.k) (omega arith) in
-    (omega arith, up-next (l.inv .1) (omega arith) (read ∙ sym (part-read (a.buf .now) a.len a.b l.k (omega arith))))
+    let at-loop = c .before .before .loop in
+    let given = c .before .before .before .args in
+    let by-length-slice = length-slice given.b given.len (given.buf .now) (omega arith) in
+    let read = up-read (at-loop.inv .1) (given.b + at-loop.k) (omega arith) in
+    (omega arith, up-next (at-loop.inv .1) (omega arith) (read ∙ sym (part-read (given.buf .now) given.len given.b at-loop.k (omega arith))))
 
 returns : tie.Need-returns Inv-loop μ-loop
 returns c =
-    let a = c .before .before .args in
-    let n = length-slice a.b a.len (a.buf .now) (omega arith) in
+    let given = c .before .before .args in
+    let by-length-slice = length-slice given.b given.len (given.buf .now) (omega arith) in
     up-all (c .before .loop .inv .1) (omega arith)
 
 pub close-up-spec : {M : Type 1} → statement M

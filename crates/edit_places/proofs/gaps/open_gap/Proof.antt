@@ -18,16 +18,16 @@ abbrev μ-loop : tie.MeasureT-loop
 
 loop-holds : tie.Need-loop-holds Inv-loop μ-loop
 loop-holds c =
-    let a = c .args in
-    let n = length-slice a.a a.len (a.buf .now) (omega arith) in
-    (omega arith, down-none _ _ _ _ (sym n) (omega arith))
+    let given = c .args in
+    let by-length-slice = length-slice given.a given.len (given.buf .now) (omega arith) in
+    (omega arith, down-none _ _ _ _ (sym by-length-slice) (omega arith))
 
 loop-again : tie.Need-loop-again Inv-loop μ-loop
 loop-again c =
-    let l = c .before .before .loop in
-    let a = c .before .before .before .args in
-    let read = down-read (l.inv .1) (a.a + (l.k - 1)) (omega arith) in
-    (omega arith, down-next (l.inv .1) (omega arith) (read ∙ sym (part-read (a.buf .now) a.len a.a (l.k - 1) (omega arith))))
+    let at-loop = c .before .before .loop in
+    let given = c .before .before .before .args in
+    let read = down-read (at-loop.inv .1) (given.a + (at-loop.k - 1)) (omega arith) in
+    (omega arith, down-next (at-loop.inv .1) (omega arith) (read ∙ sym (part-read (given.buf .now) given.len given.a (at-loop.k - 1) (omega arith))))
 
 returns : tie.Need-returns Inv-loop μ-loop
 returns c = down-all (c .before .loop .inv .1) (c .loop-test .left)

@@ -10,8 +10,9 @@ returns : tie.Need-returns
 returns c =
     let shut = c .before .before in
     let put = shut .before .before .before .before in
-    let a = put .before .before .before .before .before .args in
-    refilled-shorter (a.buf .now) a.len a.a a.b (a.points .now) (omega arith) (omega arith) (omega arith) (put .put-at .ensures) (shut .close-gap .ensures)
+    let given = put .before .before .before .before .before .args in
+    refilled-shorter (given.buf .now) given.len given.a given.b (given.points .now) (omega arith) (omega arith) (omega arith) (put .put-at .ensures)
+    (shut .close-gap .ensures)
     (omega arith)
     (omega arith)
 
@@ -19,8 +20,9 @@ returns-2 : tie.Need-returns-2
 returns-2 c =
     let put = c .before .before in
     let up = put .before .before .before .before in
-    let a = up .before .before .before .before .before .args in
-    refilled-longer (a.buf .now) a.len a.a a.b (a.points .now) (omega arith) (omega arith) (omega arith) (up .open-gap .ensures) (put .put-at2 .ensures)
+    let given = up .before .before .before .before .before .args in
+    refilled-longer (given.buf .now) given.len given.a given.b (given.points .now) (omega arith) (omega arith) (omega arith) (up .open-gap .ensures)
+    (put .put-at2 .ensures)
     (omega arith)
     (omega arith)
     (omega arith)

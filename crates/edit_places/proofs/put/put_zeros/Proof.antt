@@ -19,9 +19,9 @@ loop-holds c = (omega arith, up-none _ _ _ (simp length-zeros (c .pre)))
 
 loop-again : tie.Need-loop-again Inv-loop μ-loop
 loop-again c =
-    let l = c .before .loop in
-    let n = c .before .before .args .n in
-    (omega arith, up-next (l.inv .1) (simp length-zeros (c .loop-test .taken)) (zeros-read n l.k (c .loop-test .taken)))
+    let at-loop = c .before .loop in
+    let given-n = c .before .before .args .n in
+    (omega arith, up-next (at-loop.inv .1) (simp length-zeros (c .loop-test .taken)) (zeros-read given-n at-loop.k (c .loop-test .taken)))
 
 returns : tie.Need-returns Inv-loop μ-loop
 returns c = up-all (c .before .loop .inv .1) (simp length-zeros (c .loop-test .left))

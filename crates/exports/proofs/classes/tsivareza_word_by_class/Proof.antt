@@ -16,24 +16,24 @@ use Rattle.exports.proofs.classes.tsivareza_word_by_class.Tie as tie
 -- what was lent is unfit
 returns : tie.Need-returns
 returns c =
-    let f = c .before .before .before .fill-three .ensures in
-    (joined-unfit f (c .if1 .taken), joined-unfit f (c .if1 .taken) {m = answer _} .out-left)
+    let fill-three-told = c .before .before .before .fill-three .ensures in
+    (joined-unfit fill-three-told (c .if1 .taken), joined-unfit fill-three-told (c .if1 .taken) {m = answer _} .out-left)
 
 -- the parts of the room
 text-length : tie.Need-slice-aggregate-word-by-class
 text-length c =
-    let b2 = c .before .before in
-    first-length (b2 .before .before .before .fill-three .ensures) (b2 .if1 .left)
+    let at-if1 = c .before .before in
+    first-length (at-if1 .before .before .before .fill-three .ensures) (at-if1 .if1 .left)
 
 folds-end : tie.Need-part-word-by-class-end
 folds-end c =
-    let b2 = c .before .before in
-    omega (arith, b2 .before .before .before .fill-three .ensures .fit (b2 .if1 .left) .within)
+    let at-if1 = c .before .before in
+    omega (arith, at-if1 .before .before .before .fill-three .ensures .fit (at-if1 .if1 .left) .within)
 
 list-end : tie.Need-part-word-by-class-end-2
 list-end c =
-    let b3 = c .before .before .before in
-    omega (arith, b3 .before .before .before .fill-three .ensures .fit (b3 .if1 .left) .within)
+    let at-if1 = c .before .before .before in
+    omega (arith, at-if1 .before .before .before .fill-three .ensures .fit (at-if1 .if1 .left) .within)
 
 -- the call on code points answers
 returns-2 : tie.Need-returns-2
@@ -41,13 +41,14 @@ returns-2 c =
     let called = c .before .before in
     let fit = called .before .before .before .before .before .before .before in
     let filled = fit .before .before .before .fill-three .ensures in
-    let a = fit .before .before .before .before .before .before .before .before .before .before .args in
-    let k = caretOf (a .row) (a .col) (a .held) (a .sticky) in
-    let s = called .word-by-class .ensures in (
-      joined-three filled (λ (t : List ℕ) (u : List ℕ) (v : List ℕ). wordsByClass (a .op) (isBig (a .big)) (a .count) k t u v (a .classes .now))
-          (fit .if1 .left) _ _ refl refl (s .0),
-      joined-three filled (λ (t : List ℕ) (u : List ℕ) (v : List ℕ). answer (slicesLeft (a .op) k t u v (a .classes .now))) (fit .if1 .left)
-          {out = a .classes .now} {r = 0} _ _ refl refl (record { numbered = refl; out-left = s .1 })
+    let given = fit .before .before .before .before .before .before .before .before .before .before .args in
+    let caret = caretOf (given .row) (given .col) (given .held) (given .sticky) in
+    let word-by-class-told = called .word-by-class .ensures in (
+      joined-three filled
+          (λ (t : List ℕ) (u : List ℕ) (v : List ℕ). wordsByClass (given .op) (isBig (given .big)) (given .count) caret t u v (given .classes .now))
+          (fit .if1 .left) _ _ refl refl (word-by-class-told .0),
+      joined-three filled (λ (t : List ℕ) (u : List ℕ) (v : List ℕ). answer (slicesLeft (given .op) caret t u v (given .classes .now))) (fit .if1 .left)
+          {out = given .classes .now} {r = 0} _ _ refl refl (record { numbered = refl; out-left = word-by-class-told .1 })
           .out-left,
     )
 

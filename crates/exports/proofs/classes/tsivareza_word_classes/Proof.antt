@@ -15,19 +15,19 @@ use Rattle.exports.proofs.classes.tsivareza_word_classes.Tie as tie
 -- what was lent is unfit
 returns : tie.Need-returns
 returns c =
-    let f = c .before .before .before .fill-two .ensures in
-    (two-unfit f (c .if1 .taken), two-unfit f (c .if1 .taken) {m = answer _} .out-left)
+    let fill-two-told = c .before .before .before .fill-two .ensures in
+    (two-unfit fill-two-told (c .if1 .taken), two-unfit fill-two-told (c .if1 .taken) {m = answer _} .out-left)
 
 -- the parts of the room
 text-length : tie.Need-slice-aggregate-word-classes
 text-length c =
-    let b2 = c .before .before in
-    first-length (b2 .before .before .before .fill-two .ensures) (b2 .if1 .left)
+    let at-if1 = c .before .before in
+    first-length (at-if1 .before .before .before .fill-two .ensures) (at-if1 .if1 .left)
 
 list-end : tie.Need-part-word-classes-end
 list-end c =
-    let b2 = c .before .before in
-    omega (arith, b2 .before .before .before .fill-two .ensures .fit (b2 .if1 .left) .within)
+    let at-if1 = c .before .before in
+    omega (arith, at-if1 .before .before .before .fill-two .ensures .fit (at-if1 .if1 .left) .within)
 
 -- the call on code points answers
 returns-2 : tie.Need-returns-2
@@ -35,11 +35,11 @@ returns-2 c =
     let called = c .before .before in
     let fit = called .before .before .before .before .before .before in
     let filled = fit .before .before .before .fill-two .ensures in
-    let a = fit .before .before .before .before .before .before .before .before .before .args in
-    let s = called .word-classes .ensures in (
-      joined-two filled (λ (t : List ℕ) (v : List ℕ). classing t v (a .classes .now)) (fit .if1 .left) _ refl (s .0),
-      joined-two filled (λ (t : List ℕ) (v : List ℕ). answer (classesIn t v (a .classes .now))) (fit .if1 .left) {out = a .classes .now} {r = 0} _ refl
-          (record { numbered = refl; out-left = s .1 })
+    let given = fit .before .before .before .before .before .before .before .before .before .args in
+    let word-classes-told = called .word-classes .ensures in (
+      joined-two filled (λ (t : List ℕ) (v : List ℕ). classing t v (given .classes .now)) (fit .if1 .left) _ refl (word-classes-told .0),
+      joined-two filled (λ (t : List ℕ) (v : List ℕ). answer (classesIn t v (given .classes .now))) (fit .if1 .left) {out = given .classes .now} {r = 0} _ refl
+          (record { numbered = refl; out-left = word-classes-told .1 })
           .out-left,
     )
 

@@ -11,18 +11,18 @@ use Rattle.exports.proofs.fold_files.tsivareza_folds_read.Tie as tie
 -- what was lent is unfit
 returns : tie.Need-returns
 returns c =
-    let f = c .before .before .before .fill .ensures in
-    (answered-unfit f (c .if1 .taken), kept-unfit f (c .if1 .taken) _ _)
+    let fill-told = c .before .before .before .fill .ensures in
+    (answered-unfit fill-told (c .if1 .taken), kept-unfit fill-told (c .if1 .taken) _ _)
 
 -- the call on code points answers
 returns-2 : tie.Need-returns-2
 returns-2 c =
-    let b = c .before .before .before .before .before .before in
-    let a = b .before .before .before .before .before .before .before .before .before .args in
-    let f = b .before .before .before .fill .ensures in
-    let s = c .before .before .folds-read .ensures in (
-      answered-one f (λ (t : List ℕ). reads t (a .file .now) (a .folds .now)) (b .if1 .left) (s .0),
-      left-fit f (λ (t : List ℕ). loadedIn t (a .file .now) (a .folds .now)) (b .if1 .left) _ (s .1),
+    let at-if1 = c .before .before .before .before .before .before in
+    let given = at-if1 .before .before .before .before .before .before .before .before .before .args in
+    let fill-told = at-if1 .before .before .before .fill .ensures in
+    let folds-read-told = c .before .before .folds-read .ensures in (
+      answered-one fill-told (λ (t : List ℕ). reads t (given .file .now) (given .folds .now)) (at-if1 .if1 .left) (folds-read-told .0),
+      left-fit fill-told (λ (t : List ℕ). loadedIn t (given .file .now) (given .folds .now)) (at-if1 .if1 .left) _ (folds-read-told .1),
     )
 
 pub tsivareza-folds-read-spec : {M : Type 1} → statement M

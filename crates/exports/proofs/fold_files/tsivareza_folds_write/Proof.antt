@@ -16,19 +16,19 @@ use Rattle.exports.proofs.fold_files.tsivareza_folds_write.Tie as tie
 -- what was lent is unfit
 returns : tie.Need-returns
 returns c =
-    let f = c .before .before .before .fill-two .ensures in
-    (two-unfit f (c .if1 .taken), two-unfit f (c .if1 .taken) {m = answer _} .out-left)
+    let fill-two-told = c .before .before .before .fill-two .ensures in
+    (two-unfit fill-two-told (c .if1 .taken), two-unfit fill-two-told (c .if1 .taken) {m = answer _} .out-left)
 
 -- the parts of the room
 text-length : tie.Need-slice-aggregate-folds-write
 text-length c =
-    let b2 = c .before .before in
-    first-length (b2 .before .before .before .fill-two .ensures) (b2 .if1 .left)
+    let at-if1 = c .before .before in
+    first-length (at-if1 .before .before .before .fill-two .ensures) (at-if1 .if1 .left)
 
 folds-end : tie.Need-part-folds-write-end
 folds-end c =
-    let b2 = c .before .before in
-    omega (arith, b2 .before .before .before .fill-two .ensures .fit (b2 .if1 .left) .within)
+    let at-if1 = c .before .before in
+    omega (arith, at-if1 .before .before .before .fill-two .ensures .fit (at-if1 .if1 .left) .within)
 
 -- the call on code points answers
 returns-2 : tie.Need-returns-2
@@ -36,11 +36,11 @@ returns-2 c =
     let called = c .before .before in
     let fit = called .before .before .before .before .before .before in
     let filled = fit .before .before .before .fill-two .ensures in
-    let a = fit .before .before .before .before .before .before .before .before .before .args in
-    let s = called .folds-write .ensures in (
-      joined-two filled (λ (t : List ℕ) (v : List ℕ). writes t v (a .file .now)) (fit .if1 .left) _ refl (s .0),
-      joined-two filled (λ (t : List ℕ) (v : List ℕ). answer (writtenIn t v (a .file .now))) (fit .if1 .left) {out = a .file .now} {r = 0} _ refl
-          (record { numbered = refl; out-left = s .1 })
+    let given = fit .before .before .before .before .before .before .before .before .before .args in
+    let folds-write-told = called .folds-write .ensures in (
+      joined-two filled (λ (t : List ℕ) (v : List ℕ). writes t v (given .file .now)) (fit .if1 .left) _ refl (folds-write-told .0),
+      joined-two filled (λ (t : List ℕ) (v : List ℕ). answer (writtenIn t v (given .file .now))) (fit .if1 .left) {out = given .file .now} {r = 0} _ refl
+          (record { numbered = refl; out-left = folds-write-told .1 })
           .out-left,
     )
 

@@ -18,29 +18,29 @@ returns c = joined-unfit (c .before .before .before .fill-three .ensures) (c .if
 -- the parts of the room
 text-length : tie.Need-slice-aggregate-word-rows
 text-length c =
-    let b2 = c .before .before in
-    first-length (b2 .before .before .before .fill-three .ensures) (b2 .if1 .left)
+    let at-if1 = c .before .before in
+    first-length (at-if1 .before .before .before .fill-three .ensures) (at-if1 .if1 .left)
 
 folds-end : tie.Need-part-word-rows-end
 folds-end c =
-    let b2 = c .before .before in
-    omega (arith, b2 .before .before .before .fill-three .ensures .fit (b2 .if1 .left) .within)
+    let at-if1 = c .before .before in
+    omega (arith, at-if1 .before .before .before .fill-three .ensures .fit (at-if1 .if1 .left) .within)
 
 list-end : tie.Need-part-word-rows-end-2
 list-end c =
-    let b3 = c .before .before .before in
-    omega (arith, b3 .before .before .before .fill-three .ensures .fit (b3 .if1 .left) .within)
+    let at-if1 = c .before .before .before in
+    omega (arith, at-if1 .before .before .before .fill-three .ensures .fit (at-if1 .if1 .left) .within)
 
 -- the call on code points answers
 returns-2 : tie.Need-returns-2
 returns-2 c =
-    let b6 = c .before .before .before .before .before .before in
-    let b9 = b6 .before .before .before in
-    let a = b9 .before .before .before .before .before .before .before .args in
-    joined-three (b9 .fill-three .ensures)
-    (λ (t folds list : List ℕ). byTable t (a .starts .now) (a .content)
-    (words (a .op) (isBig (a .big)) (a .count) (caretOf (a .row) (a .col) (a .held) (a .sticky)) t folds list))
-    (b6 .if1 .left)
+    let at-if1 = c .before .before .before .before .before .before in
+    let at-fill-three = at-if1 .before .before .before in
+    let given = at-fill-three .before .before .before .before .before .before .before .args in
+    joined-three (at-fill-three .fill-three .ensures)
+    (λ (t folds list : List ℕ). byTable t (given .starts .now) (given .content)
+    (words (given .op) (isBig (given .big)) (given .count) (caretOf (given .row) (given .col) (given .held) (given .sticky)) t folds list))
+    (at-if1 .if1 .left)
     _ _ refl refl (c .word-rows .ensures)
 
 pub tsivareza-word-rows-spec : {M : Type 1} → statement M

@@ -16,24 +16,24 @@ use Rattle.exports.proofs.jumping.tsivareza_jumps.Tie as tie
 -- what was lent is unfit
 returns : tie.Need-returns
 returns c =
-    let f = c .before .before .before .fill-three .ensures in
-    (joined-unfit f (c .if1 .taken), joined-unfit f (c .if1 .taken) {m = answer _} .out-left)
+    let fill-three-told = c .before .before .before .fill-three .ensures in
+    (joined-unfit fill-three-told (c .if1 .taken), joined-unfit fill-three-told (c .if1 .taken) {m = answer _} .out-left)
 
 -- the parts of the room
 text-length : tie.Need-slice-aggregate-jumps
 text-length c =
-    let b2 = c .before .before in
-    first-length (b2 .before .before .before .fill-three .ensures) (b2 .if1 .left)
+    let at-if1 = c .before .before in
+    first-length (at-if1 .before .before .before .fill-three .ensures) (at-if1 .if1 .left)
 
 folds-end : tie.Need-part-jumps-end
 folds-end c =
-    let b2 = c .before .before in
-    omega (arith, b2 .before .before .before .fill-three .ensures .fit (b2 .if1 .left) .within)
+    let at-if1 = c .before .before in
+    omega (arith, at-if1 .before .before .before .fill-three .ensures .fit (at-if1 .if1 .left) .within)
 
 list-end : tie.Need-part-jumps-end-2
 list-end c =
-    let b3 = c .before .before .before in
-    omega (arith, b3 .before .before .before .fill-three .ensures .fit (b3 .if1 .left) .within)
+    let at-if1 = c .before .before .before in
+    omega (arith, at-if1 .before .before .before .fill-three .ensures .fit (at-if1 .if1 .left) .within)
 
 -- the call on code points answers
 returns-2 : tie.Need-returns-2
@@ -41,13 +41,16 @@ returns-2 c =
     let called = c .before .before in
     let fit = called .before .before .before .before .before .before .before in
     let filled = fit .before .before .before .fill-three .ensures in
-    let a = fit .before .before .before .before .before .before .before .before .before .before .before .before .args in
-    let k = caretSix (a .row) (a .col) (a .held) (a .sticky) (a .kept) (a .offset) in
-    let s = called .jumps .ensures in (
-      joined-three filled (λ (t : List ℕ) (u : List ℕ) (v : List ℕ). jumping (a .starts .now) (a .content) k (a .pairs .now) (a .answers .now) t u v)
-          (fit .if1 .left) _ _ refl refl (s .0),
-      joined-three filled (λ (t : List ℕ) (u : List ℕ) (v : List ℕ). answer (placesLeft t (a .starts .now) (a .content) u v k (a .pairs .now) (a .answers .now)))
-          (fit .if1 .left) {out = a .answers .now} {r = 0} _ _ refl refl (record { numbered = refl; out-left = s .1 })
+    let given = fit .before .before .before .before .before .before .before .before .before .before .before .before .args in
+    let caret-six = caretSix (given .row) (given .col) (given .held) (given .sticky) (given .kept) (given .offset) in
+    let jumps-told = called .jumps .ensures in (
+      joined-three filled
+          (λ (t : List ℕ) (u : List ℕ) (v : List ℕ). jumping (given .starts .now) (given .content) caret-six (given .pairs .now) (given .answers .now) t u v)
+          (fit .if1 .left) _ _ refl refl (jumps-told .0),
+      joined-three filled
+          (λ (t : List ℕ) (u : List ℕ) (v : List ℕ). answer
+          (placesLeft t (given .starts .now) (given .content) u v caret-six (given .pairs .now) (given .answers .now)))
+          (fit .if1 .left) {out = given .answers .now} {r = 0} _ _ refl refl (record { numbered = refl; out-left = jumps-told .1 })
           .out-left,
     )
 

@@ -18,8 +18,8 @@ part-length c = front-count (c .before .before .before .before .fill .ensures) (
 -- the call on code points answers
 returns-2 : tie.Need-returns-2
 returns-2 c =
-    let b = c .before .before .before in
-    answered-one (b .before .before .before .fill .ensures) rowCount (b .if1 .left) (c .content-row-count .ensures)
+    let at-if1 = c .before .before .before in
+    answered-one (at-if1 .before .before .before .fill .ensures) rowCount (at-if1 .if1 .left) (c .content-row-count .ensures)
 
 pub tsivareza-content-row-count-spec : {M : Type 1} → statement M
 tsivareza-content-row-count-spec =

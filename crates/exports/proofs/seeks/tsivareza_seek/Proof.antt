@@ -19,9 +19,10 @@ part-length c = front-count (c .before .before .before .before .fill .ensures) (
 -- the call on code points answers
 returns-2 : tie.Need-returns-2
 returns-2 c =
-    let b = c .before .before .before in
-    let a = b .before .before .before .before .before .before .before .args in
-    answered-one (b .before .before .before .fill .ensures) (seeks (a .op) (a .x) (caretOf (a .row) (a .col) (a .held) (a .sticky))) (b .if1 .left)
+    let at-if1 = c .before .before .before in
+    let given = at-if1 .before .before .before .before .before .before .before .args in
+    answered-one (at-if1 .before .before .before .fill .ensures)
+    (seeks (given .op) (given .x) (caretOf (given .row) (given .col) (given .held) (given .sticky))) (at-if1 .if1 .left)
     (c .seek .ensures)
 
 pub tsivareza-seek-spec : {M : Type 1} → statement M

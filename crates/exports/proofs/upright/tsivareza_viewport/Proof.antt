@@ -19,10 +19,11 @@ part-length c = front-count (c .before .before .before .before .fill .ensures) (
 -- the call on code points answers
 returns-2 : tie.Need-returns-2
 returns-2 c =
-    let b = c .before .before .before in
-    let a = b .before .before .before .before .before .before .before .args in
-    answered-one (b .before .before .before .fill .ensures)
-    (viewports (a .op) (a .top) (a .height) (a .offset) (caretOf (a .row) (a .col) (a .held) (a .sticky))) (b .if1 .left) (c .viewport .ensures)
+    let at-if1 = c .before .before .before in
+    let given = at-if1 .before .before .before .before .before .before .before .args in
+    answered-one (at-if1 .before .before .before .fill .ensures)
+    (viewports (given .op) (given .top) (given .height) (given .offset) (caretOf (given .row) (given .col) (given .held) (given .sticky)))
+    (at-if1 .if1 .left) (c .viewport .ensures)
 
 pub tsivareza-viewport-spec : {M : Type 1} → statement M
 tsivareza-viewport-spec =

@@ -21,9 +21,10 @@ part-length c = front-count (c .before .before .before .before .fill .ensures) (
 -- the call on code points answers
 returns-2 : tie.Need-returns-2
 returns-2 c =
-    let b = c .before .before .before in
-    let a = b .before .before .before .before .before .before .before .args in
-    answered-one (b .before .before .before .fill .ensures) (λ (t : List ℕ). placedReply (vimBy (a .op) (a .x) t)) (b .if1 .left) (c .vim-list .ensures)
+    let at-if1 = c .before .before .before in
+    let given = at-if1 .before .before .before .before .before .before .before .args in
+    answered-one (at-if1 .before .before .before .fill .ensures) (λ (t : List ℕ). placedReply (vimBy (given .op) (given .x) t)) (at-if1 .if1 .left)
+    (c .vim-list .ensures)
 
 pub tsivareza-vim-list-spec : {M : Type 1} → statement M
 tsivareza-vim-list-spec =

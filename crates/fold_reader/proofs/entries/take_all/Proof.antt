@@ -34,10 +34,9 @@ take-entries-requires c κs =
 
 loop-again : tie.Need-loop-again Inv-loop μ-loop
 loop-again c =
-    let b2 = c .before .before in
-    let b5 = b2 .before .before .before in
-    let counted = b5 in
-    taking-on (counted .before .before .loop .inv) (counted .before .loop-test .taken) _ (counted .two-at .ensures .0) (b2 .take-entries .ensures)
+    let at-take-entries = c .before .before in
+    let counted = at-take-entries .before .before .before in
+    taking-on (counted .before .before .loop .inv) (counted .before .loop-test .taken) _ (counted .two-at .ensures .0) (at-take-entries .take-entries .ensures)
 
 returns : tie.Need-returns Inv-loop μ-loop
 returns c = taking-end (c .before .loop .inv) (c .loop-test .left)

@@ -25,15 +25,15 @@ take-entry-requires : tie.Need-take-entry-requires Inv-loop μ-loop
 take-entry-requires c κs =
     let at-loop = c .before .before in
     let entry = at-loop .before .before .before in
-    let a = entry .args in
-    let l = a .block .now in
-    let i = at-loop .loop .i in
-    let here = entries-on l (a .count) i (c .before .loop-test .taken) in (
+    let given = entry .args in
+    let block-now = given .block .now in
+    let index = at-loop .loop .i in
+    let here = entries-on block-now (given .count) index (c .before .loop-test .taken) in (
       omega (arith, entry .pre .0, c .before .loop-test .taken),
       omega (
         arith,
-        toward-room (entryAt l (4 + 9 * i)) (entries-from l (a .count) (i + 1)) (at-loop .loop .inv .1) here,
-        length-entries-in (a .count) (drop 4 l),
+        toward-room (entryAt block-now (4 + 9 * index)) (entries-from block-now (given .count) (index + 1)) (at-loop .loop .inv .1) here,
+        length-entries-in (given .count) (drop 4 block-now),
         entry .pre .1,
       ),
     )
@@ -41,18 +41,18 @@ take-entry-requires c κs =
 loop-again : tie.Need-loop-again Inv-loop μ-loop
 loop-again c =
     let at-loop = c .before .before .before .before .before in
-    let a = at-loop .before .before .before .args in
-    let l = a .block .now in
-    let i = at-loop .loop .i in (
+    let given = at-loop .before .before .before .args in
+    let block-now = given .block .now in
+    let index = at-loop .loop .i in (
       omega (arith, c .before .before .before .before .loop-test .taken),
-      toward-on (entryAt l (4 + 9 * i)) (entries-from l (a .count) (i + 1)) (at-loop .loop .inv .1)
-          (entries-on l (a .count) i (c .before .before .before .before .loop-test .taken)) (c .before .before .take-entry .ensures),
+      toward-on (entryAt block-now (4 + 9 * index)) (entries-from block-now (given .count) (index + 1)) (at-loop .loop .inv .1)
+          (entries-on block-now (given .count) index (c .before .before .before .before .loop-test .taken)) (c .before .before .take-entry .ensures),
     )
 
 returns : tie.Need-returns Inv-loop μ-loop
 returns c =
-    let a = c .before .before .before .before .args in
-    toward-end (c .before .loop .inv .1) (entries-done (a .block .now) (a .count) (c .before .loop .i) (c .loop-test .left))
+    let given = c .before .before .before .before .args in
+    toward-end (c .before .loop .inv .1) (entries-done (given .block .now) (given .count) (c .before .loop .i) (c .loop-test .left))
 
 pub take-entries-spec : {M : Type 1} → statement M
 take-entries-spec =

@@ -6,14 +6,14 @@ use Rattle.fold_reader.proofs.entries.take_entry.Tie as tie
 
 returns : tie.Need-returns
 returns c =
-    let b2 = c .before .before in
-    let b6 = b2 .before .before .before .before in
-    let b10 = b6 .before .before .before .before in
-    let b12 = b10 .before .before in
-    let b13 = b12 .before in
-    let b14 = b13 .before in
-    rw (← b14 .four-at .ensures, ← b13 .four-at2 .ensures, ← b12 .one-at .ensures)
-    (wrote-then (wrote-then (b10 .put .ensures) (b6 .put2 .ensures)) (b2 .put3 .ensures))
+    let at-put3 = c .before .before in
+    let at-put2 = at-put3 .before .before .before .before in
+    let at-put = at-put2 .before .before .before .before in
+    let at-one-at = at-put .before .before in
+    let at-four-at2 = at-one-at .before in
+    let at-four-at = at-four-at2 .before in
+    rw (← at-four-at .four-at .ensures, ← at-four-at2 .four-at2 .ensures, ← at-one-at .one-at .ensures)
+    (wrote-then (wrote-then (at-put .put .ensures) (at-put2 .put2 .ensures)) (at-put3 .put3 .ensures))
 
 pub take-entry-spec : {M : Type 1} → statement M
 take-entry-spec =

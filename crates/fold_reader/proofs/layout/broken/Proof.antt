@@ -36,8 +36,9 @@ returns c =
 loop-again : tie.Need-loop-again Inv-loop μ-loop
 loop-again c =
     let at-loop = c .before .before .before .before in
-    let f = at-loop .before .before .before .args .file .now in
-    let here = broken-on f (length f / 512) (at-loop .loop .k) (at-loop .before .count-all .result) (c .before .before .before .loop-test .taken) in
+    let file-now = at-loop .before .before .before .args .file .now in
+    let here = broken-on file-now (length file-now / 512) (at-loop .loop .k) (at-loop .before .count-all .result)
+    (c .before .before .before .loop-test .taken) in
     (omega (arith, c .before .before .before .loop-test .taken), at-loop .loop .inv .1 ∙ here ∙ rw (← c .before .breaks .ensures, c .if1 .left))
 
 returns-2 : tie.Need-returns-2 Inv-loop μ-loop

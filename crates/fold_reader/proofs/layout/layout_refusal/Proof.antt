@@ -18,10 +18,10 @@ returns-2 c = rw (← c .before .before .before .uncut .ensures, c .before .befo
 
 broken-requires : tie.Need-broken-requires
 broken-requires c κs =
-    let b2 = c .before .before in
-    let b3 = b2 .before in
-    let b5 = b3 .before .before in
-    uncut-false (b5 .args .file .now) (sym (b3 .uncut .ensures) ∙ b2 .if1 .left) .2
+    let at-if1 = c .before .before in
+    let at-uncut = at-if1 .before in
+    let at-start = at-uncut .before .before in
+    uncut-false (at-start .args .file .now) (sym (at-uncut .uncut .ensures) ∙ at-if1 .if1 .left) .2
 
 -- 20
 returns-3 : tie.Need-returns-3

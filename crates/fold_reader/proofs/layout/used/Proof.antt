@@ -21,15 +21,15 @@ loop-holds c = (search needs, refl)
 
 loop-again : tie.Need-loop-again Inv-loop μ-loop
 loop-again c =
-    let s = c .before .before .before in
-    let l = c .before .before .loop in
-    (search needs, any-on isUsed s.args.bytes.now (l .i) (l .found) (c .before .loop-test .taken) (l .inv .1))
+    let at-start = c .before .before .before in
+    let at-loop = c .before .before .loop in
+    (search needs, any-on isUsed at-start.args.bytes.now (at-loop .i) (at-loop .found) (c .before .loop-test .taken) (at-loop .inv .1))
 
 returns : tie.Need-returns Inv-loop μ-loop
 returns c =
-    let s = c .before .before in
-    let l = c .before .loop in
-    sym (any-end isUsed s.args.bytes.now (l .i) (l .found) (c .loop-test .left) (l .inv .1))
+    let at-start = c .before .before in
+    let at-loop = c .before .loop in
+    sym (any-end isUsed at-start.args.bytes.now (at-loop .i) (at-loop .found) (c .loop-test .left) (at-loop .inv .1))
 
 pub used-spec : {M : Type 1} → statement M
 used-spec = tie.close (tie.spec Inv-loop μ-loop loop-holds (λ c. search needs) (λ c. search needs) (λ c. search needs) loop-again returns)

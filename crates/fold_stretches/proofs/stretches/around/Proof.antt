@@ -20,8 +20,8 @@ loop-holds c = (record { shown = λ row p q. refl }, omega arith)
 
 loop-again : tie.Need-loop-again Inv-loop μ-loop
 loop-again c =
-    let l = c .before .before .before .before in
-    (no-fold-step (l .before .loop .inv .0) (l .loop-test .taken) (c .apart .ensures), omega arith)
+    let at-loop-test = c .before .before .before .before in
+    (no-fold-step (at-loop-test .before .loop .inv .0) (at-loop-test .loop-test .taken) (c .apart .ensures), omega arith)
 
 returns : tie.Need-returns Inv-loop μ-loop
 returns c = no-fold-end (c .before .loop .inv .0) (omega arith)

@@ -11,8 +11,8 @@ returns c =
     let at-store-in = c .before .before in
     let at-if1 = at-store-in .before .before in
     let entry = at-if1 .before .before .before .before in
-    let a = entry .args in
-    rw (key-write (a .key) (a .numbers .now) (a .bytes .now) (at-if1 .if1 .taken)) (at-store-in .store-in .ensures)
+    let given = entry .args in
+    rw (key-write (given .key) (given .numbers .now) (given .bytes .now) (at-if1 .if1 .taken)) (at-store-in .store-in .ensures)
 
 returns-2 : tie.Need-returns-2
 returns-2 c =
@@ -20,8 +20,8 @@ returns-2 c =
     let at-if2 = at-not-read .before .before in
     let at-if1 = at-if2 .before in
     let entry = at-if1 .before .before .before .before in
-    let a = entry .args in
-    rw (key-none (a .key) (a .numbers .now) (a .bytes .now) (at-if1 .if1 .left) (at-if2 .if2 .taken))
+    let given = entry .args in
+    rw (key-none (given .key) (given .numbers .now) (given .bytes .now) (at-if1 .if1 .left) (at-if2 .if2 .taken))
     (prints unread-fits (entry .pre .1) (at-not-read .not-read .ensures))
 
 returns-3 : tie.Need-returns-3
@@ -31,8 +31,8 @@ returns-3 c =
     let at-if2 = at-if3 .before in
     let at-if1 = at-if2 .before in
     let entry = at-if1 .before .before .before .before in
-    let a = entry .args in
-    rw (key-many (a .key) (a .numbers .now) (a .bytes .now) (at-if1 .if1 .left) (at-if2 .if2 .left) (at-if3 .if3 .taken))
+    let given = entry .args in
+    rw (key-many (given .key) (given .numbers .now) (given .bytes .now) (at-if1 .if1 .left) (at-if2 .if2 .left) (at-if3 .if3 .taken))
     (prints unread-fits (entry .pre .1) (at-not-read2 .not-read2 .ensures))
 
 returns-4 : tie.Need-returns-4
@@ -42,8 +42,9 @@ returns-4 c =
     let at-if2 = at-if3 .before in
     let at-if1 = at-if2 .before in
     let entry = at-if1 .before .before .before .before in
-    let a = entry .args in
-    rw (key-read (a .key) (a .numbers .now) (a .bytes .now) (at-if1 .if1 .left) (at-if2 .if2 .left) (at-if3 .if3 .left)) (at-load-in .load-in .ensures)
+    let given = entry .args in
+    rw (key-read (given .key) (given .numbers .now) (given .bytes .now) (at-if1 .if1 .left) (at-if2 .if2 .left) (at-if3 .if3 .left))
+    (at-load-in .load-in .ensures)
 
 pub by-key-spec : {M : Type 1} → statement M
 by-key-spec =

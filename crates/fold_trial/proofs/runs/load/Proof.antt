@@ -23,34 +23,35 @@ mul-end c =
     let at-n = c .before in
     let answered = at-n .before .before .before in
     let entry = answered .before .before .before .before .before in
-    let a = entry .args in
-    omega (arith, loaded-few (a .text .now) (a .file .now) room roomy _ (sym (answered .read-folds .ensures .0) ∙ at-n .n .given .1))
+    let given = entry .args in
+    omega (arith, loaded-few (given .text .now) (given .file .now) room roomy _ (sym (answered .read-folds .ensures .0) ∙ at-n .n .given .1))
 
 prefix : tie.Need-array-share-prefix-folds
 prefix c =
     let at-n = c .before .before in
     let answered = at-n .before .before .before in
     let entry = answered .before .before .before .before .before in
-    let a = entry .args in
-    omega (arith, loaded-few (a .text .now) (a .file .now) room roomy _ (sym (answered .read-folds .ensures .0) ∙ at-n .n .given .1))
+    let given = entry .args in
+    omega (arith, loaded-few (given .text .now) (given .file .now) room roomy _ (sym (answered .read-folds .ensures .0) ∙ at-n .n .given .1))
 
 lent : tie.Need-slice-aggregate-put-folds
 lent c =
     let at-n = c .before .before .before in
     let answered = at-n .before .before .before in
     let entry = answered .before .before .before .before .before in
-    let a = entry .args in
-    loaded-counts (a .text .now) (a .file .now) room roomy _ _ (sym (answered .read-folds .ensures .0) ∙ at-n .n .given .1) (answered .read-folds .ensures .1)
+    let given = entry .args in
+    loaded-counts (given .text .now) (given .file .now) room roomy _ _ (sym (answered .read-folds .ensures .0) ∙ at-n .n .given .1)
+    (answered .read-folds .ensures .1)
 
 put-folds-requires : tie.Need-put-folds-requires
 put-folds-requires c κs =
     let at-n = c .before .before .before in
     let answered = at-n .before .before .before in
     let entry = answered .before .before .before .before .before in
-    let a = entry .args in
-    let e = sym (answered .read-folds .ensures .0) ∙ at-n .n .given .1 in
-    let front = loaded-front (a .text .now) (a .file .now) room roomy _ _ e (answered .read-folds .ensures .1) in
-    (rw front (loaded-within (a .text .now) (a .file .now) room roomy _ e), entry .pre)
+    let given = entry .args in
+    let read-folds-is = sym (answered .read-folds .ensures .0) ∙ at-n .n .given .1 in
+    let front = loaded-front (given .text .now) (given .file .now) room roomy _ _ read-folds-is (answered .read-folds .ensures .1) in
+    (rw front (loaded-within (given .text .now) (given .file .now) room roomy _ read-folds-is), entry .pre)
 
 returns : tie.Need-returns
 returns c =
@@ -58,12 +59,12 @@ returns c =
     let at-n = at-put-folds .before .before .before .before in
     let answered = at-n .before .before .before in
     let entry = answered .before .before .before .before .before in
-    let a = entry .args in
-    let e = sym (answered .read-folds .ensures .0) ∙ at-n .n .given .1 in
-    let front = loaded-front (a .text .now) (a .file .now) room roomy _ _ e (answered .read-folds .ensures .1) in
-    let within = loaded-within (a .text .now) (a .file .now) room roomy _ e in
-    rw (loaded-shown (a .text .now) (a .file .now) room roomy _ e)
-    (prints (fold-row-fits (foldsIn (a .file .now)) within) (entry .pre) (rw front at (at-put-folds .put-folds .ensures)))
+    let given = entry .args in
+    let read-folds-is = sym (answered .read-folds .ensures .0) ∙ at-n .n .given .1 in
+    let front = loaded-front (given .text .now) (given .file .now) room roomy _ _ read-folds-is (answered .read-folds .ensures .1) in
+    let within = loaded-within (given .text .now) (given .file .now) room roomy _ read-folds-is in
+    rw (loaded-shown (given .text .now) (given .file .now) room roomy _ read-folds-is)
+    (prints (fold-row-fits (foldsIn (given .file .now)) within) (entry .pre) (rw front at (at-put-folds .put-folds .ensures)))
 
 returns-2 : tie.Need-returns-2
 returns-2 c =
@@ -71,8 +72,8 @@ returns-2 c =
     let at-f = at-refuse .before .before .before in
     let answered = at-f .before .before .before in
     let entry = answered .before .before .before .before .before in
-    let a = entry .args in
-    rw (loaded-refused (a .text .now) (a .file .now) room roomy _ (sym (answered .read-folds .ensures .0) ∙ at-f .f .given .1))
+    let given = entry .args in
+    rw (loaded-refused (given .text .now) (given .file .now) room roomy _ (sym (answered .read-folds .ensures .0) ∙ at-f .f .given .1))
     (prints (refusal-row-fits _) (entry .pre) (at-refuse .refuse .ensures))
 
 pub load-spec : {M : Type 1} → statement M

@@ -13,8 +13,8 @@ returns c =
     let at-not-read = c .before .before in
     let at-if1 = at-not-read .before .before in
     let entry = at-if1 .before .before .before in
-    let a = entry .args in
-    rw (load-long (a .n) (a .bytes .now) (at-if1 .if1 .taken)) (prints unread-fits (entry .pre .1) (at-not-read .not-read .ensures))
+    let given = entry .args in
+    rw (load-long (given .n) (given .bytes .now) (at-if1 .if1 .taken)) (prints unread-fits (entry .pre .1) (at-not-read .not-read .ensures))
 
 lent : tie.Need-slice-aggregate-load-2
 lent c =
@@ -29,9 +29,9 @@ returns-2 c =
     let at-check = at-enum-told .before .before in
     let at-if1 = at-check .before .before in
     let entry = at-if1 .before .before .before in
-    let a = entry .args in
+    let given = entry .args in
     let good = check-good _ (sym (at-enum-told .enum-told .given .1) ∙ at-check .check .ensures) in
-    rw (load-good (a .n) (a .bytes .now) (at-if1 .if1 .left) good) (rw (at-read-text .read-text .ensures .front) at (at-load .load .ensures))
+    rw (load-good (given .n) (given .bytes .now) (at-if1 .if1 .left) good) (rw (at-read-text .read-text .ensures .front) at (at-load .load .ensures))
 
 returns-3 : tie.Need-returns-3
 returns-3 c =
@@ -40,9 +40,9 @@ returns-3 c =
     let at-check = at-enum-told2 .before .before in
     let at-if1 = at-check .before .before in
     let entry = at-if1 .before .before .before in
-    let a = entry .args in
+    let given = entry .args in
     let bad = check-bad _ (sym (at-enum-told2 .enum-told2 .given .1) ∙ at-check .check .ensures) in
-    rw (load-bad (a .n) (a .bytes .now) (at-if1 .if1 .left) bad) (prints unread-fits (entry .pre .1) (at-not-read2 .not-read2 .ensures))
+    rw (load-bad (given .n) (given .bytes .now) (at-if1 .if1 .left) bad) (prints unread-fits (entry .pre .1) (at-not-read2 .not-read2 .ensures))
 
 pub load-in-spec : {M : Type 1} → statement M
 load-in-spec =

@@ -31,14 +31,14 @@ put-requires-2 c κs =
     let at-put = at-loop .before .before .before in
     let entry = at-put .before .before .before .before in
     let key = at-put .put .ensures in
-    let l = entry .args .folds .now in
-    let i = at-loop .loop .i in
-    let piece = spaced-at l i (tested .loop-test .taken) in
+    let folds-now = entry .args .folds .now in
+    let index = at-loop .loop .i in
+    let piece = spaced-at folds-now index (tested .loop-test .taken) in
     omega (
       arith,
-      toward-room (32 ∷ decimal (getD l i 0)) (spaced (drop (i + 1) l) ++ (10 ∷ [])) (at-loop .loop .inv .1) piece,
-      fold-row-fits l (entry .pre .0),
-      fold-row-length l,
+      toward-room (32 ∷ decimal (getD folds-now index 0)) (spaced (drop (index + 1) folds-now) ++ (10 ∷ [])) (at-loop .loop .inv .1) piece,
+      fold-row-fits folds-now (entry .pre .0),
+      fold-row-length folds-now,
       entry .pre .1,
       key .next,
       key .size,
@@ -52,15 +52,15 @@ put-decimal-requires c κs =
     let at-put = at-loop .before .before .before in
     let entry = at-put .before .before .before .before in
     let key = at-put .put .ensures in
-    let l = entry .args .folds .now in
-    let i = at-loop .loop .i in
-    let piece = spaced-at l i (tested .loop-test .taken) in
+    let folds-now = entry .args .folds .now in
+    let index = at-loop .loop .i in
+    let piece = spaced-at folds-now index (tested .loop-test .taken) in
     let space = at-put2 .put2 .ensures in
     omega (
       arith,
-      toward-room (32 ∷ decimal (getD l i 0)) (spaced (drop (i + 1) l) ++ (10 ∷ [])) (at-loop .loop .inv .1) piece,
-      fold-row-fits l (entry .pre .0),
-      fold-row-length l,
+      toward-room (32 ∷ decimal (getD folds-now index 0)) (spaced (drop (index + 1) folds-now) ++ (10 ∷ [])) (at-loop .loop .inv .1) piece,
+      fold-row-fits folds-now (entry .pre .0),
+      fold-row-length folds-now,
       entry .pre .1,
       key .next,
       key .size,
@@ -75,11 +75,12 @@ loop-again c =
     let tested = at-put2 .before .before in
     let at-loop = tested .before in
     let entry = at-loop .before .before .before .before .before .before .before in
-    let l = entry .args .folds .now in
-    let i = at-loop .loop .i in
-    let h = tested .loop-test .taken in (
-      omega (arith, h),
-      toward-on (32 ∷ decimal (getD l i 0)) (spaced (drop (i + 1) l) ++ (10 ∷ [])) (at-loop .loop .inv .1) (spaced-at l i h)
+    let folds-now = entry .args .folds .now in
+    let index = at-loop .loop .i in
+    let tested-so = tested .loop-test .taken in (
+      omega (arith, tested-so),
+      toward-on (32 ∷ decimal (getD folds-now index 0)) (spaced (drop (index + 1) folds-now) ++ (10 ∷ [])) (at-loop .loop .inv .1)
+          (spaced-at folds-now index tested-so)
           (wrote-then (at-put2 .put2 .ensures) (at-put-decimal .put-decimal .ensures)),
     )
 
@@ -90,10 +91,17 @@ put-requires-3 c κs =
     let at-put = at-loop .before .before .before in
     let entry = at-put .before .before .before .before in
     let key = at-put .put .ensures in
-    let l = entry .args .folds .now in
-    let last = spaced-end l (at-loop .loop .i) (tested .loop-test .left) in
-    omega
-    (arith, toward-room (10 ∷ []) [] (at-loop .loop .inv .1) last, fold-row-fits l (entry .pre .0), fold-row-length l, entry .pre .1, key .next, key .size)
+    let folds-now = entry .args .folds .now in
+    let last = spaced-end folds-now (at-loop .loop .i) (tested .loop-test .left) in
+    omega (
+      arith,
+      toward-room (10 ∷ []) [] (at-loop .loop .inv .1) last,
+      fold-row-fits folds-now (entry .pre .0),
+      fold-row-length folds-now,
+      entry .pre .1,
+      key .next,
+      key .size,
+    )
 
 same-length : tie.Need-same-length Inv-loop μ-loop
 same-length c =

@@ -54,8 +54,8 @@ prefix : tie.Need-array-share-prefix-numbers
 prefix c =
     let at-n = c .before .before in
     let at-read-row = at-n .before .before .before in
-    let w = at-read-row .read-row .ensures in
-    omega (arith, count-within w _ (at-n .n .given .1), w .kept)
+    let read-row-told = at-read-row .read-row .ensures in
+    omega (arith, count-within read-row-told _ (at-n .n .given .1), read-row-told .kept)
 
 lent : tie.Need-slice-aggregate-by-key
 lent c =

@@ -12,8 +12,8 @@ returns c =
     let at-n = c .before in
     let answered = at-n .before .before .before .before in
     let entry = answered .before .before .before .before .before in
-    let a = entry .args in
-    stored-bytes (a .text .now) (a .folds .now) (a .out .now) (entry .pre) _ _ (sym (answered .write-folds .ensures .0) ∙ at-n .n .given .1)
+    let given = entry .args in
+    stored-bytes (given .text .now) (given .folds .now) (given .out .now) (entry .pre) _ _ (sym (answered .write-folds .ensures .0) ∙ at-n .n .given .1)
     (answered .write-folds .ensures .1)
 
 returns-2 : tie.Need-returns-2
@@ -22,10 +22,10 @@ returns-2 c =
     let at-f = at-refuse .before .before .before in
     let answered = at-f .before .before .before .before in
     let entry = answered .before .before .before .before .before in
-    let a = entry .args in
-    let e = sym (answered .write-folds .ensures .0) ∙ at-f .f .given .1 in
-    let kept = answered .write-folds .ensures .1 ∙ stored-kept (a .text .now) (a .folds .now) (a .out .now) (entry .pre) _ e in
-    rw (stored-refused (a .text .now) (a .folds .now) (a .out .now) (entry .pre) _ e)
+    let given = entry .args in
+    let write-folds-is = sym (answered .write-folds .ensures .0) ∙ at-f .f .given .1 in
+    let kept = answered .write-folds .ensures .1 ∙ stored-kept (given .text .now) (given .folds .now) (given .out .now) (entry .pre) _ write-folds-is in
+    rw (stored-refused (given .text .now) (given .folds .now) (given .out .now) (entry .pre) _ write-folds-is)
     (prints (refusal-row-fits _) (ap length kept ∙ entry .pre) (at-refuse .refuse .ensures))
 
 pub store-spec : {M : Type 1} → statement M

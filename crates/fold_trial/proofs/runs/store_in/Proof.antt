@@ -14,9 +14,9 @@ returns c =
     let at-enum-told = at-read-text .before .before in
     let at-check = at-enum-told .before .before in
     let entry = at-check .before .before .before .before in
-    let a = entry .args in
-    let good = check-good (a .bytes .now) (sym (at-enum-told .enum-told .given .1) ∙ at-check .check .ensures) in
-    rw (store-good (a .bytes .now) (a .folds .now) good) (rw (at-read-text .read-text .ensures .front) at (at-store .store .ensures))
+    let given = entry .args in
+    let good = check-good (given .bytes .now) (sym (at-enum-told .enum-told .given .1) ∙ at-check .check .ensures) in
+    rw (store-good (given .bytes .now) (given .folds .now) good) (rw (at-read-text .read-text .ensures .front) at (at-store .store .ensures))
 
 returns-2 : tie.Need-returns-2
 returns-2 c =
@@ -24,9 +24,9 @@ returns-2 c =
     let at-enum-told2 = at-not-read .before .before in
     let at-check = at-enum-told2 .before .before in
     let entry = at-check .before .before .before .before in
-    let a = entry .args in
-    let bad = check-bad (a .bytes .now) (sym (at-enum-told2 .enum-told2 .given .1) ∙ at-check .check .ensures) in
-    rw (store-bad (a .bytes .now) (a .folds .now) bad) (prints unread-fits (entry .pre .1) (at-not-read .not-read .ensures))
+    let given = entry .args in
+    let bad = check-bad (given .bytes .now) (sym (at-enum-told2 .enum-told2 .given .1) ∙ at-check .check .ensures) in
+    rw (store-bad (given .bytes .now) (given .folds .now) bad) (prints unread-fits (entry .pre .1) (at-not-read .not-read .ensures))
 
 pub store-in-spec : {M : Type 1} → statement M
 store-in-spec =

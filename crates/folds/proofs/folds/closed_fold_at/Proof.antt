@@ -13,24 +13,31 @@ returns c = rw (sym (c .before .before .is-row-hidden .ensures) ∙ not-true _ (
 
 closed-from-requires-2 : tie.Need-closed-from-requires-2
 closed-from-requires-2 c κs =
-    let k = c .before .before .before in
-    let a = k .before .before .before .before in
-    (a .pre .0, omega (arith, prev-within _ _ _ (sym (k .prev-visible-row .ensures) ∙ c .before .first .given .1), a .pre .1), a .pre .2)
+    let at-prev-visible-row = c .before .before .before in
+    let at-start = at-prev-visible-row .before .before .before .before in (
+      at-start .pre .0,
+      omega (arith, prev-within _ _ _ (sym (at-prev-visible-row .prev-visible-row .ensures) ∙ c .before .first .given .1), at-start .pre .1),
+      at-start .pre .2,
+    )
 
 returns-2 : tie.Need-returns-2
 returns-2 c =
-    let k = c .before .before .before .before in
+    let at-prev-visible-row = c .before .before .before .before in
     rw (
-      sym (k .before .before .is-row-hidden .ensures) ∙ not-false _ (k .before .if1 .left),
-      ← k .prev-visible-row .ensures,
+      sym (at-prev-visible-row .before .before .is-row-hidden .ensures) ∙ not-false _ (at-prev-visible-row .before .if1 .left),
+      ← at-prev-visible-row .prev-visible-row .ensures,
       c .before .before .first .given .1,
     )
     (c .closed-from2 .ensures)
 
 returns-3 : tie.Need-returns-3
 returns-3 c =
-    let k = c .before .before in
-    rw (sym (k .before .before .is-row-hidden .ensures) ∙ not-false _ (k .before .if1 .left), ← k .prev-visible-row .ensures, c .enum-told .given .1)
+    let at-prev-visible-row = c .before .before in
+    rw (
+      sym (at-prev-visible-row .before .before .is-row-hidden .ensures) ∙ not-false _ (at-prev-visible-row .before .if1 .left),
+      ← at-prev-visible-row .prev-visible-row .ensures,
+      c .enum-told .given .1,
+    )
 
 pub closed-fold-at-spec : {M : Type 1} → statement M
 closed-fold-at-spec =

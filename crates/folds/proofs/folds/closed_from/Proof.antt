@@ -14,18 +14,26 @@ returns c = rw (sym (c .before .is-row-hidden .ensures) ∙ not-true _ (c .if1 .
 -- the next row that shows isn't row 0
 sub-next : tie.Need-sub-t11
 sub-next c =
-    let k = c .before .before .before in
-    omega (arith, visible-within _ _ _ _ (sym (k .next-visible-row .ensures) ∙ c .before .next .given .1))
+    let at-next-visible-row = c .before .before .before in
+    omega (arith, visible-within _ _ _ _ (sym (at-next-visible-row .next-visible-row .ensures) ∙ c .before .next .given .1))
 
 returns-2 : tie.Need-returns-2
 returns-2 c =
-    let k = c .before .before .before in
-    rw (sym (k .before .before .is-row-hidden .ensures) ∙ not-false _ (k .before .if1 .left), ← k .next-visible-row .ensures, c .before .next .given .1)
+    let at-next-visible-row = c .before .before .before in
+    rw (
+      sym (at-next-visible-row .before .before .is-row-hidden .ensures) ∙ not-false _ (at-next-visible-row .before .if1 .left),
+      ← at-next-visible-row .next-visible-row .ensures,
+      c .before .next .given .1,
+    )
 
 returns-3 : tie.Need-returns-3
 returns-3 c =
-    let k = c .before .before in
-    rw (sym (k .before .before .is-row-hidden .ensures) ∙ not-false _ (k .before .if1 .left), ← k .next-visible-row .ensures, c .enum-told .given .1)
+    let at-next-visible-row = c .before .before in
+    rw (
+      sym (at-next-visible-row .before .before .is-row-hidden .ensures) ∙ not-false _ (at-next-visible-row .before .if1 .left),
+      ← at-next-visible-row .next-visible-row .ensures,
+      c .enum-told .given .1,
+    )
 
 pub closed-from-spec : {M : Type 1} → statement M
 closed-from-spec =

@@ -19,31 +19,32 @@ abbrev μ-loop : tie.MeasureT-loop
 -- the numbers of a fold fit
 cast-start : tie.Need-cast-t14 Inv-loop μ-loop
 cast-start c =
-    let k = c .before .before .before .before .before .before in
-    omega (arith, k .before .shared-slice-known .given (k .loop .i))
+    let at-loop = c .before .before .before .before .before .before in
+    omega (arith, at-loop .before .shared-slice-known .given (at-loop .loop .i))
 
 cast-end : tie.Need-cast-t15 Inv-loop μ-loop
 cast-end c =
-    let k = c .before .before .before .before .before .before in
-    omega (arith, k .before .shared-slice-known .given (k .loop .i + 1))
+    let at-loop = c .before .before .before .before .before .before in
+    omega (arith, at-loop .before .shared-slice-known .given (at-loop .loop .i + 1))
 
 returns : tie.Need-returns Inv-loop μ-loop
 returns c =
-    let k = c .before .before .before .before .before .before in
+    let at-loop = c .before .before .before .before .before .before in
     rw (
-      k .loop .inv .1,
-      cover-on (k .before .before .args .folds .now) (k .loop .i) (c .before .before .before .before .before .loop-test .taken) (k .before .before .args .row),
+      at-loop .loop .inv .1,
+      cover-on (at-loop .before .before .args .folds .now) (at-loop .loop .i) (c .before .before .before .before .before .loop-test .taken)
+          (at-loop .before .before .args .row),
       ← c .before .fold-hides .ensures,
       c .if1 .taken,
     )
 
 loop-again : tie.Need-loop-again Inv-loop μ-loop
 loop-again c =
-    let k = c .before .before .before .before .before .before in (
+    let at-loop = c .before .before .before .before .before .before in (
       omega (arith, c .before .before .before .before .before .loop-test .taken),
-      k .loop .inv .1 ∙ rw (
-        cover-on (k .before .before .args .folds .now) (k .loop .i)
-            (c .before .before .before .before .before .loop-test .taken) (k .before .before .args .row),
+      at-loop .loop .inv .1 ∙ rw (
+        cover-on (at-loop .before .before .args .folds .now) (at-loop .loop .i)
+            (c .before .before .before .before .before .loop-test .taken) (at-loop .before .before .args .row),
         ← c .before .fold-hides .ensures,
         c .if1 .left,
       ),
@@ -51,8 +52,9 @@ loop-again c =
 
 returns-2 : tie.Need-returns-2 Inv-loop μ-loop
 returns-2 c =
-    let k = c .before in
-    sym (k .loop .inv .1 ∙ cover-end (k .before .before .args .folds .now) (k .loop .i) (c .loop-test .left) (k .before .before .args .row))
+    let at-loop = c .before in
+    sym (at-loop .loop .inv .1
+    ∙ cover-end (at-loop .before .before .args .folds .now) (at-loop .loop .i) (c .loop-test .left) (at-loop .before .before .args .row))
 
 pub cover-spec : {M : Type 1} → statement M
 cover-spec =

@@ -28,36 +28,42 @@ returns-2 c = rw (eq-eqb _ _ (c .before .if1 .left), lt-ltb _ _ (c .if2 .taken))
 returns-3 : tie.Need-returns-3 Inv-loop μ-loop
 unfolding foldRefusal
 returns-3 c =
-    let k = c .before .before .before .before .before .before in
-    let s = k .before .before .before .before in
+    let at-loop = c .before .before .before .before .before .before in
+    let at-start = at-loop .before .before .before .before in
     rw (
-      eq-eqb _ _ (k .before .before .if1 .left),
-      le-ltb _ _ (k .before .if2 .left),
-      k .loop .inv .1,
-      any-fold-on (s .args .folds .now) (k .loop .i) (c .before .before .before .before .before .loop-test .taken) (badFold (s .args .rows)),
+      eq-eqb _ _ (at-loop .before .before .if1 .left),
+      le-ltb _ _ (at-loop .before .if2 .left),
+      at-loop .loop .inv .1,
+      any-fold-on (at-start .args .folds .now) (at-loop .loop .i) (c .before .before .before .before .before .loop-test .taken)
+          (badFold (at-start .args .rows)),
       ← c .before .bad-fold .ensures,
       c .if3 .taken,
     )
 
 loop-again : tie.Need-loop-again Inv-loop μ-loop
 loop-again c =
-    let k = c .before .before .before .before .before .before in
-    let s = k .before .before .before .before in
+    let at-loop = c .before .before .before .before .before .before in
+    let at-start = at-loop .before .before .before .before in
     let more = c .before .before .before .before .before .loop-test .taken in (
       omega (arith, more),
-      k .loop .inv .1 ∙ rw (any-fold-on (s .args .folds .now) (k .loop .i) more (badFold (s .args .rows)), ← c .before .bad-fold .ensures, c .if3 .left),
+      at-loop .loop .inv .1
+          ∙ rw (
+            any-fold-on (at-start .args .folds .now) (at-loop .loop .i) more (badFold (at-start .args .rows)),
+            ← c .before .bad-fold .ensures,
+            c .if3 .left,
+          ),
     )
 
 returns-4 : tie.Need-returns-4 Inv-loop μ-loop
 unfolding foldRefusal
 returns-4 c =
-    let k = c .before in
-    let s = k .before .before .before .before in
+    let at-loop = c .before in
+    let at-start = at-loop .before .before .before .before in
     rw (
-      eq-eqb _ _ (k .before .before .if1 .left),
-      le-ltb _ _ (k .before .if2 .left),
-      k .loop .inv .1,
-      any-fold-end (s .args .folds .now) (k .loop .i) (c .loop-test .left) (badFold (s .args .rows)),
+      eq-eqb _ _ (at-loop .before .before .if1 .left),
+      le-ltb _ _ (at-loop .before .if2 .left),
+      at-loop .loop .inv .1,
+      any-fold-end (at-start .args .folds .now) (at-loop .loop .i) (c .loop-test .left) (badFold (at-start .args .rows)),
     )
 
 pub fold-refusal-spec : {M : Type 1} → statement M

@@ -8,14 +8,15 @@ use Rattle.folds.proofs.folds.is_row_hidden.Tie as tie
 
 returns : tie.Need-returns
 returns c =
-    let k = c .before .before .before in
-    let v = said (k .before .before .args .folds .now) (k .before .before .args .row) _ (sym (c .before .s .given .1) ∙ k .cover .ensures) in
-    sym (v .2 (k .before .before .args .row) (v .0) (v .1))
+    let at-cover = c .before .before .before in
+    let by-said = said (at-cover .before .before .args .folds .now) (at-cover .before .before .args .row) _
+    (sym (c .before .s .given .1) ∙ at-cover .cover .ensures) in
+    sym (by-said .2 (at-cover .before .before .args .row) (by-said .0) (by-said .1))
 
 returns-2 : tie.Need-returns-2
 returns-2 c =
-    let k = c .before .before in
-    sym (said (k .before .before .args .folds .now) (k .before .before .args .row) _ (sym (c .enum-told .given .1) ∙ k .cover .ensures))
+    let at-cover = c .before .before in
+    sym (said (at-cover .before .before .args .folds .now) (at-cover .before .before .args .row) _ (sym (c .enum-told .given .1) ∙ at-cover .cover .ensures))
 
 pub is-row-hidden-spec : {M : Type 1} → statement M
 is-row-hidden-spec =

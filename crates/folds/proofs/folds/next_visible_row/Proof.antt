@@ -22,44 +22,44 @@ loop-holds c = (omega arith, folds-good (c .before .args .folds .now) (c .before
 -- the fold that hides r ends at or after it, and inside the rows
 add-past : tie.Need-add-r-2 Inv-loop μ-loop
 add-past c =
-    let k = c .before .before .before in
-    let l = k .before .before in
-    let a = l .before .before .args in
-    let v = said (a .folds .now) (l .loop .r) _ (sym (c .before .s .given .1) ∙ k .cover .ensures) in
-    omega (arith, v .3 (a .rows) (l .loop .inv .1))
+    let at-cover = c .before .before .before in
+    let at-loop = at-cover .before .before in
+    let given = at-loop .before .before .args in
+    let by-said = said (given .folds .now) (at-loop .loop .r) _ (sym (c .before .s .given .1) ∙ at-cover .cover .ensures) in
+    omega (arith, by-said .3 (given .rows) (at-loop .loop .inv .1))
 
 loop-less : tie.Need-loop-less Inv-loop μ-loop
 loop-less c =
-    let k = c .before .before .before in
-    let l = k .before .before in
-    let a = l .before .before .args in
-    let v = said (a .folds .now) (l .loop .r) _ (sym (c .before .s .given .1) ∙ k .cover .ensures) in
-    omega (arith, v .1)
+    let at-cover = c .before .before .before in
+    let at-loop = at-cover .before .before in
+    let given = at-loop .before .before .args in
+    let by-said = said (given .folds .now) (at-loop .loop .r) _ (sym (c .before .s .given .1) ∙ at-cover .cover .ensures) in
+    omega (arith, by-said .1)
 
 loop-again : tie.Need-loop-again Inv-loop μ-loop
 loop-again c =
-    let k = c .before .before .before in
-    let l = k .before .before in
-    let a = l .before .before .args in
-    let v = said (a .folds .now) (l .loop .r) _ (sym (c .before .s .given .1) ∙ k .cover .ensures) in (
-      omega (arith, v .3 (a .rows) (l .loop .inv .1)),
-      l .loop .inv .1,
-      l .loop .inv .2 ∙ next-jump (a .folds .now) (a .rows) (l .loop .r) _ _ v (l .loop .inv .1)
-          (k .before .loop-test .taken),
+    let at-cover = c .before .before .before in
+    let at-loop = at-cover .before .before in
+    let given = at-loop .before .before .args in
+    let by-said = said (given .folds .now) (at-loop .loop .r) _ (sym (c .before .s .given .1) ∙ at-cover .cover .ensures) in (
+      omega (arith, by-said .3 (given .rows) (at-loop .loop .inv .1)),
+      at-loop .loop .inv .1,
+      at-loop .loop .inv .2 ∙ next-jump (given .folds .now) (given .rows) (at-loop .loop .r) _ _ by-said (at-loop .loop .inv .1)
+          (at-cover .before .loop-test .taken),
     )
 
 returns : tie.Need-returns Inv-loop μ-loop
 returns c =
-    let k = c .before .before in
-    let l = k .before .before in
-    let a = l .before .before .args in
-    let v = said (a .folds .now) (l .loop .r) _ (sym (c .enum-told .given .1) ∙ k .cover .ensures) in
-    sym (l .loop .inv .2 ∙ next-here (a .folds .now) (a .rows) (l .loop .r) v (k .before .loop-test .taken))
+    let at-cover = c .before .before in
+    let at-loop = at-cover .before .before in
+    let given = at-loop .before .before .args in
+    let by-said = said (given .folds .now) (at-loop .loop .r) _ (sym (c .enum-told .given .1) ∙ at-cover .cover .ensures) in
+    sym (at-loop .loop .inv .2 ∙ next-here (given .folds .now) (given .rows) (at-loop .loop .r) by-said (at-cover .before .loop-test .taken))
 
 returns-2 : tie.Need-returns-2 Inv-loop μ-loop
 returns-2 c =
-    let a = c .before .before .before .args in
-    sym (c .before .loop .inv .2 ∙ next-none (a .folds .now) (a .rows) (c .before .loop .r) (c .loop-test .left))
+    let given = c .before .before .before .args in
+    sym (c .before .loop .inv .2 ∙ next-none (given .folds .now) (given .rows) (c .before .loop .r) (c .loop-test .left))
 
 pub next-visible-row-spec : {M : Type 1} → statement M
 next-visible-row-spec =

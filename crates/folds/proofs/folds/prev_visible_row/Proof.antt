@@ -18,32 +18,32 @@ abbrev μ-loop : tie.MeasureT-loop
 -- the fold that hides the row before r starts before that
 add-past : tie.Need-add-r Inv-loop μ-loop
 add-past c =
-    let k = c .before .before .before in
-    let l = k .before .before in
-    let v = said (l .before .before .args .folds .now) (l .loop .r - 1) _ (sym (c .before .s .given .1) ∙ k .cover .ensures) in
-    omega (arith, v .0)
+    let at-cover = c .before .before .before in
+    let at-loop = at-cover .before .before in
+    let by-said = said (at-loop .before .before .args .folds .now) (at-loop .loop .r - 1) _ (sym (c .before .s .given .1) ∙ at-cover .cover .ensures) in
+    omega (arith, by-said .0)
 
 loop-less : tie.Need-loop-less Inv-loop μ-loop
 loop-less c =
-    let k = c .before .before .before in
-    let l = k .before .before in
-    let v = said (l .before .before .args .folds .now) (l .loop .r - 1) _ (sym (c .before .s .given .1) ∙ k .cover .ensures) in
-    omega (arith, v .0)
+    let at-cover = c .before .before .before in
+    let at-loop = at-cover .before .before in
+    let by-said = said (at-loop .before .before .args .folds .now) (at-loop .loop .r - 1) _ (sym (c .before .s .given .1) ∙ at-cover .cover .ensures) in
+    omega (arith, by-said .0)
 
 loop-again : tie.Need-loop-again Inv-loop μ-loop
 loop-again c =
-    let k = c .before .before .before in
-    let l = k .before .before in
-    let folds = l .before .before .args .folds .now in
-    l .loop .inv ∙ prev-jump folds (l .loop .r) _ _ (said folds (l .loop .r - 1) _ (sym (c .before .s .given .1) ∙ k .cover .ensures))
+    let at-cover = c .before .before .before in
+    let at-loop = at-cover .before .before in
+    let folds = at-loop .before .before .args .folds .now in
+    at-loop .loop .inv ∙ prev-jump folds (at-loop .loop .r) _ _ (said folds (at-loop .loop .r - 1) _ (sym (c .before .s .given .1) ∙ at-cover .cover .ensures))
 
 returns : tie.Need-returns Inv-loop μ-loop
 returns c =
-    let k = c .before .before in
-    let l = k .before .before in
-    let folds = l .before .before .args .folds .now in
-    let v = said folds (l .loop .r - 1) _ (sym (c .enum-told .given .1) ∙ k .cover .ensures) in
-    sym (l .loop .inv ∙ prev-here folds (l .loop .r) v (k .before .loop-test .taken))
+    let at-cover = c .before .before in
+    let at-loop = at-cover .before .before in
+    let folds = at-loop .before .before .args .folds .now in
+    let by-said = said folds (at-loop .loop .r - 1) _ (sym (c .enum-told .given .1) ∙ at-cover .cover .ensures) in
+    sym (at-loop .loop .inv ∙ prev-here folds (at-loop .loop .r) by-said (at-cover .before .loop-test .taken))
 
 returns-2 : tie.Need-returns-2 Inv-loop μ-loop
 returns-2 c = sym (c .before .loop .inv ∙ prev-none (c .before .before .before .args .folds .now) (c .before .loop .r) (c .loop-test .left))

@@ -10,29 +10,29 @@ use Rattle.jumps.proofs.call.caret_of.Tie as tie
 
 start-of-requires : tie.Need-start-of-requires
 start-of-requires c κs =
-    let s = c .before .before in
-    (s .pre .1, s .pre .2 .in-row)
+    let at-start = c .before .before in
+    (at-start .pre .1, at-start .pre .2 .in-row)
 
 cast-at : tie.Need-cast-at
 cast-at c =
-    let s = c .before .before .before .before in
-    omega (arith, spot-short (s .pre .0) (s .pre .2) .0)
+    let at-start = c .before .before .before .before in
+    omega (arith, spot-short (at-start .pre .0) (at-start .pre .2) .0)
 
 sub-at : tie.Need-sub-at
 sub-at c =
-    let s = c .before .before .before .before .before in
-    omega (arith, c .before .before .start-of .ensures, s .pre .2 .from)
+    let at-start = c .before .before .before .before .before in
+    omega (arith, c .before .before .start-of .ensures, at-start .pre .2 .from)
 
 cast-at-2 : tie.Need-cast-at-2
 cast-at-2 c =
-    let s = c .before .before .before .before .before in
-    omega (arith, spot-short (s .pre .0) (s .pre .2) .1)
+    let at-start = c .before .before .before .before .before in
+    omega (arith, spot-short (at-start .pre .0) (at-start .pre .2) .1)
 
 returns : tie.Need-returns
 returns c =
     let started = c .before .before .before in
-    let a = started .before .before .before .args in
-    c .at .ensures ∙ ap (λ (x : ℕ). caretAt (a .r .row) (a .r .at - x) (a .k .sticky)) (started .start-of .ensures)
+    let given = started .before .before .before .args in
+    c .at .ensures ∙ ap (λ (x : ℕ). caretAt (given .r .row) (given .r .at - x) (given .k .sticky)) (started .start-of .ensures)
 
 pub caret-of-spec : {M : Type 1} → statement M
 caret-of-spec = tie.close (tie.spec start-of-requires cast-at sub-at cast-at-2 (λ c κs. search needs) returns)

@@ -19,18 +19,20 @@ returns : tie.Need-returns
 returns c =
     let folded = c .before in
     let met = folded .before in
-    let a = met .before .before .before .before .before .before .before .args in
-    let number = folded .or-folds .ensures ∙ folds-number (a .t .now) (here (a .k)) (met .enter .result) (met .enter .ensures) (a .folds .now) in
-    refused-early (a .t .now) (a .starts .now) (a .content) (a .folds .now) (a .list .now) (a .k) (a .jumps .now) (a .answers .now) (c .if1 .taken) number
+    let given = met .before .before .before .before .before .before .before .args in
+    let number = folded .or-folds .ensures ∙ folds-number (given .t .now) (here (given .k)) (met .enter .result) (met .enter .ensures) (given .folds .now) in
+    refused-early (given .t .now) (given .starts .now) (given .content) (given .folds .now) (given .list .now) (given .k) (given .jumps .now)
+    (given .answers .now) (c .if1 .taken) number
 
 returns-2 : tie.Need-returns-2
 returns-2 c =
     let parsed = c .before .before in
     let folded = parsed .before .before in
     let met = folded .before in
-    let a = met .before .before .before .before .before .before .before .args in
-    let number = folded .or-folds .ensures ∙ folds-number (a .t .now) (here (a .k)) (met .enter .result) (met .enter .ensures) (a .folds .now) in
-    refused-list (a .t .now) (a .starts .now) (a .content) (a .folds .now) (a .list .now) (a .k) (a .jumps .now) (a .answers .now) (c .if2 .taken)
+    let given = met .before .before .before .before .before .before .before .args in
+    let number = folded .or-folds .ensures ∙ folds-number (given .t .now) (here (given .k)) (met .enter .result) (met .enter .ensures) (given .folds .now) in
+    refused-list (given .t .now) (given .starts .now) (given .content) (given .folds .now) (given .list .now) (given .k) (given .jumps .now)
+    (given .answers .now) (c .if2 .taken)
     (sym number ∙ parsed .before .if1 .left) (ap (λ (x : Parsed). x .refusal) (parsed .parse .ensures))
 
 late-refusal-requires : tie.Need-late-refusal-requires
@@ -38,9 +40,9 @@ late-refusal-requires c κs =
     let parsed = c .before .before in
     let folded = parsed .before .before in
     let met = folded .before in
-    let a = met .before .before .before .before .before .before .before .args in
-    let none = folds-none (met .enter .result) (a .folds .now) (sym (folded .or-folds .ensures) ∙ parsed .before .if1 .left) in
-    entered (a .t .now) (here (a .k)) (met .enter .result) (met .enter .ensures) (none .0) .all-rows
+    let given = met .before .before .before .before .before .before .before .args in
+    let none = folds-none (met .enter .result) (given .folds .now) (sym (folded .or-folds .ensures) ∙ parsed .before .if1 .left) in
+    entered (given .t .now) (here (given .k)) (met .enter .result) (met .enter .ensures) (none .0) .all-rows
 
 returns-3 : tie.Need-returns-3
 returns-3 c =
@@ -49,9 +51,10 @@ returns-3 c =
     let parsed = tested .before .before in
     let folded = parsed .before .before in
     let met = folded .before in
-    let a = met .before .before .before .before .before .before .before .args in
-    let number = folded .or-folds .ensures ∙ folds-number (a .t .now) (here (a .k)) (met .enter .result) (met .enter .ensures) (a .folds .now) in
-    refused-late (a .t .now) (a .starts .now) (a .content) (a .folds .now) (a .list .now) (a .k) (a .jumps .now) (a .answers .now)
+    let given = met .before .before .before .before .before .before .before .args in
+    let number = folded .or-folds .ensures ∙ folds-number (given .t .now) (here (given .k)) (met .enter .result) (met .enter .ensures) (given .folds .now) in
+    refused-late (given .t .now) (given .starts .now) (given .content) (given .folds .now) (given .list .now) (given .k) (given .jumps .now)
+    (given .answers .now)
     (sym number ∙ parsed .before .if1 .left) (sym (ap (λ (x : Parsed). x .refusal) (parsed .parse .ensures)) ∙ tested .if2 .left) (c .if3 .taken)
     (late .late-refusal .ensures)
 
@@ -63,13 +66,14 @@ returns-4 c =
     let parsed = tested .before .before in
     let folded = parsed .before .before in
     let met = folded .before in
-    let a = met .before .before .before .before .before .before .before .args in
-    let number = folded .or-folds .ensures ∙ folds-number (a .t .now) (here (a .k)) (met .enter .result) (met .enter .ensures) (a .folds .now) in
-    run-through (a .t .now) (a .starts .now) (a .content) (a .folds .now) (a .list .now) (a .k) (a .jumps .now) (a .answers .now)
+    let given = met .before .before .before .before .before .before .before .args in
+    let number = folded .or-folds .ensures ∙ folds-number (given .t .now) (here (given .k)) (met .enter .result) (met .enter .ensures) (given .folds .now) in
+    run-through (given .t .now) (given .starts .now) (given .content) (given .folds .now) (given .list .now) (given .k) (given .jumps .now)
+    (given .answers .now)
     (sym number ∙ parsed .before .if1 .left) (sym (ap (λ (x : Parsed). x .refusal) (parsed .parse .ensures)) ∙ tested .if2 .left)
     (sym (late .late-refusal .ensures) ∙ c .before .if3 .left)
-    (none-caret (a .t .now) (a .folds .now) (a .list .now) (a .jumps .now) (a .k) (c .if4 .taken))
-    (none-places (a .t .now) (a .folds .now) (a .list .now) (a .jumps .now) (a .answers .now) (a .k) (c .if4 .taken))
+    (none-caret (given .t .now) (given .folds .now) (given .list .now) (given .jumps .now) (given .k) (c .if4 .taken))
+    (none-places (given .t .now) (given .folds .now) (given .list .now) (given .jumps .now) (given .answers .now) (given .k) (c .if4 .taken))
 
 to-end-requires : tie.Need-to-end-requires
 to-end-requires c κs =
@@ -78,17 +82,18 @@ to-end-requires c κs =
     let parsed = tested .before .before in
     let folded = parsed .before .before in
     let met = folded .before in
-    let a = met .before .before .before .before .before .before .before .args in
-    let e = met .enter .result in
+    let given = met .before .before .before .before .before .before .before .args in
+    let enter-result = met .enter .result in
     let is = met .enter .ensures in
-    let none = folds-none e (a .folds .now) (sym (folded .or-folds .ensures) ∙ parsed .before .if1 .left) in
-    let clear = entry-clear (a .t .now) (here (a .k)) e is (none .0) in
-    let accepted = entered (a .t .now) (here (a .k)) e is (none .0) in
-    let last = late-accepted (a .t .now) (a .starts .now) (a .content) (a .jumps .now) (a .answers .now) clear (sym (late .late-refusal .ensures) ∙ c .before .before .if3 .left) in (
+    let none = folds-none enter-result (given .folds .now) (sym (folded .or-folds .ensures) ∙ parsed .before .if1 .left) in
+    let clear = entry-clear (given .t .now) (here (given .k)) enter-result is (none .0) in
+    let accepted = entered (given .t .now) (here (given .k)) enter-result is (none .0) in
+    let last = late-accepted (given .t .now) (given .starts .now) (given .content) (given .jumps .now) (given .answers .now) clear
+    (sym (late .late-refusal .ensures) ∙ c .before .before .if3 .left) in (
       clear,
       accepted,
       rw (sym (accepted .all-rows)) (none .1),
-      parse-length (a .list .now) (parsed .parse .result) (parsed .parse .ensures) (tested .if2 .left),
+      parse-length (given .list .now) (parsed .parse .result) (parsed .parse .ensures) (tested .if2 .left),
       last .0,
       last .1,
     )
@@ -105,23 +110,26 @@ returns-5 c =
     let parsed = tested .before .before in
     let folded = parsed .before .before in
     let met = folded .before in
-    let a = met .before .before .before .before .before .before .before .args in
-    let t = a .t .now in
-    let e = met .enter .result in
+    let given = met .before .before .before .before .before .before .before .args in
+    let text-now = given .t .now in
+    let enter-result = met .enter .result in
     let is = met .enter .ensures in
-    let number = folded .or-folds .ensures ∙ folds-number t (here (a .k)) e is (a .folds .now) in
-    let none = folds-none e (a .folds .now) (sym (folded .or-folds .ensures) ∙ parsed .before .if1 .left) in
-    let clear = entry-clear t (here (a .k)) e is (none .0) in
-    let good = rw (entered t (here (a .k)) e is (none .0) .all-rows) at (none .1) in
+    let number = folded .or-folds .ensures ∙ folds-number text-now (here (given .k)) enter-result is (given .folds .now) in
+    let none = folds-none enter-result (given .folds .now) (sym (folded .or-folds .ensures) ∙ parsed .before .if1 .left) in
+    let clear = entry-clear text-now (here (given .k)) enter-result is (none .0) in
+    let good = rw (entered text-now (here (given .k)) enter-result is (none .0) .all-rows) at (none .1) in
     let listed = sym (ap (λ (x : Parsed). x .refusal) (parsed .parse .ensures)) ∙ tested .if2 .left in
-    let placed = inside t (here (a .k)) (sym (entry-number t (here (a .k)) e is) ∙ none .0) in
+    let placed = inside text-now (here (given .k)) (sym (entry-number text-now (here (given .k)) enter-result is) ∙ none .0) in
     let nothing = sym (late .late-refusal .ensures) ∙ some .before .if3 .left in
-    let course = late-accepted t (a .starts .now) (a .content) (a .jumps .now) (a .answers .now) clear nothing .1 in
-    let same = ap (λ (ts : List Token). kindOf (anyToken ts) false) (parse-kept (a .list .now) (parsed .parse .result) (parsed .parse .ensures) (tested .if2 .left)) in
-    run-through t (a .starts .now) (a .content) (a .folds .now) (a .list .now) (a .k) (a .jumps .now) (a .answers .now)
+    let course = late-accepted text-now (given .starts .now) (given .content) (given .jumps .now) (given .answers .now) clear nothing .1 in
+    let same = ap (λ (ts : List Token). kindOf (anyToken ts) false)
+    (parse-kept (given .list .now) (parsed .parse .result) (parsed .parse .ensures) (tested .if2 .left)) in
+    run-through text-now (given .starts .now) (given .content) (given .folds .now) (given .list .now) (given .k) (given .jumps .now) (given .answers .now)
     (sym number ∙ parsed .before .if1 .left) listed nothing
-    (through-caret t (a .folds .now) (a .list .now) (a .k) (a .jumps .now) (a .answers .now) clear good listed placed course same (some .if4 .left) (ran .to-end .ensures .0))
-    (through-places t (a .folds .now) (a .list .now) (a .k) (a .jumps .now) (a .answers .now) clear good listed placed course same (ran .to-end .ensures .1))
+    (through-caret text-now (given .folds .now) (given .list .now) (given .k) (given .jumps .now)
+    (given .answers .now) clear good listed placed course same (some .if4 .left) (ran .to-end .ensures .0))
+    (through-places text-now (given .folds .now) (given .list .now) (given .k) (given .jumps .now)
+    (given .answers .now) clear good listed placed course same (ran .to-end .ensures .1))
 
 pub jumps-spec : {M : Type 1} → statement M
 jumps-spec =

@@ -32,8 +32,8 @@ returns-2 : tie.Need-returns-2 Inv-loop μ-loop
 returns-2 c =
     let at-if = c .before .before in
     let at-loop = at-if .before .before in
-    let h = left-two _ _ (at-if .before .loop-test .taken) (at-if .if1 .left) in
-    sym (at-loop .loop .inv .0 ∙ kinds-bad _ (at-loop .loop .i) h (c .if2 .taken))
+    let by-left-two = left-two _ _ (at-if .before .loop-test .taken) (at-if .if1 .left) in
+    sym (at-loop .loop .inv .0 ∙ kinds-bad _ (at-loop .loop .i) by-left-two (c .if2 .taken))
 
 loop-less : tie.Need-loop-less Inv-loop μ-loop
 loop-less c =
@@ -44,11 +44,11 @@ loop-again : tie.Need-loop-again Inv-loop μ-loop
 loop-again c =
     let at-if = c .before .before in
     let at-loop = at-if .before .before in
-    let h = left-two _ _ (at-if .before .loop-test .taken) (at-if .if1 .left) in
-    (at-loop .loop .inv .0 ∙ kinds-on _ (at-loop .loop .i) h (omega (arith, c .if2 .left)), refl)
+    let by-left-two = left-two _ _ (at-if .before .loop-test .taken) (at-if .if1 .left) in
+    (at-loop .loop .inv .0 ∙ kinds-on _ (at-loop .loop .i) by-left-two (omega (arith, c .if2 .left)), refl)
 
 returns-3 : tie.Need-returns-3 Inv-loop μ-loop
-returns-3 c = let l = c .before .loop in sym (l .inv .0 ∙ kinds-none _ (l .i) (omega (arith, c .loop-test .left)))
+returns-3 c = let at-loop = c .before .loop in sym (at-loop .inv .0 ∙ kinds-none _ (at-loop .i) (omega (arith, c .loop-test .left)))
 
 pub kind-refusal-spec : {M : Type 1} → statement M
 kind-refusal-spec =

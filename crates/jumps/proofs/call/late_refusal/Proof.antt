@@ -10,29 +10,31 @@ use Rattle.jumps.proofs.call.late_refusal.Tie as tie
 returns : tie.Need-returns
 returns c =
     let told = c .before in
-    let s = told .before .before .before .before in
-    let a = s .args in
-    let table = told .table-refusal .ensures ∙ ap (λ (n : ℕ). tableRefusal n (a .t .now) (a .starts .now) (a .content)) (s .pre) in
-    late-table (a .t .now) (a .starts .now) (a .content) (a .jumps .now) (a .places) table (c .if1 .taken)
+    let at-start = told .before .before .before .before in
+    let given = at-start .args in
+    let table = told .table-refusal .ensures ∙ ap (λ (n : ℕ). tableRefusal n (given .t .now) (given .starts .now) (given .content)) (at-start .pre) in
+    late-table (given .t .now) (given .starts .now) (given .content) (given .jumps .now) (given .places) table (c .if1 .taken)
 
 returns-2 : tie.Need-returns-2
 returns-2 c =
     let kinds = c .before in
     let told = kinds .before .before in
-    let s = told .before .before .before .before in
-    let a = s .args in
-    let table = told .table-refusal .ensures ∙ ap (λ (n : ℕ). tableRefusal n (a .t .now) (a .starts .now) (a .content)) (s .pre) in
-    late-kind (a .t .now) (a .starts .now) (a .content) (a .jumps .now) (a .places) table (kinds .before .if1 .left) (kinds .kind-refusal .ensures)
+    let at-start = told .before .before .before .before in
+    let given = at-start .args in
+    let table = told .table-refusal .ensures ∙ ap (λ (n : ℕ). tableRefusal n (given .t .now) (given .starts .now) (given .content)) (at-start .pre) in
+    late-kind (given .t .now) (given .starts .now) (given .content) (given .jumps .now) (given .places) table (kinds .before .if1 .left)
+    (kinds .kind-refusal .ensures)
     (c .if2 .taken)
 
 returns-3 : tie.Need-returns-3
 returns-3 c =
     let kinds = c .before .before in
     let told = kinds .before .before in
-    let s = told .before .before .before .before in
-    let a = s .args in
-    let table = told .table-refusal .ensures ∙ ap (λ (n : ℕ). tableRefusal n (a .t .now) (a .starts .now) (a .content)) (s .pre) in
-    late-answer (a .t .now) (a .starts .now) (a .content) (a .jumps .now) (a .places) table (kinds .before .if1 .left) (kinds .kind-refusal .ensures)
+    let at-start = told .before .before .before .before in
+    let given = at-start .args in
+    let table = told .table-refusal .ensures ∙ ap (λ (n : ℕ). tableRefusal n (given .t .now) (given .starts .now) (given .content)) (at-start .pre) in
+    late-answer (given .t .now) (given .starts .now) (given .content) (given .jumps .now) (given .places) table (kinds .before .if1 .left)
+    (kinds .kind-refusal .ensures)
     (c .before .if2 .left) (c .answer-refusal .ensures)
 
 pub late-refusal-spec : {M : Type 1} → statement M

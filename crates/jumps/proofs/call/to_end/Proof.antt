@@ -15,20 +15,25 @@ use Rattle.jumps.proofs.call.to_end.Tie as tie
 
 add-at : tie.Need-add-at
 add-at c =
-    let s = c .before .before .before .before .before .before .before in
-    omega (arith, s .pre .1 .here .within, s .pre .1 .brief)
+    let at-start = c .before .before .before .before .before .before .before in
+    omega (arith, at-start .pre .1 .here .within, at-start .pre .1 .brief)
 
 run-by-requires : tie.Need-run-by-requires
 run-by-requires c κs =
-    let s = c .before .before .before .before .before .before .before .before .before in
-    let a = s .args in
-    (s .pre .0, s .pre .4, s .pre .3, word-ready (a .t .now) (a .folds .now) (a .k) (a .e) (s .pre .1) (s .pre .2), s .pre .5)
+    let at-start = c .before .before .before .before .before .before .before .before .before in
+    let given = at-start .args in (
+      at-start .pre .0,
+      at-start .pre .4,
+      at-start .pre .3,
+      word-ready (given .t .now) (given .folds .now) (given .k) (given .e) (at-start .pre .1) (at-start .pre .2),
+      at-start .pre .5,
+    )
 
 caret-of-requires : tie.Need-caret-of-requires
 caret-of-requires c κs =
     let ran = c .before .before in
-    let s = ran .before .before .before .before .before .before .before .before .before .before in
-    (s .pre .0, s .pre .4, ran .run-by .ensures .spot)
+    let at-start = ran .before .before .before .before .before .before .before .before .before .before in
+    (at-start .pre .0, at-start .pre .4, ran .run-by .ensures .spot)
 
 same-length : tie.Need-same-length
 same-length c = c .before .before .before .run-by .ensures .left .size
@@ -36,12 +41,13 @@ same-length c = c .before .before .before .run-by .ensures .left .size
 returns : tie.Need-returns
 returns c =
     let ran = c .before .before .before in
-    let s = ran .before .before .before .before .before .before .before .before .before .before in
-    let a = s .args in
-    let class = kindOf (anyToken (kept (a .spec))) false in
-    let from = place-of (a .t .now) (a .k) (a .e) (s .pre .1) in (
-      c .caret-of .ensures ∙ ap (put (a .k)) (ran .run-by .ensures .place ∙ ap (leapEnd (a .t .now) (a .folds .now) class (a .jumps .now)) from),
-      over-as (ap (leapPlaces (a .t .now) (a .folds .now) class (a .jumps .now)) from) (ran .run-by .ensures .left),
+    let at-start = ran .before .before .before .before .before .before .before .before .before .before in
+    let given = at-start .args in
+    let class = kindOf (anyToken (kept (given .spec))) false in
+    let from = place-of (given .t .now) (given .k) (given .e) (at-start .pre .1) in (
+      c .caret-of .ensures
+          ∙ ap (put (given .k)) (ran .run-by .ensures .place ∙ ap (leapEnd (given .t .now) (given .folds .now) class (given .jumps .now)) from),
+      over-as (ap (leapPlaces (given .t .now) (given .folds .now) class (given .jumps .now)) from) (ran .run-by .ensures .left),
     )
 
 pub to-end-spec : {M : Type 1} → statement M

@@ -9,38 +9,40 @@ use Rattle.jumps.proofs.leaps.leap.Tie as tie
 
 to-partner-requires : tie.Need-to-partner-requires
 to-partner-requires c κs =
-    let s = c .before .before .before .before .before .before in
-    let f = s .pre .0 in
-    (f .clear, f .tabled, f .round .folded .spot)
+    let at-start = c .before .before .before .before .before .before in
+    let required = at-start .pre .0 in
+    (required .clear, required .tabled, required .round .folded .spot)
 
 returns : tie.Need-returns
 returns c =
-    let s = c .before .before .before .before .before .before .before in
-    let a = s .args in
+    let at-start = c .before .before .before .before .before .before .before in
+    let given = at-start .args in
     record {
       place =
           c .to-partner .ensures .0
-          ∙ sym (leapt-key (a .t .now) (a .folds .now) (kindBy (a .bounds .now) (a .s)) (a .kind) (a .count) (placeOf (a .t .now) (a .p)) (c .before .if1 .taken));
+          ∙ sym (leapt-key (given .t .now) (given .folds .now) (kindBy (given .bounds .now) (given .s)) (given .kind) (given .count)
+          (placeOf (given .t .now) (given .p)) (c .before .if1 .taken));
       spot = c .to-partner .ensures .1;
-      bare = s .pre .1;
+      bare = at-start .pre .1;
     }
 
 rounds-from-requires : tie.Need-rounds-from-requires
 rounds-from-requires c κs =
-    let s = c .before .before .before .before .before .before .before .before in
-    (s .pre .0 .round, s .pre .1)
+    let at-start = c .before .before .before .before .before .before .before .before in
+    (at-start .pre .0 .round, at-start .pre .1)
 
 returns-2 : tie.Need-returns-2
 returns-2 c =
     let counted = c .before in
     let told = counted .before in
-    let s = told .before .before .before .before .before .before .before in
-    let a = s .args in
+    let at-start = told .before .before .before .before .before .before .before in
+    let given = at-start .args in
     let walked = c .rounds-from .ensures in
     record {
       place =
           walked .place
-          ∙ rounds-leapt (a .t .now) (a .folds .now) (kindBy (a .bounds .now) (a .s)) (a .kind) (a .count) (placeOf (a .t .now) (a .p)) (s .pre .0 .small)
+          ∙ rounds-leapt (given .t .now) (given .folds .now) (kindBy (given .bounds .now) (given .s)) (given .kind) (given .count)
+          (placeOf (given .t .now) (given .p)) (at-start .pre .0 .small)
           (told .motion-of .ensures) (counted .rounds-of .ensures) (told .before .if1 .left);
       spot = walked .spot;
       bare = walked .bare;

@@ -7,19 +7,25 @@ use Rattle.jumps.proofs.leaps.spot_of.Tie as tie
 
 start-of-requires : tie.Need-start-of-requires
 start-of-requires c κs =
-    let s = c .before .before in
-    (s .pre .1, s .pre .2 .in-row)
+    let at-start = c .before .before in
+    (at-start .pre .1, at-start .pre .2 .in-row)
 
 add-t6 : tie.Need-add-t6
 add-t6 c =
-    let s = c .before .before .before .before in
-    omega (arith, spot-there (s .args .t .now) (s .args .q) (s .pre .2) (c .before .start-of .ensures) .within, accepted-short (s .args .t .now) (s .pre .0))
+    let at-start = c .before .before .before .before in
+    omega (
+      arith,
+      spot-there (at-start .args .t .now) (at-start .args .q) (at-start .pre .2) (c .before .start-of .ensures) .within,
+      accepted-short (at-start .args .t .now) (at-start .pre .0),
+    )
 
 returns : tie.Need-returns
 returns c =
-    let s = c .before .before .before .before in
-    let e = c .before .start-of .ensures in
-    (spot-place (s .args .t .now) (s .args .q) (s .pre .2) e, spot-there (s .args .t .now) (s .args .q) (s .pre .2) e)
+    let at-start = c .before .before .before .before in
+    let start-of-told = c .before .start-of .ensures in (
+      spot-place (at-start .args .t .now) (at-start .args .q) (at-start .pre .2) start-of-told,
+      spot-there (at-start .args .t .now) (at-start .args .q) (at-start .pre .2) start-of-told,
+    )
 
 pub spot-of-spec : {M : Type 1} → statement M
 spot-of-spec = tie.close (tie.spec start-of-requires add-t6 returns)

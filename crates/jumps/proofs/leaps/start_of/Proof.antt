@@ -10,16 +10,16 @@ mul-result c = omega (arith, table-room (c .args .t .now) (c .args .table .now) 
 
 shared-slice-read-result : tie.Need-shared-slice-read-result
 shared-slice-read-result c =
-    let s = c .before in
-    omega (arith, table-room (s .args .t .now) (s .args .table .now) (s .pre .0), s .pre .1)
+    let at-start = c .before in
+    omega (arith, table-room (at-start .args .t .now) (at-start .args .table .now) (at-start .pre .0), at-start .pre .1)
 
 cast-result : tie.Need-cast-result
 cast-result c = omega (arith, c .shared-slice-known .given (c .before .args .row))
 
 returns : tie.Need-returns
 returns c =
-    let s = c .before in
-    table-start (s .args .t .now) (s .args .table .now) (s .pre .0) (s .args .row) (s .pre .1)
+    let at-start = c .before in
+    table-start (at-start .args .t .now) (at-start .args .table .now) (at-start .pre .0) (at-start .args .row) (at-start .pre .1)
 
 pub start-of-spec : {M : Type 1} → statement M
 start-of-spec = tie.close (tie.spec mul-result shared-slice-read-result cast-result returns)

@@ -9,19 +9,19 @@ use Rattle.jumps.proofs.leaps.to_partner.Tie as tie
 
 start-of-requires : tie.Need-start-of-requires
 start-of-requires c κs =
-    let s = c .before .before in
-    (s .pre .1, s .pre .2 .in-row)
+    let at-start = c .before .before in
+    (at-start .pre .1, at-start .pre .2 .in-row)
 
 -- the row starts at or before the spot
 sub-match-bracket-from : tie.Need-sub-match-bracket-from
 sub-match-bracket-from c =
-    let s = c .before .before .before .before in
-    omega (arith, c .before .start-of .ensures, s .pre .2 .from)
+    let at-start = c .before .before .before .before in
+    omega (arith, c .before .start-of .ensures, at-start .pre .2 .from)
 
 match-bracket-from-requires : tie.Need-match-bracket-from-requires
 match-bracket-from-requires c κs =
-    let s = c .before .before .before .before in
-    (s .pre .0, line-here (s .args .t .now) (s .args .p) (c .before .start-of .ensures) (s .pre .2 .in-row))
+    let at-start = c .before .before .before .before in
+    (at-start .pre .0, line-here (at-start .args .t .now) (at-start .args .p) (c .before .start-of .ensures) (at-start .pre .2 .in-row))
 
 -- the partner is in the text
 spot-of-requires : tie.Need-spot-of-requires
@@ -29,11 +29,11 @@ spot-of-requires c κs =
     let found = c .before in
     let walked = found .before .before in
     let started = walked .before .before in
-    let s = started .before .before .before in
-    let p = s .args .p in (
-      s .pre .0,
-      s .pre .1,
-      key-inside (s .args .t .now) (p .row) (p .at - started .start-of .result) _ (s .pre .0)
+    let at-start = started .before .before .before in
+    let given-p = at-start .args .p in (
+      at-start .pre .0,
+      at-start .pre .1,
+      key-inside (at-start .args .t .now) (given-p .row) (given-p .at - started .start-of .result) _ (at-start .pre .0)
           (sym (walked .match-bracket-from .ensures) ∙ found .q .given .1),
     )
 
@@ -42,9 +42,9 @@ returns c =
     let found = c .before .before in
     let walked = found .before .before in
     let started = walked .before .before in
-    let s = started .before .before .before in (
+    let at-start = started .before .before .before in (
       c .spot-of .ensures .0
-          ∙ partner-is (s .args .t .now) (s .args .p) (started .start-of .ensures) (walked .match-bracket-from .ensures) (found .q .given .1),
+          ∙ partner-is (at-start .args .t .now) (at-start .args .p) (started .start-of .ensures) (walked .match-bracket-from .ensures) (found .q .given .1),
       c .spot-of .ensures .1,
     )
 
@@ -52,15 +52,21 @@ returns-2 : tie.Need-returns-2
 returns-2 c =
     let walked = c .before .before in
     let started = walked .before .before in
-    let s = started .before .before .before in
-    (partner-is (s .args .t .now) (s .args .p) (started .start-of .ensures) (walked .match-bracket-from .ensures) (c .enum-told .given .1), s .pre .2)
+    let at-start = started .before .before .before in (
+      partner-is (at-start .args .t .now) (at-start .args .p) (started .start-of .ensures) (walked .match-bracket-from .ensures)
+          (c .enum-told .given .1),
+      at-start .pre .2,
+    )
 
 returns-3 : tie.Need-returns-3
 returns-3 c =
     let walked = c .before .before in
     let started = walked .before .before in
-    let s = started .before .before .before in
-    (partner-is (s .args .t .now) (s .args .p) (started .start-of .ensures) (walked .match-bracket-from .ensures) (c .enum-told2 .given .1), s .pre .2)
+    let at-start = started .before .before .before in (
+      partner-is (at-start .args .t .now) (at-start .args .p) (started .start-of .ensures) (walked .match-bracket-from .ensures)
+          (c .enum-told2 .given .1),
+      at-start .pre .2,
+    )
 
 pub to-partner-spec : {M : Type 1} → statement M
 to-partner-spec =

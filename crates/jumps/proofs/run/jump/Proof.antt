@@ -11,30 +11,30 @@ use Rattle.jumps.proofs.run.jump.Tie as tie
 
 leap-requires : tie.Need-leap-requires
 leap-requires c κs =
-    let s = c .before .before .before .before .before .before .before .before .before in
-    (s .pre .0, s .pre .1)
+    let at-start = c .before .before .before .before .before .before .before .before .before in
+    (at-start .pre .0, at-start .pre .1)
 
 start-of-requires : tie.Need-start-of-requires
 start-of-requires c κs =
     let leapt = c .before in
-    let s = leapt .before .before .before .before .before .before .before .before .before .before in
-    (s .pre .0 .tabled, leapt .leap .ensures .spot .in-row)
+    let at-start = leapt .before .before .before .before .before .before .before .before .before .before in
+    (at-start .pre .0 .tabled, leapt .leap .ensures .spot .in-row)
 
 cast-answers : tie.Need-cast-answers
 cast-answers c =
     let leapt = c .before .before .before in
-    let s = leapt .before .before .before .before .before .before .before .before .before .before in
-    omega (arith, spot-short (s .pre .0 .clear) (leapt .leap .ensures .spot) .0)
+    let at-start = leapt .before .before .before .before .before .before .before .before .before .before in
+    omega (arith, spot-short (at-start .pre .0 .clear) (leapt .leap .ensures .spot) .0)
 
 mul-answers : tie.Need-mul-answers
 mul-answers c =
-    let s = c .before .before .before .before .before .before .before .before .before .before .before .before .before in
-    omega (arith, s .pre .3)
+    let at-start = c .before .before .before .before .before .before .before .before .before .before .before .before .before in
+    omega (arith, at-start .pre .3)
 
 slice-write-answers : tie.Need-slice-write-answers
 slice-write-answers c =
-    let s = c .before .before .before .before .before .before .before .before .before .before .before .before .before in
-    omega (arith, s .pre .3)
+    let at-start = c .before .before .before .before .before .before .before .before .before .before .before .before .before in
+    omega (arith, at-start .pre .3)
 
 sub-answers : tie.Need-sub-answers
 sub-answers c =
@@ -44,35 +44,35 @@ sub-answers c =
 cast-answers-2 : tie.Need-cast-answers-2
 cast-answers-2 c =
     let leapt = c .before .before .before .before in
-    let s = leapt .before .before .before .before .before .before .before .before .before .before in
-    omega (arith, spot-short (s .pre .0 .clear) (leapt .leap .ensures .spot) .1)
+    let at-start = leapt .before .before .before .before .before .before .before .before .before .before in
+    omega (arith, spot-short (at-start .pre .0 .clear) (leapt .leap .ensures .spot) .1)
 
 add-answers : tie.Need-add-answers
 add-answers c =
-    let s = c .before .before .before .before .before .before .before .before .before .before .before .before .before .before in
-    omega (arith, s .pre .2)
+    let at-start = c .before .before .before .before .before .before .before .before .before .before .before .before .before .before in
+    omega (arith, at-start .pre .2)
 
 mul-answers-2 : tie.Need-mul-answers-2
 mul-answers-2 c =
-    let s = c .before .before .before .before .before .before .before .before .before .before .before .before .before .before in
-    omega (arith, s .pre .3)
+    let at-start = c .before .before .before .before .before .before .before .before .before .before .before .before .before .before in
+    omega (arith, at-start .pre .3)
 
 slice-write-answers-2 : tie.Need-slice-write-answers-2
 slice-write-answers-2 c =
     let leapt = c .before .before .before .before in
-    let s = leapt .before .before .before .before .before .before .before .before .before .before in
-    omega (arith, s .pre .3, length-set (s .args .answers .now) (s .args .i) (leapt .leap .result .spot .row))
+    let at-start = leapt .before .before .before .before .before .before .before .before .before .before in
+    omega (arith, at-start .pre .3, length-set (at-start .args .answers .now) (at-start .args .i) (leapt .leap .result .spot .row))
 
 returns : tie.Need-returns
 returns c =
     let started = c .before .before in
     let leapt = started .before .before in
-    let s = leapt .before .before .before .before .before .before .before .before .before .before in
-    let a = s .args in
+    let at-start = leapt .before .before .before .before .before .before .before .before .before .before in
+    let given = at-start .args in
     let to = leapt .leap .result .spot in
     record {
       leaps = leapt .leap .ensures;
-      left = ap (λ (x : ℕ). set (set (a .answers .now) (a .i) (to .row)) (a .i + 1) (to .at - x)) (started .start-of .ensures);
+      left = ap (λ (x : ℕ). set (set (given .answers .now) (given .i) (to .row)) (given .i + 1) (to .at - x)) (started .start-of .ensures);
     }
 
 pub jump-spec : {M : Type 1} → statement M

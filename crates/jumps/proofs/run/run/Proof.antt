@@ -22,12 +22,13 @@ abbrev μ-loop : tie.MeasureT-loop
 
 loop-holds : tie.Need-loop-holds Inv-loop μ-loop
 loop-holds c =
-    let s = c .before .before .before .before .before .before .before .before in
-    let a = s .args in
-    let course = s .pre .1 in (
-      running-first (a .t .now) (a .folds .now) (kindBy (a .bounds .now) (a .s)) (a .jumps .now) (a .answers .now) (placeOf (a .t .now) (a .p))
+    let at-start = c .before .before .before .before .before .before .before .before in
+    let given = at-start .args in
+    let course = at-start .pre .1 in (
+      running-first (given .t .now) (given .folds .now) (kindBy (given .bounds .now) (given .s)) (given .jumps .now) (given .answers .now)
+          (placeOf (given .t .now) (given .p))
           (course .kinds) (course .room),
-      s .pre .0 .round .folded .spot,
+      at-start .pre .0 .round .folded .spot,
       c .around .ensures,
       refl,
     )
@@ -35,40 +36,46 @@ loop-holds c =
 jump-requires : tie.Need-jump-requires Inv-loop μ-loop
 jump-requires c κs =
     let tested = c .before in
-    let l = tested .before .loop in
-    let s = tested .before .before .before .before .before .before .before .before .before .before in
-    let f = s .pre .0 in
-    let two = running-two (l .inv .0) (omega (arith, tested .loop-test .taken, l .inv .3)) in (
-      record { clear = f .clear; tabled = f .tabled; small = f .small; round = set-at (f .round) _ (l .inv .1) },
-      l .inv .2,
+    let at-loop = tested .before .loop in
+    let at-start = tested .before .before .before .before .before .before .before .before .before .before in
+    let required = at-start .pre .0 in
+    let two = running-two (at-loop .inv .0) (omega (arith, tested .loop-test .taken, at-loop .inv .3)) in (
+      record { clear = required .clear; tabled = required .tabled; small = required .small; round = set-at (required .round) _ (at-loop .inv .1) },
+      at-loop .inv .2,
       two,
-      omega (arith, two, l .inv .0 .room),
+      omega (arith, two, at-loop .inv .0 .room),
     )
 
 -- the length of a list fits a usize
 add-i : tie.Need-add-i Inv-loop μ-loop
 add-i c =
     let tested = c .before .before .before .before .before .before in
-    let l = tested .before .loop in
-    let s = tested .before .before .before .before .before .before .before .before .before .before in
-    omega (arith, s .good .1 .1 .1 .1 .1 .1 .1 .0 .0, l .inv .3, running-two (l .inv .0) (omega (arith, tested .loop-test .taken, l .inv .3)))
+    let at-loop = tested .before .loop in
+    let at-start = tested .before .before .before .before .before .before .before .before .before .before in
+    omega (
+      arith,
+      at-start .good .1 .1 .1 .1 .1 .1 .1 .0 .0,
+      at-loop .inv .3,
+      running-two (at-loop .inv .0) (omega (arith, tested .loop-test .taken, at-loop .inv .3)),
+    )
 
 loop-less : tie.Need-loop-less Inv-loop μ-loop
 loop-less c =
     let tested = c .before .before .before .before .before .before in
-    let l = tested .before .loop in
-    omega (arith, l .inv .3, running-two (l .inv .0) (omega (arith, tested .loop-test .taken, l .inv .3)))
+    let at-loop = tested .before .loop in
+    omega (arith, at-loop .inv .3, running-two (at-loop .inv .0) (omega (arith, tested .loop-test .taken, at-loop .inv .3)))
 
 loop-again : tie.Need-loop-again Inv-loop μ-loop
 loop-again c =
     let jumped = c .before .before .before .before in
     let tested = jumped .before .before in
-    let l = tested .before .loop in
-    let j = jumped .jump .ensures in (
-      running-next (l .inv .0) (running-two (l .inv .0) (omega (arith, tested .loop-test .taken, l .inv .3))) (j .leaps .place) (j .left),
-      j .leaps .spot,
-      j .leaps .bare,
-      l .inv .3,
+    let at-loop = tested .before .loop in
+    let jump-told = jumped .jump .ensures in (
+      running-next (at-loop .inv .0) (running-two (at-loop .inv .0) (omega (arith, tested .loop-test .taken, at-loop .inv .3)))
+          (jump-told .leaps .place) (jump-told .left),
+      jump-told .leaps .spot,
+      jump-told .leaps .bare,
+      at-loop .inv .3,
     )
 
 same-length : tie.Need-same-length Inv-loop μ-loop
@@ -76,11 +83,11 @@ same-length c = c .before .loop .inv .0 .written .size
 
 returns : tie.Need-returns Inv-loop μ-loop
 returns c =
-    let l = c .before .loop in
+    let at-loop = c .before .loop in
     record {
-      place = sym (running-end (l .inv .0) (omega (arith, c .loop-test .left, l .inv .3)));
-      spot = l .inv .1;
-      left = running-places (l .inv .0) (omega (arith, c .loop-test .left, l .inv .3));
+      place = sym (running-end (at-loop .inv .0) (omega (arith, c .loop-test .left, at-loop .inv .3)));
+      spot = at-loop .inv .1;
+      left = running-places (at-loop .inv .0) (omega (arith, c .loop-test .left, at-loop .inv .3));
     }
 
 pub run-spec : {M : Type 1} → statement M

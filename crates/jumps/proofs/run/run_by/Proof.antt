@@ -12,9 +12,9 @@ use Rattle.jumps.proofs.run.run_by.Tie as tie
 run-with-letters-requires : tie.Need-run-with-letters-requires
 run-with-letters-requires c κs =
     let prepared = c .before .before .before .before .before in
-    let s = prepared .before .before .before .before .before .before in
+    let at-start = prepared .before .before .before .before .before .before in
     let made = prepared .prepare .ensures in
-    (s .pre .0, s .pre .1, made .is-big, made .room, made-folded made (s .pre .3), s .pre .4)
+    (at-start .pre .0, at-start .pre .1, made .is-big, made .room, made-folded made (at-start .pre .3), at-start .pre .4)
 
 same-length : tie.Need-same-length
 same-length c = c .before .before .run-with-letters .ensures .left .size
@@ -22,27 +22,28 @@ same-length c = c .before .before .run-with-letters .ensures .left .size
 returns : tie.Need-returns
 returns c =
     let ran = c .before .before in
-    ran-as (ran .before .before .before .before .before .before .prepare .ensures .kinds) (ran .run-with-letters .ensures)
+    let at-prepare = ran .before .before .before .before .before .before in
+    ran-as (at-prepare .prepare .ensures .kinds) (ran .run-with-letters .ensures)
 
 -- no code point is high
 run-requires : tie.Need-run-requires
 run-requires c κs =
     let low-test = c .before .before .before .before in
     let prepared = low-test .before .before .before in
-    let s = prepared .before .before .before .before .before .before in
+    let at-start = prepared .before .before .before .before .before .before in
     let made = prepared .prepare .ensures in
     let low = made .none-high (low-test .if1 .left) in (
       record {
-        clear = s .pre .0;
-        tabled = s .pre .1;
+        clear = at-start .pre .0;
+        tabled = at-start .pre .1;
         small = made .is-big;
         round =
             record {
-              lent = record { room = made .room; lent = λ h. let z : _≡_ {A = ℕ} 0 1 = cc (sym h ∙ low) in absurd (omega arith) };
-              folded = made-folded made (s .pre .3);
+              lent = record { room = made .room; lent = λ h. let never : _≡_ {A = ℕ} 0 1 = cc (sym h ∙ low) in absurd (omega arith) };
+              folded = made-folded made (at-start .pre .3);
             };
       },
-      s .pre .4,
+      at-start .pre .4,
     )
 
 same-length-2 : tie.Need-same-length-2
@@ -51,7 +52,8 @@ same-length-2 c = c .before .before .run .ensures .left .size
 returns-2 : tie.Need-returns-2
 returns-2 c =
     let ran = c .before .before in
-    ran-as (ran .before .before .before .before .before .before .before .before .prepare .ensures .kinds) (ran .run .ensures)
+    let at-prepare = ran .before .before .before .before .before .before .before .before in
+    ran-as (at-prepare .prepare .ensures .kinds) (ran .run .ensures)
 
 pub run-by-spec : {M : Type 1} → statement M
 run-by-spec =

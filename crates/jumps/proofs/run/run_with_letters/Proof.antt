@@ -8,14 +8,14 @@ use Rattle.jumps.proofs.run.run_with_letters.Tie as tie
 run-requires : tie.Need-run-requires
 unfolding letters
 run-requires c κs =
-    let s = c .before .before .before .before .before .before .before .before in (
+    let at-start = c .before .before .before .before .before .before .before .before in (
       record {
-        clear = s .pre .0;
-        tabled = s .pre .1;
-        small = s .pre .2;
-        round = record { lent = record { room = s .pre .3; lent = λ h. record { starts-are = refl; lengths-are = refl } }; folded = s .pre .4 };
+        clear = at-start .pre .0;
+        tabled = at-start .pre .1;
+        small = at-start .pre .2;
+        round = record { lent = record { room = at-start .pre .3; lent = λ h. record { starts-are = refl; lengths-are = refl } }; folded = at-start .pre .4 };
       },
-      s .pre .5,
+      at-start .pre .5,
     )
 
 same-length : tie.Need-same-length

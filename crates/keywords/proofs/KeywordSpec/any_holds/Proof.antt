@@ -22,26 +22,29 @@ holds-requires c κs = c .before .before .before .is-letter .ensures
 
 returns : tie.Need-returns Inv-loop μ-loop
 returns c =
-    let s = c .before .before .before .before .before .before in
-    let l = c .before .before .before .before .loop in
-    let m : length (s.args.t1.tokens) ≡ 128 = search (needs, places) in
+    let at-start = c .before .before .before .before .before .before in
+    let at-loop = c .before .before .before .before .loop in
+    let size-is : length (at-start.args.t1.tokens) ≡ 128 = search (needs, places) in
     let hit = sym (c .before .holds .ensures) ∙ c .if1 .taken in
-    sym (l.inv .1 ∙ any-hit (λ t. tokenHolds t s.args.c) s.args.t1.tokens s.args.t1.len l.i (omega arith) (omega arith) hit)
+    sym (at-loop.inv .1 ∙ any-hit (λ t. tokenHolds t at-start.args.c) at-start.args.t1.tokens at-start.args.t1.len at-loop.i (omega arith) (omega arith) hit)
 
 loop-again : tie.Need-loop-again Inv-loop μ-loop
 loop-again c =
-    let s = c .before .before .before .before .before .before in
-    let l = c .before .before .before .before .loop in
-    let m : length (s.args.t1.tokens) ≡ 128 = search (needs, places) in
-    let miss = sym (c .before .holds .ensures) ∙ c .if1 .left in
-    (omega arith, l.inv .1 ∙ any-on (λ t. tokenHolds t s.args.c) s.args.t1.tokens s.args.t1.len l.i (omega arith) (omega arith) miss)
+    let at-start = c .before .before .before .before .before .before in
+    let at-loop = c .before .before .before .before .loop in
+    let size-is : length (at-start.args.t1.tokens) ≡ 128 = search (needs, places) in
+    let miss = sym (c .before .holds .ensures) ∙ c .if1 .left in (
+      omega arith,
+      at-loop.inv .1
+          ∙ any-on (λ t. tokenHolds t at-start.args.c) at-start.args.t1.tokens at-start.args.t1.len at-loop.i (omega arith) (omega arith) miss,
+    )
 
 returns-2 : tie.Need-returns-2 Inv-loop μ-loop
 returns-2 c =
-    let s = c .before .before .before in
-    let l = c .before .loop in
-    let m : length (s.args.t1.tokens) ≡ 128 = search (needs, places) in
-    sym (l.inv .1 ∙ any-end (λ t. tokenHolds t s.args.c) s.args.t1.tokens s.args.t1.len l.i (c .loop-test .left) (omega arith))
+    let at-start = c .before .before .before in
+    let at-loop = c .before .loop in
+    let size-is : length (at-start.args.t1.tokens) ≡ 128 = search (needs, places) in
+    sym (at-loop.inv .1 ∙ any-end (λ t. tokenHolds t at-start.args.c) at-start.args.t1.tokens at-start.args.t1.len at-loop.i (c .loop-test .left) (omega arith))
 
 pub any-holds-spec : {M : Type 1} → statement M
 any-holds-spec =

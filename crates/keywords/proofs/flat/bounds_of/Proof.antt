@@ -24,19 +24,19 @@ loop-holds c = (search needs, refl)
 -- the two bounds of the token at i
 loop-again : tie.Need-loop-again Inv-loop μ-loop
 loop-again c =
-    let s = c .before .before .before .before .before in
-    let l = c .before .before .before .before .loop in
-    let m : length (s.args.t1.tokens) ≡ 128 = search (needs, places) in (
+    let at-start = c .before .before .before .before .before in
+    let at-loop = c .before .before .before .before .loop in
+    let size-is : length (at-start.args.t1.tokens) ≡ 128 = search (needs, places) in (
       omega arith,
-      flat-push s.args.t1.tokens l.bounds l.i (c .before .low .result) (c .high .result) (omega arith) (omega arith) (l.inv .1)
+      flat-push at-start.args.t1.tokens at-loop.bounds at-loop.i (c .before .low .result) (c .high .result) (omega arith) (omega arith) (at-loop.inv .1)
           (c .before .low .ensures) (c .high .ensures),
     )
 
 returns : tie.Need-returns Inv-loop μ-loop
 returns c =
-    let l = c .before .loop in
-    let e : l.i ≡ c .before .before .args .t1 .len = omega arith in
-    rw (← e) (l.inv .1)
+    let at-loop = c .before .loop in
+    let i-is : at-loop.i ≡ c .before .before .args .t1 .len = omega arith in
+    rw (← i-is) (at-loop.inv .1)
 
 pub bounds-of-spec : {M : Type 1} → statement M
 bounds-of-spec =

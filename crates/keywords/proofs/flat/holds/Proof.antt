@@ -10,15 +10,17 @@ returns c = rw (not-true (c .before .before .before .before .before .args .alpha
 
 returns-2 : tie.Need-returns-2
 returns-2 c =
+    let at-start = c .before .before .before .before .before .before in
     rw (
-      not-false (c .before .before .before .before .before .before .args .alphabetic) (c .before .before .if1 .left),
+      not-false (at-start .args .alphabetic) (c .before .before .if1 .left),
       sym (c .before .letter-in .ensures) ∙ c .if2 .taken,
     )
 
 returns-3 : tie.Need-returns-3
 returns-3 c =
+    let at-start = c .before .before .before .before .before .before .before in
     rw (
-      not-false (c .before .before .before .before .before .before .before .args .alphabetic) (c .before .before .before .if1 .left),
+      not-false (at-start .args .alphabetic) (c .before .before .before .if1 .left),
       sym (c .before .before .letter-in .ensures) ∙ c .before .if2 .left,
     )
     (c .in-bounds2 .ensures)

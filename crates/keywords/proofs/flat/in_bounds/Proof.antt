@@ -18,21 +18,21 @@ abbrev μ-loop : tie.MeasureT-loop
 
 returns : tie.Need-returns Inv-loop μ-loop
 returns c =
-    let s = c .before .before .before .before .before in
-    let l = c .before .before .before .before .loop in
-    sym (l.inv .1 ∙ within-hit s.args.bounds.now s.args.n l.i s.args.c (omega arith) s.pre (c .if1 .taken))
+    let at-start = c .before .before .before .before .before in
+    let at-loop = c .before .before .before .before .loop in
+    sym (at-loop.inv .1 ∙ within-hit at-start.args.bounds.now at-start.args.n at-loop.i at-start.args.c (omega arith) at-start.pre (c .if1 .taken))
 
 loop-again : tie.Need-loop-again Inv-loop μ-loop
 loop-again c =
-    let s = c .before .before .before .before .before in
-    let l = c .before .before .before .before .loop in
-    (omega arith, l.inv .1 ∙ within-on s.args.bounds.now s.args.n l.i s.args.c (omega arith) s.pre (c .if1 .left))
+    let at-start = c .before .before .before .before .before in
+    let at-loop = c .before .before .before .before .loop in
+    (omega arith, at-loop.inv .1 ∙ within-on at-start.args.bounds.now at-start.args.n at-loop.i at-start.args.c (omega arith) at-start.pre (c .if1 .left))
 
 returns-2 : tie.Need-returns-2 Inv-loop μ-loop
 returns-2 c =
-    let s = c .before .before in
-    let l = c .before .loop in
-    sym (l.inv .1 ∙ within-end s.args.bounds.now s.args.n l.i s.args.c (c .loop-test .left) s.pre)
+    let at-start = c .before .before in
+    let at-loop = c .before .loop in
+    sym (at-loop.inv .1 ∙ within-end at-start.args.bounds.now at-start.args.n at-loop.i at-start.args.c (c .loop-test .left) at-start.pre)
 
 pub in-bounds-spec : {M : Type 1} → statement M
 in-bounds-spec =

@@ -21,24 +21,28 @@ abbrev μ-loop : tie.MeasureT-loop
 
 returns : tie.Need-returns Inv-loop μ-loop
 returns c =
-    let s = c .before .before .before .before .before in
-    let l = c .before .before .before .before .loop in
-    let m : length (s.args.t1.tokens) ≡ 128 = search (needs, places) in
-    sym (l.inv .1 ∙ any-hit (λ t. eqb (t .kind) 1) s.args.t1.tokens s.args.t1.len l.i (omega arith) (omega arith) (eq-eqb _ _ (c .if1 .taken)))
+    let at-start = c .before .before .before .before .before in
+    let at-loop = c .before .before .before .before .loop in
+    let size-is : length (at-start.args.t1.tokens) ≡ 128 = search (needs, places) in
+    sym (at-loop.inv .1
+    ∙ any-hit (λ t. eqb (t .kind) 1) at-start.args.t1.tokens at-start.args.t1.len at-loop.i (omega arith) (omega arith) (eq-eqb _ _ (c .if1 .taken)))
 
 loop-again : tie.Need-loop-again Inv-loop μ-loop
 loop-again c =
-    let s = c .before .before .before .before .before in
-    let l = c .before .before .before .before .loop in
-    let m : length (s.args.t1.tokens) ≡ 128 = search (needs, places) in
-    (omega arith, l.inv .1 ∙ any-on (λ t. eqb (t .kind) 1) s.args.t1.tokens s.args.t1.len l.i (omega arith) (omega arith) (ne-eqb _ _ (c .if1 .left)))
+    let at-start = c .before .before .before .before .before in
+    let at-loop = c .before .before .before .before .loop in
+    let size-is : length (at-start.args.t1.tokens) ≡ 128 = search (needs, places) in (
+      omega arith,
+      at-loop.inv .1
+          ∙ any-on (λ t. eqb (t .kind) 1) at-start.args.t1.tokens at-start.args.t1.len at-loop.i (omega arith) (omega arith) (ne-eqb _ _ (c .if1 .left)),
+    )
 
 returns-2 : tie.Need-returns-2 Inv-loop μ-loop
 returns-2 c =
-    let s = c .before .before in
-    let l = c .before .loop in
-    let m : length (s.args.t1.tokens) ≡ 128 = search (needs, places) in
-    sym (l.inv .1 ∙ any-end (λ t. eqb (t .kind) 1) s.args.t1.tokens s.args.t1.len l.i (c .loop-test .left) (omega arith))
+    let at-start = c .before .before in
+    let at-loop = c .before .loop in
+    let size-is : length (at-start.args.t1.tokens) ≡ 128 = search (needs, places) in
+    sym (at-loop.inv .1 ∙ any-end (λ t. eqb (t .kind) 1) at-start.args.t1.tokens at-start.args.t1.len at-loop.i (c .loop-test .left) (omega arith))
 
 pub letters-of-spec : {M : Type 1} → statement M
 letters-of-spec =

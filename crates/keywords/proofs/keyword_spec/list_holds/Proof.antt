@@ -20,34 +20,42 @@ abbrev μ-loop : tie.MeasureT-loop
 
 loop-holds : tie.Need-loop-holds Inv-loop μ-loop
 loop-holds c =
-    let a = c .before .before .args in
-    (search needs, ap (λ (ps : List (List ℕ)). anyToken (tokensIn ps) a.c) (sym (split-from-start 44 a.list.now)))
+    let given = c .before .before .args in
+    (search needs, ap (λ (ps : List (List ℕ)). anyToken (tokensIn ps) given.c) (sym (split-from-start 44 given.list.now)))
 
 holds-requires : tie.Need-holds-requires Inv-loop μ-loop
 holds-requires c κs = c .before .before .before .before .is-letter .ensures
 
 returns : tie.Need-returns Inv-loop μ-loop
 returns c =
-    let s = c .before .before .before in
-    let a = s.before.before.before.before.before.args in
-    let l = s.before.before.loop in
+    let at-read-part = c .before .before .before in
+    let given = at-read-part.before.before.before.before.before.args in
+    let at-loop = at-read-part.before.before.loop in
     let hit = sym (c .before .holds .ensures) ∙ c .if1 .taken in
-    sym (l.inv .1 ∙ step-any a.list.now l.from s.before.loop-test.taken s.read-part.result s.read-part.ensures a.c ∙ rw hit)
+    sym (at-loop.inv .1
+    ∙ step-any given.list.now at-loop.from at-read-part.before.loop-test.taken at-read-part.read-part.result at-read-part.read-part.ensures given.c
+    ∙ rw hit)
 
 loop-less : tie.Need-loop-less Inv-loop μ-loop
 loop-less c =
-    let s = c .before .before .before in
-    let a = s.before.before.before.before.before.args in
-    omega (arith, step-next a.list.now s.before.before.loop.from s.before.loop-test.taken s.read-part.result s.read-part.ensures)
+    let at-read-part = c .before .before .before in
+    let given = at-read-part.before.before.before.before.before.args in
+    omega (
+      arith,
+      step-next given.list.now at-read-part.before.before.loop.from at-read-part.before.loop-test.taken at-read-part.read-part.result
+          at-read-part.read-part.ensures,
+    )
 
 loop-again : tie.Need-loop-again Inv-loop μ-loop
 loop-again c =
-    let s = c .before .before .before in
-    let a = s.before.before.before.before.before.args in
-    let l = s.before.before.loop in
+    let at-read-part = c .before .before .before in
+    let given = at-read-part.before.before.before.before.before.args in
+    let at-loop = at-read-part.before.before.loop in
     let miss = sym (c .before .holds .ensures) ∙ c .if1 .left in (
-      step-next a.list.now l.from s.before.loop-test.taken s.read-part.result s.read-part.ensures .1,
-      l.inv .1 ∙ step-any a.list.now l.from s.before.loop-test.taken s.read-part.result s.read-part.ensures a.c ∙ rw miss,
+      step-next given.list.now at-loop.from at-read-part.before.loop-test.taken at-read-part.read-part.result at-read-part.read-part.ensures .1,
+      at-loop.inv .1
+          ∙ step-any given.list.now at-loop.from at-read-part.before.loop-test.taken at-read-part.read-part.result at-read-part.read-part.ensures
+          given.c ∙ rw miss,
     )
 
 returns-2 : tie.Need-returns-2 Inv-loop μ-loop

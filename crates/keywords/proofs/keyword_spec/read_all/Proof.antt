@@ -22,66 +22,80 @@ loop-holds c = (search needs, reading-start _ _ (c .new .ensures))
 
 loop-less : tie.Need-loop-less Inv-loop μ-loop
 loop-less c =
-    let s = c .before .before .before in
-    let a = s.before.before.before.before.before.args in
-    omega (arith, step-next a.list.now s.before.before.loop.from s.before.loop-test.taken s.read-part.result s.read-part.ensures)
+    let at-read-part = c .before .before .before in
+    let given = at-read-part.before.before.before.before.before.args in
+    omega (
+      arith,
+      step-next given.list.now at-read-part.before.before.loop.from at-read-part.before.loop-test.taken at-read-part.read-part.result
+          at-read-part.read-part.ensures,
+    )
 
 -- a part that is no token
 loop-again : tie.Need-loop-again Inv-loop μ-loop
 loop-again c =
-    let s = c .before .before .before in
-    let l = s.before.before.loop in
-    let n = step-next s.before.before.before.before.before.args.list.now l.from s.before.loop-test.taken s.read-part.result s.read-part.ensures in
-    (n .1, reading-skip (l.inv .1) s.before.loop-test.taken s.read-part.result s.read-part.ensures (c .if1 .taken))
+    let at-read-part = c .before .before .before in
+    let at-loop = at-read-part.before.before.loop in
+    let by-step-next = step-next at-read-part.before.before.before.before.before.args.list.now at-loop.from at-read-part.before.loop-test.taken
+    at-read-part.read-part.result at-read-part.read-part.ensures in (
+      by-step-next .1,
+      reading-skip (at-loop.inv .1) at-read-part.before.loop-test.taken at-read-part.read-part.result at-read-part.read-part.ensures (c .if1 .taken),
+    )
 
 -- one token more than there are places
 returns : tie.Need-returns Inv-loop μ-loop
 returns c =
-    let s = c .before .before .before .before .before in
-    let l = s.before.before.loop in
+    let at-read-part = c .before .before .before .before .before in
+    let at-loop = at-read-part.before.before.loop in
     let some = c .before .before .if1 .left in
-    let m = reading-full (l.inv .1) s.before.loop-test.taken s.read-part.result s.read-part.ensures some (c .before .if2 .taken) in
-    c .refused .ensures ∙ rw (lt-leb _ _ m)
+    let by-reading-full = reading-full
+    (at-loop.inv .1) at-read-part.before.loop-test.taken at-read-part.read-part.result at-read-part.read-part.ensures some (c .before .if2 .taken) in
+    c .refused .ensures ∙ rw (lt-leb _ _ by-reading-full)
 
 -- the place after the last token is one of the table's
 mul-t : tie.Need-mul-t Inv-loop μ-loop
 mul-t c =
-    let g = c .before .before .before .before .before .before .loop .inv .1 in
-    let few = reading-length g in
-    let most = g .few in
+    let invariant = c .before .before .before .before .before .before .loop .inv .1 in
+    let few = reading-length invariant in
+    let most = invariant .few in
     search needs
 
 element-set-from-t : tie.Need-element-set-from-t Inv-loop μ-loop
 element-set-from-t c =
-    let g = c .before .before .before .before .before .before .loop .inv .1 in
-    omega (arith, reading-length g, g .few)
+    let invariant = c .before .before .before .before .before .before .loop .inv .1 in
+    omega (arith, reading-length invariant, invariant .few)
 
 add-spec : tie.Need-add-spec Inv-loop μ-loop
 add-spec c =
-    let g = c .before .before .before .before .before .before .loop .inv .1 in
-    omega (arith, reading-length g, g .few)
+    let invariant = c .before .before .before .before .before .before .loop .inv .1 in
+    omega (arith, reading-length invariant, invariant .few)
 
 loop-less-2 : tie.Need-loop-less-2 Inv-loop μ-loop
 loop-less-2 c =
-    let s = c .before .before .before .before in
-    let a = s.before.before.before.before.before.args in
-    omega (arith, step-next a.list.now s.before.before.loop.from s.before.loop-test.taken s.read-part.result s.read-part.ensures)
+    let at-read-part = c .before .before .before .before in
+    let given = at-read-part.before.before.before.before.before.args in
+    omega (
+      arith,
+      step-next given.list.now at-read-part.before.before.loop.from at-read-part.before.loop-test.taken at-read-part.read-part.result
+          at-read-part.read-part.ensures,
+    )
 
 -- a token, put into the table
 loop-again-2 : tie.Need-loop-again-2 Inv-loop μ-loop
 loop-again-2 c =
-    let s = c .before .before .before .before in
-    let l = s.before.before.loop in
-    let n = step-next s.before.before.before.before.before.args.list.now l.from s.before.loop-test.taken s.read-part.result s.read-part.ensures in (
-      n .1,
-      reading-keep (l.inv .1) s.before.loop-test.taken s.read-part.result s.read-part.ensures (c .before .if1 .left) (c .if2 .left)
+    let at-read-part = c .before .before .before .before in
+    let at-loop = at-read-part.before.before.loop in
+    let by-step-next = step-next at-read-part.before.before.before.before.before.args.list.now at-loop.from at-read-part.before.loop-test.taken
+    at-read-part.read-part.result at-read-part.read-part.ensures in (
+      by-step-next .1,
+      reading-keep (at-loop.inv .1) at-read-part.before.loop-test.taken at-read-part.read-part.result at-read-part.read-part.ensures
+          (c .before .if1 .left) (c .if2 .left)
           _ refl,
     )
 
 returns-2 : tie.Need-returns-2 Inv-loop μ-loop
 returns-2 c =
-    let g = reading-end (c .before .loop .inv .1) (c .loop-test .left) in
-    rw (le-leb _ _ (g .1), g .0)
+    let by-reading-end = reading-end (c .before .loop .inv .1) (c .loop-test .left) in
+    rw (le-leb _ _ (by-reading-end .1), by-reading-end .0)
 
 pub read-all-spec : {M : Type 1} → statement M
 read-all-spec =

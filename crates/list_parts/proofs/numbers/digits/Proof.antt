@@ -25,41 +25,45 @@ loop-holds c = (search needs, search needs, digits-some (c .before .args .p .now
 -- below 0
 returns-2 : tie.Need-returns-2 Inv-loop μ-loop
 returns-2 c =
-    let l = c .before .before .before .loop in
-    number-below (c .before .before .before .before .before .args .p .now) l.i l.sum (c .before .before .loop-test .taken) (c .if2 .taken) ∙ sym (l.inv .2)
+    let at-loop = c .before .before .before .loop in
+    number-below (c .before .before .before .before .before .args .p .now) at-loop.i at-loop.sum (c .before .before .loop-test .taken) (c .if2 .taken)
+    ∙ sym (at-loop.inv .2)
 
 -- above 9
 returns-3 : tie.Need-returns-3 Inv-loop μ-loop
 returns-3 c =
-    let l = c .before .before .before .before .loop in
-    number-above (c .before .before .before .before .before .before .args .p .now) l.i l.sum (c .before .before .before .loop-test .taken) (c .if3 .taken)
-    ∙ sym (l.inv .2)
+    let at-start = c .before .before .before .before .before .before in
+    let at-loop = c .before .before .before .before .loop in
+    number-above (at-start .args .p .now) at-loop.i at-loop.sum (c .before .before .before .loop-test .taken) (c .if3 .taken)
+    ∙ sym (at-loop.inv .2)
 
 -- too large, and it stays so
 returns-4 : tie.Need-returns-4 Inv-loop μ-loop
 returns-4 c =
-    let l = c .before .before .before .before .before .loop in
+    let at-start = c .before .before .before .before .before .before .before in
+    let at-loop = c .before .before .before .before .before .loop in
     number-too-large _ _ (c .if4 .taken)
     ∙ sym
-    (l.inv .2
-    ∙ number-digit (c .before .before .before .before .before .before .before .args .p .now) l.i l.sum (omega arith)
+    (at-loop.inv .2
+    ∙ number-digit (at-start .args .p .now) at-loop.i at-loop.sum (omega arith)
     (c .before .before .if2 .left) (c .before .if3 .left))
 
 -- one digit more
 loop-again : tie.Need-loop-again Inv-loop μ-loop
 loop-again c =
-    let l = c .before .before .before .before .before .loop in (
+    let at-start = c .before .before .before .before .before .before .before in
+    let at-loop = c .before .before .before .before .before .loop in (
       omega arith,
       c .if4 .left,
-      l.inv .2
-          ∙ number-digit (c .before .before .before .before .before .before .before .args .p .now) l.i l.sum (omega arith)
+      at-loop.inv .2
+          ∙ number-digit (at-start .args .p .now) at-loop.i at-loop.sum (omega arith)
           (c .before .before .if2 .left) (c .before .if3 .left),
     )
 
 returns-5 : tie.Need-returns-5 Inv-loop μ-loop
 returns-5 c =
-    let l = c .before .loop in
-    number-end (c .before .before .before .args .p .now) l.i l.sum (c .loop-test .left) (l.inv .1) ∙ sym (l.inv .2)
+    let at-loop = c .before .loop in
+    number-end (c .before .before .before .args .p .now) at-loop.i at-loop.sum (c .loop-test .left) (at-loop.inv .1) ∙ sym (at-loop.inv .2)
 
 pub digits-spec : {M : Type 1} → statement M
 digits-spec =

@@ -10,7 +10,9 @@ returns : tie.Need-returns
 returns c = number-none (c .before .before .args .p .now) (c .if1 .taken)
 
 returns-2 : tie.Need-returns-2
-returns-2 c = c .digits .ensures ∙ number-plus (c .before .before .before .before .before .before .args .p .now) (omega arith) (c .before .before .if2 .taken)
+returns-2 c =
+    let at-start = c .before .before .before .before .before .before in
+    c .digits .ensures ∙ number-plus (at-start .args .p .now) (omega arith) (c .before .before .if2 .taken)
 
 returns-3 : tie.Need-returns-3
 returns-3 c = c .digits2 .ensures ∙ number-plain (c .before .before .before .before .before .args .p .now) (omega arith) (c .before .if2 .left)

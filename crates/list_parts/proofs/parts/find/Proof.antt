@@ -18,18 +18,18 @@ abbrev μ-loop : tie.MeasureT-loop
 
 returns : tie.Need-returns Inv-loop μ-loop
 returns c =
-    let s = c .before .before .before .before in
-    omega (arith, up-to-stop s.args.list.now (c .before .before .before .loop .i) s.args.x (c .before .before .loop-test .taken) (c .if1 .taken))
+    let at-start = c .before .before .before .before in
+    omega (arith, up-to-stop at-start.args.list.now (c .before .before .before .loop .i) at-start.args.x (c .before .before .loop-test .taken) (c .if1 .taken))
 
 loop-again : tie.Need-loop-again Inv-loop μ-loop
 loop-again c =
-    let s = c .before .before .before .before in
-    omega (arith, up-to-on s.args.list.now (c .before .before .before .loop .i) s.args.x (c .before .before .loop-test .taken) (c .if1 .left))
+    let at-start = c .before .before .before .before in
+    omega (arith, up-to-on at-start.args.list.now (c .before .before .before .loop .i) at-start.args.x (c .before .before .loop-test .taken) (c .if1 .left))
 
 returns-2 : tie.Need-returns-2 Inv-loop μ-loop
 returns-2 c =
-    let s = c .before .before in
-    omega (arith, up-to-end s.args.list.now (c .before .loop .i) s.args.x (c .loop-test .left))
+    let at-start = c .before .before in
+    omega (arith, up-to-end at-start.args.list.now (c .before .loop .i) at-start.args.x (c .loop-test .left))
 
 pub find-spec : {M : Type 1} → statement M
 find-spec =

@@ -26,15 +26,15 @@ white-in-requires c κs = c .before .before .before .before .before .pre
 
 returns : tie.Need-returns Inv-loop μ-loop
 returns c =
-    let l = c .before .before .before .before .loop in
+    let at-loop = c .before .before .before .before .loop in
     let white = sym (c .before .white-in .ensures) ∙ not-true _ (c .if1 .taken) in
-    record { inside = omega arith; is = l.inv .1 ∙ trim-end-stop _ l.e (c .before .before .before .loop-test .taken) (omega arith) white }
+    record { inside = omega arith; is = at-loop.inv .1 ∙ trim-end-stop _ at-loop.e (c .before .before .before .loop-test .taken) (omega arith) white }
 
 loop-again : tie.Need-loop-again Inv-loop μ-loop
 loop-again c =
-    let l = c .before .before .before .before .loop in
+    let at-loop = c .before .before .before .before .loop in
     let white = sym (c .before .white-in .ensures) ∙ not-false _ (c .if1 .left) in
-    (omega arith, l.inv .1 ∙ trim-end-on _ l.e (c .before .before .before .loop-test .taken) (omega arith) white)
+    (omega arith, at-loop.inv .1 ∙ trim-end-on _ at-loop.e (c .before .before .before .loop-test .taken) (omega arith) white)
 
 returns-2 : tie.Need-returns-2 Inv-loop μ-loop
 returns-2 c = record { inside = omega arith; is = c .before .loop .inv .1 ∙ trim-end-end _ (c .before .loop .e) (c .loop-test .left) }

@@ -22,15 +22,15 @@ white-in-requires c κs = c .before .before .before .before .before .pre
 
 returns : tie.Need-returns Inv-loop μ-loop
 returns c =
-    let l = c .before .before .before .before .loop in
+    let at-loop = c .before .before .before .before .loop in
     let white = sym (c .before .white-in .ensures) ∙ not-true _ (c .if1 .taken) in
-    record { inside = omega arith; is = l.inv .1 ∙ trim-start-stop _ l.i (c .before .before .before .loop-test .taken) white }
+    record { inside = omega arith; is = at-loop.inv .1 ∙ trim-start-stop _ at-loop.i (c .before .before .before .loop-test .taken) white }
 
 loop-again : tie.Need-loop-again Inv-loop μ-loop
 loop-again c =
-    let l = c .before .before .before .before .loop in
+    let at-loop = c .before .before .before .before .loop in
     let white = sym (c .before .white-in .ensures) ∙ not-false _ (c .if1 .left) in
-    (omega arith, l.inv .1 ∙ trim-start-on _ l.i (c .before .before .before .loop-test .taken) white)
+    (omega arith, at-loop.inv .1 ∙ trim-start-on _ at-loop.i (c .before .before .before .loop-test .taken) white)
 
 returns-2 : tie.Need-returns-2 Inv-loop μ-loop
 returns-2 c = record { inside = omega arith; is = c .before .loop .inv .1 ∙ trim-start-end _ (c .before .loop .i) (c .loop-test .left) }

@@ -19,21 +19,21 @@ abbrev μ-loop : tie.MeasureT-loop
 loop-again : tie.Need-loop-again Inv-loop μ-loop
 loop-again c =
     let at-loop = c .before .before .before in
-    let a = at-loop .before .args in
-    let on = without-skip a.list.now a.marks.now (at-loop .loop .i) (omega arith) (omega arith) (c .if1 .taken) in
+    let given = at-loop .before .args in
+    let on = without-skip given.list.now given.marks.now (at-loop .loop .i) (omega arith) (omega arith) (c .if1 .taken) in
     (omega arith, omega arith, omega (arith, at-loop .loop .inv .2, ap length on))
 
 loop-again-2 : tie.Need-loop-again-2 Inv-loop μ-loop
 loop-again-2 c =
     let at-loop = c .before .before .before in
-    let a = at-loop .before .args in
-    let on = without-keep a.list.now a.marks.now (at-loop .loop .i) (omega arith) (omega arith) (c .if1 .left) in
+    let given = at-loop .before .args in
+    let on = without-keep given.list.now given.marks.now (at-loop .loop .i) (omega arith) (omega arith) (c .if1 .left) in
     (omega arith, omega arith, omega (arith, at-loop .loop .inv .2, ap length on))
 
 returns : tie.Need-returns Inv-loop μ-loop
 returns c =
-    let a = c .before .before .args in
-    omega (arith, c .before .loop .inv .2, ap length (without-end a.list.now a.marks.now (c .before .loop .i) (c .loop-test .left)))
+    let given = c .before .before .args in
+    omega (arith, c .before .loop .inv .2, ap length (without-end given.list.now given.marks.now (c .before .loop .i) (c .loop-test .left)))
 
 pub count-plain-spec : {M : Type 1} → statement M
 count-plain-spec =

@@ -19,19 +19,19 @@ abbrev μ-loop : tie.MeasureT-loop
 returns : tie.Need-returns Inv-loop μ-loop
 returns c =
     let at-loop = c .before .before .before in
-    let a = at-loop .before .args in
-    omega (arith, at-loop .loop .inv .1, first-hit a.list.now a.marks.now (at-loop .loop .i) (omega arith) (omega arith) (c .if1 .taken))
+    let given = at-loop .before .args in
+    omega (arith, at-loop .loop .inv .1, first-hit given.list.now given.marks.now (at-loop .loop .i) (omega arith) (omega arith) (c .if1 .taken))
 
 loop-again : tie.Need-loop-again Inv-loop μ-loop
 loop-again c =
     let at-loop = c .before .before .before in
-    let a = at-loop .before .args in
-    (omega arith, omega (arith, at-loop .loop .inv .1, first-on a.list.now a.marks.now (at-loop .loop .i) (omega arith) (omega arith) (c .if1 .left)))
+    let given = at-loop .before .args in
+    (omega arith, omega (arith, at-loop .loop .inv .1, first-on given.list.now given.marks.now (at-loop .loop .i) (omega arith) (omega arith) (c .if1 .left)))
 
 returns-2 : tie.Need-returns-2 Inv-loop μ-loop
 returns-2 c =
-    let a = c .before .before .args in
-    omega (arith, c .before .loop .inv .1, first-end a.list.now a.marks.now (c .before .loop .i) (c .loop-test .left))
+    let given = c .before .before .args in
+    omega (arith, c .before .loop .inv .1, first-end given.list.now given.marks.now (c .before .loop .i) (c .loop-test .left))
 
 pub first-mark-spec : {M : Type 1} → statement M
 first-mark-spec =

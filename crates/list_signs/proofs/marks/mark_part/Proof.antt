@@ -12,40 +12,40 @@ use Rattle.list_signs.proofs.marks.mark_part.Tie as tie
 
 add-mark : tie.Need-add-mark
 add-mark c =
-    let a = c .before .before .before .before .before in
-    let most = up-to-most 43 (a .args .p .now) in
-    omega (arith, most, c .find .ensures, a .pre)
+    let at-start = c .before .before .before .before .before in
+    let most = up-to-most 43 (at-start .args .p .now) in
+    omega (arith, most, c .find .ensures, at-start .pre)
 
 mark-requires : tie.Need-mark-requires
 mark-requires c κs =
-    let a = c .before .before .before .before .before .before in
-    omega (arith, up-to-most 43 (a .args .p .now), c .before .find .ensures, a .pre)
+    let at-start = c .before .before .before .before .before .before in
+    omega (arith, up-to-most 43 (at-start .args .p .now), c .before .find .ensures, at-start .pre)
 
 add-mark-2 : tie.Need-add-mark-2
 add-mark-2 c =
-    let a = c .before .before .before .before .before .before .before .before .before .before .before in
-    omega (arith, up-to-most 45 (a .args .p .now), c .find2 .ensures, a .pre)
+    let at-start = c .before .before .before .before .before .before .before .before .before .before .before in
+    omega (arith, up-to-most 45 (at-start .args .p .now), c .find2 .ensures, at-start .pre)
 
 add-mark-3 : tie.Need-add-mark-3
 add-mark-3 c =
-    let a = c .before .before .before .before .before .before .before .before .before .before .before in
-    omega (arith, up-to-most 45 (a .args .p .now), c .find2 .ensures, a .pre)
+    let at-start = c .before .before .before .before .before .before .before .before .before .before .before in
+    omega (arith, up-to-most 45 (at-start .args .p .now), c .find2 .ensures, at-start .pre)
 
 mark-requires-2 : tie.Need-mark-requires-2
 mark-requires-2 c κs =
     let at-mark = c .before .before .before .before .before in
-    let a = at-mark .before .before .before .before .before .before .before in
-    let at = a .args .from + at-mark .before .before .find .result in
-    let same = ap length (at-mark .mark .ensures) ∙ length-marked (at-mark .before .leads-plus .result) at (a .args .marks .now) in
-    omega (arith, up-to-most 45 (a .args .p .now), c .before .find2 .ensures, a .pre, same)
+    let at-start = at-mark .before .before .before .before .before .before .before in
+    let at = at-start .args .from + at-mark .before .before .find .result in
+    let same = ap length (at-mark .mark .ensures) ∙ length-marked (at-mark .before .leads-plus .result) at (at-start .args .marks .now) in
+    omega (arith, up-to-most 45 (at-start .args .p .now), c .before .find2 .ensures, at-start .pre, same)
 
 returns : tie.Need-returns
 returns c =
     let at-second = c .before .before in
     let at-first = at-second .before .before .before .before .before .before in
     let at-trim = at-first .before .before .before .before in
-    let a = at-trim .before .before .before .args in
-    part-marked (a .p .now) _ _ _ _ _ _ (a .marks .now) (at-first .mark .last .0) (at-second .mark2 .last .0) (at-trim .trimmed .ensures)
+    let given = at-trim .before .before .before .args in
+    part-marked (given .p .now) _ _ _ _ _ _ (given .marks .now) (at-first .mark .last .0) (at-second .mark2 .last .0) (at-trim .trimmed .ensures)
     (at-first .before .before .find .ensures)
     (at-first .before .leads-plus .ensures) (at-first .mark .ensures) (at-second .before .before .find2 .ensures) (at-second .before .second-plus .ensures)
     (at-second .mark2 .ensures)

@@ -23,7 +23,7 @@ loop-holds c = (omega arith, marking-start _)
 part-mark-part-end : tie.Need-part-mark-part-end Inv-loop μ-loop
 part-mark-part-end c =
     let at-loop = c .before .before in
-    let m = next-most 44 (at-loop .before .before .args .list .now) (at-loop .loop .from) (c .before .loop-test .taken) in
+    let by-next-most = next-most 44 (at-loop .before .before .args .list .now) (at-loop .loop .from) (c .before .loop-test .taken) in
     search needs
 
 slice-aggregate-mark-part : tie.Need-slice-aggregate-mark-part Inv-loop μ-loop
@@ -35,43 +35,43 @@ mark-part-requires : tie.Need-mark-part-requires Inv-loop μ-loop
 mark-part-requires c κs =
     let at-find = c .before .before in
     let at-loop = at-find .before .before in
-    let a = at-loop .before .before in
-    let most = next-most 44 (a .args .list .now) (at-loop .loop .from) (at-find .before .loop-test .taken) in
-    let size = marking-length _ _ _ (at-loop .loop .inv .1) (omega (arith, a .pre)) in
-    let part = length-take-le (at-find .find .result - at-loop .loop .from) (drop (at-loop .loop .from) (a .args .list .now))
-    (omega (arith, most, at-find .find .ensures, length-drop (at-loop .loop .from) (a .args .list .now))) in
-    omega (arith, most, at-find .find .ensures, size, part, a .pre)
+    let at-start = at-loop .before .before in
+    let most = next-most 44 (at-start .args .list .now) (at-loop .loop .from) (at-find .before .loop-test .taken) in
+    let size = marking-length _ _ _ (at-loop .loop .inv .1) (omega (arith, at-start .pre)) in
+    let part = length-take-le (at-find .find .result - at-loop .loop .from) (drop (at-loop .loop .from) (at-start .args .list .now))
+    (omega (arith, most, at-find .find .ensures, length-drop (at-loop .loop .from) (at-start .args .list .now))) in
+    omega (arith, most, at-find .find .ensures, size, part, at-start .pre)
 
 add-from : tie.Need-add-from Inv-loop μ-loop
 add-from c =
     let at-find = c .before .before .before .before in
     let at-loop = at-find .before .before in
-    let a = at-loop .before .before in
-    omega (arith, at-find .find .ensures, next-most 44 (a .args .list .now) (at-loop .loop .from) (at-find .before .loop-test .taken), a .pre)
+    let at-start = at-loop .before .before in
+    omega (arith, at-find .find .ensures, next-most 44 (at-start .args .list .now) (at-loop .loop .from) (at-find .before .loop-test .taken), at-start .pre)
 
 loop-less : tie.Need-loop-less Inv-loop μ-loop
 loop-less c =
     let at-find = c .before .before .before .before in
     let at-loop = at-find .before .before in
-    let a = at-loop .before .before in
-    omega (arith, at-find .find .ensures, next-most 44 (a .args .list .now) (at-loop .loop .from) (at-find .before .loop-test .taken), a .pre)
+    let at-start = at-loop .before .before in
+    omega (arith, at-find .find .ensures, next-most 44 (at-start .args .list .now) (at-loop .loop .from) (at-find .before .loop-test .taken), at-start .pre)
 
 loop-again : tie.Need-loop-again Inv-loop μ-loop
 loop-again c =
     let at-find = c .before .before .before .before in
     let at-loop = at-find .before .before in
-    let a = at-loop .before .before in
-    let l = a .args .list .now in
+    let at-start = at-loop .before .before in
+    let list-now = at-start .args .list .now in
     let inside = at-find .before .loop-test .taken in (
-      omega (arith, at-find .find .ensures, next-most 44 l (at-loop .loop .from) inside),
-      marking-step l _ _ (at-loop .loop .from) (at-find .find .result) inside (a .pre) (at-find .find .ensures) (at-loop .loop .inv .1)
+      omega (arith, at-find .find .ensures, next-most 44 list-now (at-loop .loop .from) inside),
+      marking-step list-now _ _ (at-loop .loop .from) (at-find .find .result) inside (at-start .pre) (at-find .find .ensures) (at-loop .loop .inv .1)
           (c .before .mark-part .ensures),
     )
 
 returns : tie.Need-returns Inv-loop μ-loop
 returns c =
-    let l = c .before .before .before .args .list .now in
-    marking-end l _ _ (c .before .loop .inv .1) (omega (arith, c .loop-test .left))
+    let list-now = c .before .before .before .args .list .now in
+    marking-end list-now _ _ (c .before .loop .inv .1) (omega (arith, c .loop-test .left))
 
 pub marks-of-spec : {M : Type 1} → statement M
 marks-of-spec =

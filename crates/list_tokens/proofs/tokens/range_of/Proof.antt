@@ -17,27 +17,28 @@ slice-aggregate-read-number c = sym (length-take-le (c .before .before .find .re
 -- two numbers
 returns-2 : tie.Need-returns-2
 returns-2 c =
-    let f = c .before .before .before .before .before .before .before .before .before .before .before .before in
+    let at-find = c .before .before .before .before .before .before .before .before .before .before .before .before in
     let lo = c .before .before .before .before .before .before .before in
     c .range .ensures
-    ∙ range-is f.before.before.args.p.now f.find.result f.find.ensures (omega arith) (Value lo.lo.given.0.0) (Value (c .before .before .hi .given .0 .0))
+    ∙ range-is at-find.before.before.args.p.now at-find.find.result at-find.find.ensures (omega arith) (Value lo.lo.given.0.0)
+    (Value (c .before .before .hi .given .0 .0))
     (sym (lo.lo.given .1) ∙ lo.before.before.read-number.ensures)
     (sym (c .before .before .hi .given .1) ∙ c .before .before .before .before .read-number2 .ensures)
 
 -- only the first is a number
 returns-3 : tie.Need-returns-3
 returns-3 c =
-    let f = c .before .before .before .before .before .before .before .before .before .before in
+    let at-find = c .before .before .before .before .before .before .before .before .before .before in
     let lo = c .before .before .before .before .before in
-    range-is f.before.before.args.p.now f.find.result f.find.ensures (omega arith) (Value lo.lo.given.0.0) Not
+    range-is at-find.before.before.args.p.now at-find.find.result at-find.find.ensures (omega arith) (Value lo.lo.given.0.0) Not
     (sym (lo.lo.given .1) ∙ lo.before.before.read-number.ensures)
     (sym (c .enum-told .given .1) ∙ c .before .before .read-number2 .ensures)
 
 -- the first is none
 returns-4 : tie.Need-returns-4
 returns-4 c =
-    let f = c .before .before .before .before .before in
-    range-is f.before.before.args.p.now f.find.result f.find.ensures (omega arith) Not _
+    let at-find = c .before .before .before .before .before in
+    range-is at-find.before.before.args.p.now at-find.find.result at-find.find.ensures (omega arith) Not _
     (sym (c .enum-told2 .given .1) ∙ c .before .before .read-number .ensures)
     refl
 

@@ -10,19 +10,19 @@ use Rattle.list_tokens.proofs.tokens.read_part.Tie as tie
 
 part-trimmed-end : tie.Need-part-trimmed-end
 part-trimmed-end c =
-    let a = c .before .before .args in
-    let m = next-most 44 a.list.now a.from (c .before .before .pre) in
+    let given = c .before .before .args in
+    let by-next-most = next-most 44 given.list.now given.from (c .before .before .pre) in
     search needs
 
 add-t6 : tie.Need-add-t6
 add-t6 c =
-    let s = c .before .before .before .before .before in
-    omega (arith, next-most 44 s.args.list.now s.args.from s.pre)
+    let at-start = c .before .before .before .before .before in
+    omega (arith, next-most 44 at-start.args.list.now at-start.args.from at-start.pre)
 
 returns : tie.Need-returns
 returns c =
-    let s = c .before .before .before .before .before in
-    step-is s.args.list.now s.args.from (c .before .before .before .find .result) (c .token-of .result) (c .before .before .before .find .ensures)
+    let at-start = c .before .before .before .before .before in
+    step-is at-start.args.list.now at-start.args.from (c .before .before .before .find .result) (c .token-of .result) (c .before .before .before .find .ensures)
     (c .token-of .ensures ∙ ap tokenOf (c .before .trimmed .ensures))
 
 pub read-part-spec : {M : Type 1} → statement M

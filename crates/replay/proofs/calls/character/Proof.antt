@@ -8,8 +8,8 @@ use Rattle.replay.proofs.calls.character.Tie as tie
 
 places : tie.Need-slice-aggregate-compared
 places c =
-    let k = c .before .before .before .before .args .k in
-    places-count 1 (c .before .character .ensures) (told-sized (fact (k .op) (k .a)))
+    let given-k = c .before .before .before .before .args .k in
+    places-count 1 (c .before .character .ensures) (told-sized (fact (given-k .op) (given-k .a)))
 
 returns : tie.Need-returns
 unfolding characterOf

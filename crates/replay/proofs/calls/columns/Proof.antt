@@ -8,9 +8,9 @@ use Rattle.replay.proofs.calls.columns.Tie as tie
 
 places : tie.Need-slice-aggregate-compared
 places c =
-    let a = c .before .before .before .before .before .args in
-    let k = a .k in
-    places-count 1 (c .before .columns .ensures) (told-sized (tabColumn (k .op) (k .a) (k .b) (a .row .now)))
+    let given = c .before .before .before .before .before .args in
+    let given-k = given .k in
+    places-count 1 (c .before .columns .ensures) (told-sized (tabColumn (given-k .op) (given-k .a) (given-k .b) (given .row .now)))
 
 returns : tie.Need-returns
 unfolding columnsOf

@@ -9,8 +9,8 @@ use Rattle.replay.proofs.calls.content_row_count.Tie as tie
 
 places : tie.Need-slice-aggregate-compared
 places c =
-    let a = c .before .before .before .before .before .args in
-    places-count 1 (c .before .content-row-count .ensures) (told-sized (toldRows (contentRowCount (a .text .now))))
+    let given = c .before .before .before .before .before .args in
+    places-count 1 (c .before .content-row-count .ensures) (told-sized (toldRows (contentRowCount (given .text .now))))
 
 returns : tie.Need-returns
 unfolding contentRowCountOf

@@ -8,9 +8,9 @@ use Rattle.replay.proofs.calls.keywords.Tie as tie
 
 places : tie.Need-slice-aggregate-compared
 places c =
-    let a = c .before .before .before .before .before .args in
-    let k = a .k in
-    places-count 1 (c .before .keywords .ensures) (told-sized (keyword (k .op) (k .a) (a .list .now)))
+    let given = c .before .before .before .before .before .args in
+    let given-k = given .k in
+    places-count 1 (c .before .keywords .ensures) (told-sized (keyword (given-k .op) (given-k .a) (given .list .now)))
 
 returns : tie.Need-returns
 unfolding keywordsOf

@@ -8,9 +8,9 @@ use Rattle.replay.proofs.calls.offsets.Tie as tie
 
 places : tie.Need-slice-aggregate-compared
 places c =
-    let a = c .before .before .before .before .before .args in
-    let k = a .k in
-    places-count 1 (c .before .offsets .ensures) (told-sized (offset (k .op) (k .a) (k .b) (k .c) (a .row .now)))
+    let given = c .before .before .before .before .before .args in
+    let given-k = given .k in
+    places-count 1 (c .before .offsets .ensures) (told-sized (offset (given-k .op) (given-k .a) (given-k .b) (given-k .c) (given .row .now)))
 
 returns : tie.Need-returns
 unfolding offsetsOf

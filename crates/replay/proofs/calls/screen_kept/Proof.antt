@@ -21,10 +21,14 @@ places c = places-count 6 (c .before .screen-kept .ensures) (six-sized _)
 returns-3 : tie.Need-returns-3
 unfolding keptVerdict
 returns-3 c =
-    let b = c .before .before in
-    rw (le-leb _ 65535 (b .before .before .before .before .before .if1 .left), eq-eqb _ 2 (b .before .before .before .before .if2 .left))
-    (replied-compared 6 _ (b .screen-kept .ensures) (c .compared .ensures))
+    let at-screen-kept = c .before .before in
+    rw (
+      le-leb _ 65535 (at-screen-kept .before .before .before .before .before .if1 .left),
+      eq-eqb _ 2 (at-screen-kept .before .before .before .before .if2 .left),
+    )
+    (replied-compared 6 _ (at-screen-kept .screen-kept .ensures) (c .compared .ensures))
 
 pub screen-kept-spec : {M : Type 1} → statement M
 screen-kept-spec =
-    tie.close (tie.spec returns returns-2 (λ c. search needs) (λ c. search needs) (λ c. search needs) (λ c κs. search needs) places (λ c κs. search needs) returns-3)
+    tie.close
+    (tie.spec returns returns-2 (λ c. search needs) (λ c. search needs) (λ c. search needs) (λ c κs. search needs) places (λ c κs. search needs) returns-3)

@@ -9,9 +9,9 @@ use Rattle.replay.proofs.calls.segment_for_col.Tie as tie
 
 places : tie.Need-slice-aggregate-compared
 places c =
-    let a = c .before .before .before .before .before .args in
-    let k = a .k in
-    places-count 1 (c .before .segment-for-col .ensures) (told-sized (toldSegment (segmentForCol (a .segments .now) (k .a))))
+    let given = c .before .before .before .before .before .args in
+    let given-k = given .k in
+    places-count 1 (c .before .segment-for-col .ensures) (told-sized (toldSegment (segmentForCol (given .segments .now) (given-k .a))))
 
 returns : tie.Need-returns
 unfolding segmentForColOf

@@ -17,8 +17,8 @@ places c = places-count 4 (c .before .vertical .ensures) (moved-sized _)
 returns-2 : tie.Need-returns-2
 unfolding verticalVerdict
 returns-2 c =
-    let b = c .before .before in
-    rw (le-leb _ 65535 (b .before .before .if1 .left)) (replied-compared 4 _ (b .vertical .ensures) (c .compared .ensures))
+    let at-vertical = c .before .before in
+    rw (le-leb _ 65535 (at-vertical .before .before .if1 .left)) (replied-compared 4 _ (at-vertical .vertical .ensures) (c .compared .ensures))
 
 pub vertical-spec : {M : Type 1} → statement M
 vertical-spec =

@@ -17,8 +17,8 @@ places c = places-count 4 (c .before .viewport .ensures) (moved-sized _)
 returns-2 : tie.Need-returns-2
 unfolding viewportVerdict
 returns-2 c =
-    let b = c .before .before in
-    rw (le-leb _ 65535 (b .before .before .if1 .left)) (replied-compared 4 _ (b .viewport .ensures) (c .compared .ensures))
+    let at-viewport = c .before .before in
+    rw (le-leb _ 65535 (at-viewport .before .before .if1 .left)) (replied-compared 4 _ (at-viewport .viewport .ensures) (c .compared .ensures))
 
 pub viewport-spec : {M : Type 1} → statement M
 viewport-spec =

@@ -9,10 +9,11 @@ use Rattle.replay.proofs.calls.wrap_into.Tie as tie
 returns : tie.Need-returns
 unfolding wrappedIn
 returns c =
-    let b = c .before .before .before .before in
-    let a = b .before .before .before .before .before .before .args in
-    let e = b .wrap-segments .ensures in
-    rw (← e .1) (wrapped-compared (segmented a.mode a.width (a .segments .now) (a .row .now)) _ _ (e .0) (c .compared-two .ensures))
+    let at-wrap-segments = c .before .before .before .before in
+    let given = at-wrap-segments .before .before .before .before .before .before .args in
+    let wrap-segments-told = at-wrap-segments .wrap-segments .ensures in
+    rw (← wrap-segments-told .1)
+    (wrapped-compared (segmented given.mode given.width (given .segments .now) (given .row .now)) _ _ (wrap-segments-told .0) (c .compared-two .ensures))
 
 pub wrap-into-spec : {M : Type 1} → statement M
 wrap-into-spec =

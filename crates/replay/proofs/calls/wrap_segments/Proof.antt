@@ -24,9 +24,10 @@ lent c = sym (length-take-le _ (replicate 64 filler) (c .before .if2 .left))
 returns-3 : tie.Need-returns-3
 unfolding wrapVerdict
 returns-3 c =
-    let b = c .before .before .before in
-    let k = b .before .before .before .before .before .args .k in
-    rw (le-leb _ 65535 (b .before .if1 .left), le-leb _ 64 (b .if2 .left), ← take-replicate (k .b) 64 filler (b .if2 .left)) (c .before .wrap-into .ensures)
+    let at-if2 = c .before .before .before in
+    let given-k = at-if2 .before .before .before .before .before .args .k in
+    rw (le-leb _ 65535 (at-if2 .before .if1 .left), le-leb _ 64 (at-if2 .if2 .left), ← take-replicate (given-k .b) 64 filler (at-if2 .if2 .left))
+    (c .before .wrap-into .ensures)
 
 pub wrap-segments-spec : {M : Type 1} → statement M
 wrap-segments-spec =

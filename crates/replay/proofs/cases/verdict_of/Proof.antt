@@ -37,9 +37,9 @@ returns-2 c = rw (le-leb 13 _ (c .before .before .before .before .if1 .left), lt
 returns-3 : tie.Need-returns-3
 unfolding verdictOf
 returns-3 c =
-    let h = c .before .before .before .before .before in
-    let i = h .before .before in
-    rw (le-leb 13 _ (i .before .before .before .before .if1 .left), le-leb _ _ (i .if2 .left), ← h .head-of .ensures) (c .by-group .ensures)
+    let at-head-of = c .before .before .before .before .before in
+    let at-if2 = at-head-of .before .before in
+    rw (le-leb 13 _ (at-if2 .before .before .before .before .if1 .left), le-leb _ _ (at-if2 .if2 .left), ← at-head-of .head-of .ensures) (c .by-group .ensures)
 
 pub verdict-of-spec : {M : Type 1} → statement M
 verdict-of-spec =

@@ -8,18 +8,18 @@ use Rattle.replay.proofs.tallies.row_verdict.Tie as tie
 
 part : tie.Need-slice-reshare-prefix-verdict-of
 part c =
-    let n = c .before in
-    count-within (n .before .before .before .before .read-row .ensures) _ (n .n .given .1)
+    let at-n = c .before in
+    count-within (at-n .before .before .before .before .read-row .ensures) _ (at-n .n .given .1)
 
 part-length : tie.Need-slice-aggregate-verdict-of
 part-length c =
-    let n = c .before .before in
-    sym (length-take-le _ _ (count-within (n .before .before .before .before .read-row .ensures) _ (n .n .given .1)))
+    let at-n = c .before .before in
+    sym (length-take-le _ _ (count-within (at-n .before .before .before .before .read-row .ensures) _ (at-n .n .given .1)))
 
 returns : tie.Need-returns
 returns c =
-    let n = c .before .before .before in
-    judged-count (n .before .before .before .before .read-row .ensures) _ (n .n .given .1) (c .verdict-of .ensures)
+    let at-n = c .before .before .before in
+    judged-count (at-n .before .before .before .before .read-row .ensures) _ (at-n .n .given .1) (c .verdict-of .ensures)
 
 returns-2 : tie.Need-returns-2
 returns-2 c = judged-malformed (c .before .before .before .before .read-row .ensures) (c .enum-told .given .1)

@@ -22,39 +22,43 @@ loop-holds c = tallying-start (c .before .args .bytes .now) (replicate {A = ℕ}
 -- the row lies within the bytes
 sub : tie.Need-sub-row-verdict Inv-loop μ-loop
 sub c =
-    let l = c .before .before in
-    omega (arith, row-within (l .before .before .args .bytes .now) (l .loop .at) _ (c .before .loop-test .taken) (c .row-end .ensures))
+    let at-loop = c .before .before in
+    omega (arith, row-within (at-loop .before .before .args .bytes .now) (at-loop .loop .at) _ (c .before .loop-test .taken) (c .row-end .ensures))
 
 start : tie.Need-part-row-verdict-start Inv-loop μ-loop
 start c =
-    let l = c .before .before in
-    omega (arith, row-within (l .before .before .args .bytes .now) (l .loop .at) _ (c .before .loop-test .taken) (c .row-end .ensures))
+    let at-loop = c .before .before in
+    omega (arith, row-within (at-loop .before .before .args .bytes .now) (at-loop .loop .at) _ (c .before .loop-test .taken) (c .row-end .ensures))
 
 end : tie.Need-part-row-verdict-end Inv-loop μ-loop
 end c =
-    let l = c .before .before in
-    omega (arith, row-within (l .before .before .args .bytes .now) (l .loop .at) _ (c .before .loop-test .taken) (c .row-end .ensures))
+    let at-loop = c .before .before in
+    omega (arith, row-within (at-loop .before .before .args .bytes .now) (at-loop .loop .at) _ (c .before .loop-test .taken) (c .row-end .ensures))
 
 lent : tie.Need-slice-aggregate-row-verdict Inv-loop μ-loop
 lent c = sym (c .before .before .before .before .loop .inv .kept)
 
 counted-requires : tie.Need-counted-requires Inv-loop μ-loop
 counted-requires c κs =
-    let t = c .before .before .before .before .before in
-    tallying-countable (t .before .loop .inv) (t .loop-test .taken) (omega arith)
+    let at-loop-test = c .before .before .before .before .before in
+    tallying-countable (at-loop-test .before .loop .inv) (at-loop-test .loop-test .taken) (omega arith)
 
 loop-less : tie.Need-loop-less Inv-loop μ-loop
 loop-less c =
-    let e = c .before .before .before .before .before in
-    let l = e .before .before in
-    omega (arith, row-within (l .before .before .args .bytes .now) (l .loop .at) _ (e .before .loop-test .taken) (e .row-end .ensures))
+    let at-row-end = c .before .before .before .before .before in
+    let at-loop = at-row-end .before .before in
+    omega (
+      arith,
+      row-within (at-loop .before .before .args .bytes .now) (at-loop .loop .at) _ (at-row-end .before .loop-test .taken) (at-row-end .row-end .ensures),
+    )
 
 -- one row more
 loop-again : tie.Need-loop-again Inv-loop μ-loop
 loop-again c =
-    let e = c .before .before .before .before .before in
+    let at-row-end = c .before .before .before .before .before in
     rw (c .counted .ensures)
-    (tallying-on (e .before .before .loop .inv) (e .before .loop-test .taken) _ (e .row-end .ensures) (c .before .before .row-verdict .ensures))
+    (tallying-on (at-row-end .before .before .loop .inv) (at-row-end .before .loop-test .taken) _ (at-row-end .row-end .ensures)
+    (c .before .before .row-verdict .ensures))
 
 returns : tie.Need-returns Inv-loop μ-loop
 returns c = tallying-end (c .before .loop .inv) (c .loop-test .left)

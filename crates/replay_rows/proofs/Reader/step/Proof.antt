@@ -16,14 +16,14 @@ returns-2 c = rw (ne-eqb _ 42 (c .before .before .if1 .left), lt-leb 48 _ (c .be
 returns-3 : tie.Need-returns-3
 unfolding step
 returns-3 c =
-    let b = c .before .before in
-    rw (ne-eqb _ 42 (b .before .if1 .left), le-leb 48 _ (b .if2 .left), lt-leb _ 57 (c .before .if3 .taken)) (c .spoilt2 .ensures)
+    let at-if2 = c .before .before in
+    rw (ne-eqb _ 42 (at-if2 .before .if1 .left), le-leb 48 _ (at-if2 .if2 .left), lt-leb _ 57 (c .before .if3 .taken)) (c .spoilt2 .ensures)
 
 returns-4 : tie.Need-returns-4
 unfolding step
 returns-4 c =
-    let b = c .before .before in
-    rw (ne-eqb _ 42 (b .before .if1 .left), le-leb 48 _ (b .if2 .left), le-leb _ 57 (c .before .if3 .left)) (c .digit .ensures)
+    let at-if2 = c .before .before in
+    rw (ne-eqb _ 42 (at-if2 .before .if1 .left), le-leb 48 _ (at-if2 .if2 .left), le-leb _ 57 (c .before .if3 .left)) (c .digit .ensures)
 
 pub step-spec : {M : Type 1} → statement M
 step-spec =

@@ -21,9 +21,12 @@ loop-holds c = (omega arith, search needs, paste-zero (c .args .room .now) (c .a
 -- one place more
 loop-again : tie.Need-loop-again Inv-loop μ-loop
 loop-again c =
-    let l = c .before .loop in
-    let a = c .before .before .args in
-    (omega arith, simp length-set (l .inv .1), fill-on (a .room .now) a.from a.times a.x (c .before .before .pre) l.room l.i (l .inv .2) (omega arith))
+    let at-loop = c .before .loop in
+    let given = c .before .before .args in (
+      omega arith,
+      simp length-set (at-loop .inv .1),
+      fill-on (given .room .now) given.from given.times given.x (c .before .before .pre) at-loop.room at-loop.i (at-loop .inv .2) (omega arith),
+    )
 
 same-length : tie.Need-same-length Inv-loop μ-loop
 same-length c = search needs
@@ -31,10 +34,10 @@ same-length c = search needs
 -- all are filled
 returns : tie.Need-returns Inv-loop μ-loop
 returns c =
-    let l = c .before .loop in
-    let a = c .before .before .args in
-    let e : l.i ≡ a.times = omega arith in
-    fill-all (a .room .now) a.from a.times a.x (c .before .before .pre) l.room (rw e at (l .inv .2))
+    let at-loop = c .before .loop in
+    let given = c .before .before .args in
+    let i-is : at-loop.i ≡ given.times = omega arith in
+    fill-all (given .room .now) given.from given.times given.x (c .before .before .pre) at-loop.room (rw i-is at (at-loop .inv .2))
 
 pub fill-spec : {M : Type 1} → statement M
 fill-spec =

@@ -18,24 +18,24 @@ abbrev μ-loop : tie.MeasureT-loop
 
 loop-holds : tie.Need-loop-holds Inv-loop μ-loop
 loop-holds c =
-    let a = c .before .before .before .args in
-    rw (c .fresh .ensures) (reading-start (a .row .now) (a .room .now))
+    let given = c .before .before .before .args in
+    rw (c .fresh .ensures) (reading-start (given .row .now) (given .room .now))
 
 -- a number ends that has no digits
 returns : tie.Need-returns Inv-loop μ-loop
 returns c =
-    let l = c .before .before .before .before .before .before in
-    let a = l .before .before .before .before .args in
-    reading-malformed (l .loop .inv)
-    (read-unbegun (a .row .now) l.loop.i _ l.loop.r (omega arith) (c .before .before .before .if1 .taken) (not-true _ (c .if2 .taken)))
+    let at-loop = c .before .before .before .before .before .before in
+    let given = at-loop .before .before .before .before .args in
+    reading-malformed (at-loop .loop .inv)
+    (read-unbegun (given .row .now) at-loop.loop.i _ at-loop.loop.r (omega arith) (c .before .before .before .if1 .taken) (not-true _ (c .if2 .taken)))
 
 -- there is too little room
 returns-2 : tie.Need-returns-2 Inv-loop μ-loop
 returns-2 c =
-    let l = c .before .before .before .before .before .before .before in
-    let a = l .before .before .before .before .args in
-    reading-malformed (l .loop .inv)
-    (read-full (a .row .now) l.loop.i _ l.loop.r (omega arith) (c .before .before .before .before .if1 .taken) (omega arith))
+    let at-loop = c .before .before .before .before .before .before .before in
+    let given = at-loop .before .before .before .before .args in
+    reading-malformed (at-loop .loop .inv)
+    (read-full (given .row .now) at-loop.loop.i _ at-loop.loop.r (omega arith) (c .before .before .before .before .if1 .taken) (omega arith))
 
 fill-requires : tie.Need-fill-requires Inv-loop μ-loop
 fill-requires c κs = omega arith
@@ -43,44 +43,47 @@ fill-requires c κs = omega arith
 -- a number ends
 loop-again : tie.Need-loop-again Inv-loop μ-loop
 loop-again c =
-    let l = c .before .before .before .before .before .before .before .before .before .before .before .before in
-    let a = l .before .before .before .before .args in
-    let m = length (a .room .now) - l .loop .n in
-    let f = c .before .before .before .before .before .before in
-    let e = read-ended (a .row .now) l.loop.i m l.loop.r (omega arith) (f .before .before .before .if1 .taken) (not-false _ (f .if2 .left)) (omega arith) in
-    rw (c .fresh2 .ensures) (reading-ended (l .loop .inv) (omega arith) (c .before .before .before .fill .ensures) (omega arith) e)
+    let at-loop = c .before .before .before .before .before .before .before .before .before .before .before .before in
+    let given = at-loop .before .before .before .before .args in
+    let difference = length (given .room .now) - at-loop .loop .n in
+    let at-if2 = c .before .before .before .before .before .before in
+    let by-read-ended = read-ended (given .row .now) at-loop.loop.i difference at-loop.loop.r (omega arith)
+    (at-if2 .before .before .before .if1 .taken) (not-false _ (at-if2 .if2 .left)) (omega arith) in
+    rw (c .fresh2 .ensures) (reading-ended (at-loop .loop .inv) (omega arith) (c .before .before .before .fill .ensures) (omega arith) by-read-ended)
 
 -- a byte that no number has there
 returns-3 : tie.Need-returns-3 Inv-loop μ-loop
 returns-3 c =
-    let l = c .before .before .before .before .before .before in
-    let a = l .before .before .before .before .args in
-    let p = c .before .before in
-    reading-malformed (l .loop .inv)
-    (read-spoilt (a .row .now) l.loop.i _ l.loop.r (omega arith) (p .before .if1 .left) (rw (← p .step .ensures) (not-true _ (c .if4 .taken))))
+    let at-loop = c .before .before .before .before .before .before in
+    let given = at-loop .before .before .before .before .args in
+    let at-step = c .before .before in
+    reading-malformed (at-loop .loop .inv)
+    (read-spoilt (given .row .now) at-loop.loop.i _ at-loop.loop.r (omega arith) (at-step .before .if1 .left)
+    (rw (← at-step .step .ensures) (not-true _ (c .if4 .taken))))
 
 -- a byte of a number
 loop-again-2 : tie.Need-loop-again-2 Inv-loop μ-loop
 loop-again-2 c =
-    let l = c .before .before .before .before .before .before in
-    let a = l .before .before .before .before .args in
-    let m = length (a .room .now) - l .loop .n in
-    let p = c .before .before in
-    let e = read-on (a .row .now) l.loop.i m l.loop.r (omega arith) (p .before .if1 .left) (rw (← p .step .ensures) (not-false _ (c .if4 .left))) in
-    rw (p .step .ensures) (reading-on (l .loop .inv) (omega arith) e)
+    let at-loop = c .before .before .before .before .before .before in
+    let given = at-loop .before .before .before .before .args in
+    let difference = length (given .room .now) - at-loop .loop .n in
+    let at-step = c .before .before in
+    let by-read-on = read-on (given .row .now) at-loop.loop.i difference at-loop.loop.r (omega arith) (at-step .before .if1 .left)
+    (rw (← at-step .step .ensures) (not-false _ (c .if4 .left))) in
+    rw (at-step .step .ensures) (reading-on (at-loop .loop .inv) (omega arith) by-read-on)
 
 -- the row ends within a number
 returns-4 : tie.Need-returns-4 Inv-loop μ-loop
 returns-4 c =
-    let l = c .before .before .before in
-    let a = l .before .before .before .before .args in
-    reading-malformed (l .loop .inv) (read-cut (a .row .now) l.loop.i _ l.loop.r (c .before .before .loop-test .left) (c .if5 .taken))
+    let at-loop = c .before .before .before in
+    let given = at-loop .before .before .before .before .args in
+    reading-malformed (at-loop .loop .inv) (read-cut (given .row .now) at-loop.loop.i _ at-loop.loop.r (c .before .before .loop-test .left) (c .if5 .taken))
 
 returns-5 : tie.Need-returns-5 Inv-loop μ-loop
 returns-5 c =
-    let l = c .before .before .before in
-    let a = l .before .before .before .before .args in
-    reading-whole (l .loop .inv) (read-whole (a .row .now) l.loop.i _ l.loop.r (c .before .before .loop-test .left) (c .if5 .left))
+    let at-loop = c .before .before .before in
+    let given = at-loop .before .before .before .before .args in
+    reading-whole (at-loop .loop .inv) (read-whole (given .row .now) at-loop.loop.i _ at-loop.loop.r (c .before .before .loop-test .left) (c .if5 .left))
 
 pub read-row-spec : {M : Type 1} → statement M
 read-row-spec =

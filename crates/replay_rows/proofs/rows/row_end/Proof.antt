@@ -19,20 +19,20 @@ abbrev μ-loop : tie.MeasureT-loop
 -- the row's end stands at i
 returns : tie.Need-returns Inv-loop μ-loop
 returns c =
-    let l = c .before .before .before .loop in
-    omega (arith, row-end-here (c .before .before .before .before .args .bytes .now) l.i (omega arith) (c .if1 .taken))
+    let at-loop = c .before .before .before .loop in
+    omega (arith, row-end-here (c .before .before .before .before .args .bytes .now) at-loop.i (omega arith) (c .if1 .taken))
 
 loop-again : tie.Need-loop-again Inv-loop μ-loop
 loop-again c =
-    let l = c .before .before .before .loop in
-    let e = row-end-on (c .before .before .before .before .args .bytes .now) l.i (omega arith) (c .if1 .left) in
-    (omega arith, omega (arith, l .inv .1, e))
+    let at-loop = c .before .before .before .loop in
+    let by-row-end-on = row-end-on (c .before .before .before .before .args .bytes .now) at-loop.i (omega arith) (c .if1 .left) in
+    (omega arith, omega (arith, at-loop .inv .1, by-row-end-on))
 
 -- the bytes end
 returns-2 : tie.Need-returns-2 Inv-loop μ-loop
 returns-2 c =
-    let l = c .before .loop in
-    omega (arith, row-end-cut (c .before .before .args .bytes .now) l.i (c .loop-test .left))
+    let at-loop = c .before .loop in
+    omega (arith, row-end-cut (c .before .before .args .bytes .now) at-loop.i (c .loop-test .left))
 
 pub row-end-spec : {M : Type 1} → statement M
 row-end-spec =

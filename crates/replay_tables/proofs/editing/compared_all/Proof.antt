@@ -16,15 +16,30 @@ lent c =
     let at-put-all2 = at-put-all3 .before .before .before in
     let at-put-all = at-put-all2 .before .before .before .before in
     let entry = at-put-all .before .before .before .before .before .before .before in
-    let p = at-put-all .put-all .ensures in
-    let q = at-put-all2 .put-all2 .ensures in
-    let r = at-put-all3 .put-all3 .ensures in
-    let s = at-put-all4 .put-all4 .ensures in
-    let t = at-put-all5 .put-all5 .ensures in
+    let put-all-told = at-put-all .put-all .ensures in
+    let put-all2-told = at-put-all2 .put-all2 .ensures in
+    let put-all3-told = at-put-all3 .put-all3 .ensures in
+    let put-all4-told = at-put-all4 .put-all4 .ensures in
+    let put-all5-told = at-put-all5 .put-all5 .ensures in
     let fit = entry .pre in
     sym
     (length-take-le _ _
-    (omega (arith, p .next, p .size, q .next, q .size, r .next, r .size, s .next, s .size, t .next, t .size, fit .0, fit .1, fit .2)))
+    (omega (
+      arith,
+      put-all-told .next,
+      put-all-told .size,
+      put-all2-told .next,
+      put-all2-told .size,
+      put-all3-told .next,
+      put-all3-told .size,
+      put-all4-told .next,
+      put-all4-told .size,
+      put-all5-told .next,
+      put-all5-told .size,
+      fit .0,
+      fit .1,
+      fit .2,
+    )))
 
 returns : tie.Need-returns
 returns c =
@@ -34,14 +49,26 @@ returns c =
     let at-put-all2 = at-put-all3 .before .before .before in
     let at-put-all = at-put-all2 .before .before .before .before in
     let entry = at-put-all .before .before .before .before .before .before .before in
-    let p = at-put-all .put-all .ensures in
-    let q = at-put-all2 .put-all2 .ensures in
-    let r = at-put-all3 .put-all3 .ensures in
-    let s = at-put-all4 .put-all4 .ensures in
-    let t = at-put-all5 .put-all5 .ensures in
+    let put-all-told = at-put-all .put-all .ensures in
+    let put-all2-told = at-put-all2 .put-all2 .ensures in
+    let put-all3-told = at-put-all3 .put-all3 .ensures in
+    let put-all4-told = at-put-all4 .put-all4 .ensures in
+    let put-all5-told = at-put-all5 .put-all5 .ensures in
     let fit = entry .pre in
-    let all = wrote-then (wrote-then (wrote-then (wrote-then p q) r) s) t in
-    let front = written-front all (omega (arith, all .next, p .next, q .next, r .next, s .next, t .next, fit .0, fit .1, fit .2)) in
+    let all = wrote-then (wrote-then (wrote-then (wrote-then put-all-told put-all2-told) put-all3-told) put-all4-told) put-all5-told in
+    let front = written-front all
+    (omega (
+      arith,
+      all .next,
+      put-all-told .next,
+      put-all2-told .next,
+      put-all3-told .next,
+      put-all4-told .next,
+      put-all5-told .next,
+      fit .0,
+      fit .1,
+      fit .2,
+    )) in
     rw front at (c .compared .ensures)
 
 pub compared-all-spec : {M : Type 1} → statement M

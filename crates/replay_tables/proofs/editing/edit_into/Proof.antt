@@ -8,8 +8,9 @@ returns : tie.Need-returns
 returns c =
     let at-edited = c .before .before .before .before .before .before .before .before .before .before .before .before in
     let entry = at-edited .before .before .before .before .before .before .before .before .before .before .before in
-    let a = entry .args in
-    kept-compared (a .k) (a .points .now) a.content (a .text .now) (a .folds .now) (a .table .now) (a .stored .now) (at-edited .edited .ensures)
+    let given = entry .args in
+    kept-compared (given .k) (given .points .now) given.content (given .text .now) (given .folds .now) (given .table .now) (given .stored .now)
+    (at-edited .edited .ensures)
     (c .compared-all .ensures)
 
 pub edit-into-spec : {M : Type 1} → statement M

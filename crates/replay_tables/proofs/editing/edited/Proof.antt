@@ -9,18 +9,18 @@ returns c =
     let at-insert = c .before .before .before .before .before .before in
     let at-if1 = at-insert .before .before .before .before .before .before in
     let entry = at-if1 .before .before .before .before .before .before in
-    let a = entry .args in
-    let e = at-if1 .if1 .taken in
-    rw (to-insert (a .k) (a .points .now) e, put-insert (a .k) (a .points .now) e) (at-insert .insert-rows .ensures)
+    let given = entry .args in
+    let taken = at-if1 .if1 .taken in
+    rw (to-insert (given .k) (given .points .now) taken, put-insert (given .k) (given .points .now) taken) (at-insert .insert-rows .ensures)
 
 returns-2 : tie.Need-returns-2
 returns-2 c =
     let at-delete = c .before .before .before .before .before .before in
     let at-if1 = at-delete .before .before .before .before .before .before in
     let entry = at-if1 .before .before .before .before .before .before in
-    let a = entry .args in
-    let n = at-if1 .if1 .left in
-    rw (to-delete (a .k) (a .points .now) n, put-delete (a .k) (a .points .now) n) (at-delete .delete-rows .ensures)
+    let given = entry .args in
+    let left = at-if1 .if1 .left in
+    rw (to-delete (given .k) (given .points .now) left, put-delete (given .k) (given .points .now) left) (at-delete .delete-rows .ensures)
 
 pub edited-spec : {M : Type 1} → statement M
 edited-spec =

@@ -11,9 +11,10 @@ returns : tie.Need-returns
 unfolding filledInto
 returns c =
     let at-call = c .before .before .before .before in
-    let a = at-call .before .before .before .before .before .before .args in
-    let e = at-call .row-starts .ensures in
-    rw (← e .starts-left) (wrapped-compared (toldRows (fillOf (a .text .now) (a .table .now))) _ _ (e .out-left) (c .compared-two .ensures))
+    let given = at-call .before .before .before .before .before .before .args in
+    let row-starts-told = at-call .row-starts .ensures in
+    rw (← row-starts-told .starts-left)
+    (wrapped-compared (toldRows (fillOf (given .text .now) (given .table .now))) _ _ (row-starts-told .out-left) (c .compared-two .ensures))
 
 pub fill-into-spec : {M : Type 1} → statement M
 fill-into-spec =

@@ -9,29 +9,29 @@ use Rattle.replay_verdicts.proofs.answers.compared.Tie as tie
 
 returns : tie.Need-returns
 returns c =
-    let a = c .before .before .before .args in
-    compared-none a.number (a .places .now) (a .stored .now) (c .if1 .taken)
+    let given = c .before .before .before .args in
+    compared-none given.number (given .places .now) (given .stored .now) (c .if1 .taken)
 
 returns-2 : tie.Need-returns-2
 returns-2 c =
-    let a = c .before .before .before .before .before .args in
-    compared-other a.number (a .places .now) (a .stored .now) (omega arith) (c .if2 .taken)
+    let given = c .before .before .before .before .before .args in
+    compared-other given.number (given .places .now) (given .stored .now) (omega arith) (c .if2 .taken)
 
 returns-3 : tie.Need-returns-3
 unfolding compared
 returns-3 c =
-    let b = c .before .before .before in
-    let a = b .before .before .before .before .before .args in
-    let e = sym (c .before .equal .ensures) ∙ c .if3 .taken in
-    sym (compared-first a.number (a .places .now) (a .stored .now) (omega arith) (b .if2 .left) ∙ rw e)
+    let at-if2 = c .before .before .before in
+    let given = at-if2 .before .before .before .before .before .args in
+    let equal-is = sym (c .before .equal .ensures) ∙ c .if3 .taken in
+    sym (compared-first given.number (given .places .now) (given .stored .now) (omega arith) (at-if2 .if2 .left) ∙ rw equal-is)
 
 returns-4 : tie.Need-returns-4
 unfolding compared
 returns-4 c =
-    let b = c .before .before .before in
-    let a = b .before .before .before .before .before .args in
-    let e = sym (c .before .equal .ensures) ∙ c .if3 .left in
-    sym (compared-first a.number (a .places .now) (a .stored .now) (omega arith) (b .if2 .left) ∙ rw e)
+    let at-if2 = c .before .before .before in
+    let given = at-if2 .before .before .before .before .before .args in
+    let equal-is = sym (c .before .equal .ensures) ∙ c .if3 .left in
+    sym (compared-first given.number (given .places .now) (given .stored .now) (omega arith) (at-if2 .if2 .left) ∙ rw equal-is)
 
 pub compared-spec : {M : Type 1} → statement M
 compared-spec =

@@ -25,21 +25,21 @@ loop-holds c = (omega arith, refl)
 -- they differ at i
 returns-2 : tie.Need-returns-2 Inv-loop μ-loop
 returns-2 c =
-    let l = c .before .before .before .before in
-    let g = l .before .before .args in
-    sym (l .loop .inv .1 ∙ same-stop (g .a .now) (g .b .now) (l .loop .i) (omega arith) (omega arith) (c .if2 .taken))
+    let at-loop = c .before .before .before .before in
+    let given = at-loop .before .before .args in
+    sym (at-loop .loop .inv .1 ∙ same-stop (given .a .now) (given .b .now) (at-loop .loop .i) (omega arith) (omega arith) (c .if2 .taken))
 
 loop-again : tie.Need-loop-again Inv-loop μ-loop
 loop-again c =
-    let l = c .before .before .before .before in
-    let g = l .before .before .args in
-    (omega arith, l .loop .inv .1 ∙ same-on (g .a .now) (g .b .now) (l .loop .i) (omega arith) (omega arith) (c .if2 .left))
+    let at-loop = c .before .before .before .before in
+    let given = at-loop .before .before .args in
+    (omega arith, at-loop .loop .inv .1 ∙ same-on (given .a .now) (given .b .now) (at-loop .loop .i) (omega arith) (omega arith) (c .if2 .left))
 
 returns-3 : tie.Need-returns-3 Inv-loop μ-loop
 returns-3 c =
-    let l = c .before in
-    let g = l .before .before .args in
-    sym (l .loop .inv .1 ∙ same-end (g .a .now) (g .b .now) (l .loop .i) (c .loop-test .left) (omega arith))
+    let at-loop = c .before in
+    let given = at-loop .before .before .args in
+    sym (at-loop .loop .inv .1 ∙ same-end (given .a .now) (given .b .now) (at-loop .loop .i) (c .loop-test .left) (omega arith))
 
 pub equal-spec : {M : Type 1} → statement M
 equal-spec =

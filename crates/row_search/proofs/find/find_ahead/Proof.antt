@@ -8,35 +8,41 @@ use Rattle.row_search.proofs.find.find_ahead.Tie as tie
 
 sub-i : tie.Need-sub-t12
 sub-i c =
-    let m = c .before .before in
-    let b = m .before .before in
-    let a = b .before .before .before .args in
-    let from = b .before .start-ahead .ensures in
-    omega (arith, ahead-past (a .row .now) (a .col) (a .sought) (a .till) (a .skip) from (b .next-on-row .ensures) (m .f .given .1))
+    let at-f = c .before .before in
+    let at-next-on-row = at-f .before .before in
+    let given = at-next-on-row .before .before .before .args in
+    let from = at-next-on-row .before .start-ahead .ensures in
+    omega (
+      arith,
+      ahead-past (given .row .now) (given .col) (given .sought) (given .till) (given .skip) from (at-next-on-row .next-on-row .ensures) (at-f .f .given .1),
+    )
 
 -- a till
 returns : tie.Need-returns
 returns c =
-    let m = c .before .before in
-    let b = m .before .before in
-    let a = b .before .before .before .args in
-    let from = b .before .start-ahead .ensures in
-    ahead-onto (a .row .now) (a .col) (a .sought) (a .till) (a .skip) from (b .next-on-row .ensures) (m .f .given .1) (rw (c .if1 .taken))
+    let at-f = c .before .before in
+    let at-next-on-row = at-f .before .before in
+    let given = at-next-on-row .before .before .before .args in
+    let from = at-next-on-row .before .start-ahead .ensures in
+    ahead-onto (given .row .now) (given .col) (given .sought) (given .till) (given .skip) from (at-next-on-row .next-on-row .ensures)
+    (at-f .f .given .1) (rw (c .if1 .taken))
 
 returns-2 : tie.Need-returns-2
 returns-2 c =
-    let m = c .before .before in
-    let b = m .before .before in
-    let a = b .before .before .before .args in
-    let from = b .before .start-ahead .ensures in
-    ahead-onto (a .row .now) (a .col) (a .sought) (a .till) (a .skip) from (b .next-on-row .ensures) (m .f .given .1) (rw (c .if1 .left))
+    let at-f = c .before .before in
+    let at-next-on-row = at-f .before .before in
+    let given = at-next-on-row .before .before .before .args in
+    let from = at-next-on-row .before .start-ahead .ensures in
+    ahead-onto (given .row .now) (given .col) (given .sought) (given .till) (given .skip) from (at-next-on-row .next-on-row .ensures)
+    (at-f .f .given .1) (rw (c .if1 .left))
 
 returns-3 : tie.Need-returns-3
 returns-3 c =
-    let b = c .before .before in
-    let a = b .before .before .before .args in
-    let from = b .before .start-ahead .ensures in
-    ahead-nowhere (a .row .now) (a .col) (a .sought) (a .till) (a .skip) from (b .next-on-row .ensures) (c .enum-told .given .1)
+    let at-next-on-row = c .before .before in
+    let given = at-next-on-row .before .before .before .args in
+    let from = at-next-on-row .before .start-ahead .ensures in
+    ahead-nowhere (given .row .now) (given .col) (given .sought) (given .till) (given .skip) from (at-next-on-row .next-on-row .ensures)
+    (c .enum-told .given .1)
 
 pub find-ahead-spec : {M : Type 1} → statement M
 find-ahead-spec =

@@ -8,40 +8,45 @@ use Rattle.row_search.proofs.find.find_back.Tie as tie
 
 upto-within : tie.Need-last-on-row-requires
 upto-within c κs =
-    let a = c .before .before .args in
-    omega (arith, back-within (a .row .now) (a .col) (a .sought) (a .till) (a .skip) (c .start-back .ensures))
+    let given = c .before .before .args in
+    omega (arith, back-within (given .row .now) (given .col) (given .sought) (given .till) (given .skip) (c .start-back .ensures))
 
 add-i : tie.Need-add-t12
 add-i c =
-    let m = c .before .before in
-    let b = m .before .before in
-    let a = b .before .before .before .args in
-    let from = b .before .start-back .ensures in
-    omega (arith, back-before (a .row .now) (a .col) (a .sought) (a .till) (a .skip) from (b .last-on-row .ensures) (m .f .given .1))
+    let at-f = c .before .before in
+    let at-last-on-row = at-f .before .before in
+    let given = at-last-on-row .before .before .before .args in
+    let from = at-last-on-row .before .start-back .ensures in
+    omega (
+      arith,
+      back-before (given .row .now) (given .col) (given .sought) (given .till) (given .skip) from (at-last-on-row .last-on-row .ensures) (at-f .f .given .1),
+    )
 
 -- a till
 returns : tie.Need-returns
 returns c =
-    let m = c .before .before in
-    let b = m .before .before in
-    let a = b .before .before .before .args in
-    let from = b .before .start-back .ensures in
-    back-onto (a .row .now) (a .col) (a .sought) (a .till) (a .skip) from (b .last-on-row .ensures) (m .f .given .1) (rw (c .if1 .taken))
+    let at-f = c .before .before in
+    let at-last-on-row = at-f .before .before in
+    let given = at-last-on-row .before .before .before .args in
+    let from = at-last-on-row .before .start-back .ensures in
+    back-onto (given .row .now) (given .col) (given .sought) (given .till) (given .skip) from (at-last-on-row .last-on-row .ensures)
+    (at-f .f .given .1) (rw (c .if1 .taken))
 
 returns-2 : tie.Need-returns-2
 returns-2 c =
-    let m = c .before .before in
-    let b = m .before .before in
-    let a = b .before .before .before .args in
-    let from = b .before .start-back .ensures in
-    back-onto (a .row .now) (a .col) (a .sought) (a .till) (a .skip) from (b .last-on-row .ensures) (m .f .given .1) (rw (c .if1 .left))
+    let at-f = c .before .before in
+    let at-last-on-row = at-f .before .before in
+    let given = at-last-on-row .before .before .before .args in
+    let from = at-last-on-row .before .start-back .ensures in
+    back-onto (given .row .now) (given .col) (given .sought) (given .till) (given .skip) from (at-last-on-row .last-on-row .ensures)
+    (at-f .f .given .1) (rw (c .if1 .left))
 
 returns-3 : tie.Need-returns-3
 returns-3 c =
-    let b = c .before .before in
-    let a = b .before .before .before .args in
-    let from = b .before .start-back .ensures in
-    back-nowhere (a .row .now) (a .col) (a .sought) (a .till) (a .skip) from (b .last-on-row .ensures) (c .enum-told .given .1)
+    let at-last-on-row = c .before .before in
+    let given = at-last-on-row .before .before .before .args in
+    let from = at-last-on-row .before .start-back .ensures in
+    back-nowhere (given .row .now) (given .col) (given .sought) (given .till) (given .skip) from (at-last-on-row .last-on-row .ensures) (c .enum-told .given .1)
 
 pub find-back-spec : {M : Type 1} → statement M
 find-back-spec =

@@ -23,20 +23,23 @@ loop-holds c = (omega arith, refl)
 
 returns : tie.Need-returns Inv-loop μ-loop
 returns c =
-    let k = c .before .before in
-    let a = k .before .before .args in
-    sym (k .before .loop .inv .1 ∙ last-stop (is (a .row .now) (a .sought)) _ (k .loop-test .taken) (eq-eqb _ _ (c .if1 .taken)))
+    let at-loop-test = c .before .before in
+    let given = at-loop-test .before .before .args in
+    sym (at-loop-test .before .loop .inv .1 ∙ last-stop (is (given .row .now) (given .sought)) _ (at-loop-test .loop-test .taken) (eq-eqb _ _ (c .if1 .taken)))
 
 loop-again : tie.Need-loop-again Inv-loop μ-loop
 loop-again c =
-    let k = c .before .before in
-    let a = k .before .before .args in
-    (omega arith, k .before .loop .inv .1 ∙ last-on (is (a .row .now) (a .sought)) _ (k .loop-test .taken) (ne-eqb _ _ (c .if1 .left)))
+    let at-loop-test = c .before .before in
+    let given = at-loop-test .before .before .args in (
+      omega arith,
+      at-loop-test .before .loop .inv .1
+          ∙ last-on (is (given .row .now) (given .sought)) _ (at-loop-test .loop-test .taken) (ne-eqb _ _ (c .if1 .left)),
+    )
 
 returns-2 : tie.Need-returns-2 Inv-loop μ-loop
 returns-2 c =
-    let a = c .before .before .args in
-    sym (c .before .loop .inv .1 ∙ last-end (is (a .row .now) (a .sought)) _ (c .loop-test .left))
+    let given = c .before .before .args in
+    sym (c .before .loop .inv .1 ∙ last-end (is (given .row .now) (given .sought)) _ (c .loop-test .left))
 
 pub last-on-row-spec : {M : Type 1} → statement M
 last-on-row-spec =

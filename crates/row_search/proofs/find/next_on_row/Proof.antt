@@ -23,20 +23,22 @@ loop-holds c = refl
 
 returns : tie.Need-returns Inv-loop μ-loop
 returns c =
-    let k = c .before .before in
-    let a = k .before .before .args in
-    sym (k .before .loop .inv ∙ first-stop (is (a .row .now) (a .sought)) _ _ (omega (arith, k .loop-test .taken)) (eq-eqb _ _ (c .if1 .taken)))
+    let at-loop-test = c .before .before in
+    let given = at-loop-test .before .before .args in
+    sym (at-loop-test .before .loop .inv
+    ∙ first-stop (is (given .row .now) (given .sought)) _ _ (omega (arith, at-loop-test .loop-test .taken)) (eq-eqb _ _ (c .if1 .taken)))
 
 loop-again : tie.Need-loop-again Inv-loop μ-loop
 loop-again c =
-    let k = c .before .before in
-    let a = k .before .before .args in
-    k .before .loop .inv ∙ first-on (is (a .row .now) (a .sought)) _ _ (omega (arith, k .loop-test .taken)) (ne-eqb _ _ (c .if1 .left))
+    let at-loop-test = c .before .before in
+    let given = at-loop-test .before .before .args in
+    at-loop-test .before .loop .inv
+    ∙ first-on (is (given .row .now) (given .sought)) _ _ (omega (arith, at-loop-test .loop-test .taken)) (ne-eqb _ _ (c .if1 .left))
 
 returns-2 : tie.Need-returns-2 Inv-loop μ-loop
 returns-2 c =
-    let a = c .before .before .args in
-    sym (c .before .loop .inv ∙ first-end (is (a .row .now) (a .sought)) _ _ (c .loop-test .left))
+    let given = c .before .before .args in
+    sym (c .before .loop .inv ∙ first-end (is (given .row .now) (given .sought)) _ _ (c .loop-test .left))
 
 pub next-on-row-spec : {M : Type 1} → statement M
 next-on-row-spec =

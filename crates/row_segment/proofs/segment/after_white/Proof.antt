@@ -21,21 +21,21 @@ loop-holds c = (omega arith, refl)
 
 returns : tie.Need-returns Inv-loop μ-loop
 returns c =
-    let l = c .before .before .before in
-    let i = l .before .loop .inv in
-    sym (i .1 ∙ white-here isWhite _ _ (l .loop-test .taken) (omega arith) (sym (c .before .white-in .ensures) ∙ c .if1 .taken))
+    let at-loop-test = c .before .before .before in
+    let invariant = at-loop-test .before .loop .inv in
+    sym (invariant .1 ∙ white-here isWhite _ _ (at-loop-test .loop-test .taken) (omega arith) (sym (c .before .white-in .ensures) ∙ c .if1 .taken))
 
 loop-again : tie.Need-loop-again Inv-loop μ-loop
 loop-again c =
-    let l = c .before .before .before in
-    let i = l .before .loop .inv in
-    (omega arith, i .1 ∙ white-before isWhite _ _ (l .loop-test .taken) (omega arith) (sym (c .before .white-in .ensures) ∙ c .if1 .left))
+    let at-loop-test = c .before .before .before in
+    let invariant = at-loop-test .before .loop .inv in
+    (omega arith, invariant .1 ∙ white-before isWhite _ _ (at-loop-test .loop-test .taken) (omega arith) (sym (c .before .white-in .ensures) ∙ c .if1 .left))
 
 returns-2 : tie.Need-returns-2 Inv-loop μ-loop
 returns-2 c =
     let row = c .before .before .before .before .args .row .now in
-    let z : c .before .loop .k ≡ 0 = omega arith in
-    sym (c .before .loop .inv .1 ∙ ap (afterWhite isWhite row) z ∙ white-none isWhite row)
+    let k-is : c .before .loop .k ≡ 0 = omega arith in
+    sym (c .before .loop .inv .1 ∙ ap (afterWhite isWhite row) k-is ∙ white-none isWhite row)
 
 pub after-white-spec : {M : Type 1} → statement M
 after-white-spec =

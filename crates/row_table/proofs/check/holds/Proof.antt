@@ -21,14 +21,14 @@ shared-slice-read-if1 c = omega (arith, c .before .pre .0, c .before .pre .1, ro
 -- the first start isn't 0
 returns : tie.Need-returns Inv-loop μ-loop
 returns c =
-    let s = c .before .before in
-    let t = s .args .t .now in
-    sym (held-no _ _ _ (λ q e. c .if1 .taken (table-place t (s .args .starts .now) e 0 (rows-pos t) ∙ start-zero t)))
+    let at-start = c .before .before in
+    let text-now = at-start .args .t .now in
+    sym (held-no _ _ _ (λ q e. c .if1 .taken (table-place text-now (at-start .args .starts .now) e 0 (rows-pos text-now) ∙ start-zero text-now)))
 
 loop-holds : tie.Need-loop-holds Inv-loop μ-loop
 loop-holds c =
-    let s = c .before .before in
-    (ascend-first (s .args .t .now) (s .args .starts .now) (c .if1 .left), omega (arith, s .pre .0, rows-pos (s .args .t .now)))
+    let at-start = c .before .before in
+    (ascend-first (at-start .args .t .now) (at-start .args .starts .now) (c .if1 .left), omega (arith, at-start .pre .0, rows-pos (at-start .args .t .now)))
 
 cast-s : tie.Need-cast-s Inv-loop μ-loop
 cast-s c = omega (arith, c .shared-slice-known2 .given (c .before .before .loop .i))
@@ -36,38 +36,59 @@ cast-s c = omega (arith, c .shared-slice-known2 .given (c .before .before .loop 
 -- a start that isn't above the one before
 returns-2 : tie.Need-returns-2 Inv-loop μ-loop
 returns-2 c =
-    let l = c .before .before .before in
-    let s = l .before .before .before in
-    let i = l .loop .inv .0 in
-    sym (held-no _ _ _ (λ q e. omega (arith, c .if2 .taken, i .last-is, table-ascends (s .args .t .now) (s .args .starts .now) e (l .loop .i) (i .some) (omega (arith, c .before .before .loop-test .taken, q)))))
+    let at-loop = c .before .before .before in
+    let at-start = at-loop .before .before .before in
+    let invariant = at-loop .loop .inv .0 in
+    sym (held-no _ _ _
+    (λ q e.
+    omega (
+      arith,
+      c .if2 .taken,
+      invariant .last-is,
+      table-ascends (at-start .args .t .now) (at-start .args .starts .now) e (at-loop .loop .i) (invariant .some)
+          (omega (arith, c .before .before .loop-test .taken, q)),
+    )))
 
 -- one beyond the text
 returns-3 : tie.Need-returns-3 Inv-loop μ-loop
 returns-3 c =
-    let l = c .before .before .before .before in
-    let s = l .before .before .before in
-    sym (held-no _ _ _ (λ q e. omega (arith, c .if3 .taken, table-within (s .args .t .now) (s .args .starts .now) e (l .loop .i) (omega (arith, c .before .before .before .loop-test .taken, q)))))
+    let at-loop = c .before .before .before .before in
+    let at-start = at-loop .before .before .before in
+    sym (held-no _ _ _
+    (λ q e.
+    omega (
+      arith,
+      c .if3 .taken,
+      table-within (at-start .args .t .now) (at-start .args .starts .now) e (at-loop .loop .i)
+          (omega (arith, c .before .before .before .loop-test .taken, q)),
+    )))
 
 -- one that stands behind no separator
 returns-4 : tie.Need-returns-4 Inv-loop μ-loop
 returns-4 c =
-    let l = c .before .before .before .before .before .before in
-    let s = l .before .before .before in
-    sym (held-no _ _ _ (λ q e. c .if4 .taken (table-behind (s .args .t .now) (s .args .starts .now) e (l .loop .i) (omega (arith, c .before .before .before .before .before .loop-test .taken, q)) (l .loop .inv .0 .some))))
+    let at-loop = c .before .before .before .before .before .before in
+    let at-start = at-loop .before .before .before in
+    sym (held-no _ _ _
+    (λ q e. c .if4 .taken
+    (table-behind (at-start .args .t .now) (at-start .args .starts .now) e (at-loop .loop .i)
+    (omega (arith, c .before .before .before .before .before .loop-test .taken, q)) (at-loop .loop .inv .0 .some))))
 
 loop-again : tie.Need-loop-again Inv-loop μ-loop
 loop-again c =
-    let l = c .before .before .before .before .before .before in
-    (ascend-next (l .loop .inv .0) (omega (arith, c .before .before .before .if2 .left)) (omega (arith, c .before .before .if3 .left)) (c .if4 .left), omega (arith, c .before .before .before .before .before .loop-test .taken))
+    let at-loop = c .before .before .before .before .before .before in (
+      ascend-next (at-loop .loop .inv .0) (omega (arith, c .before .before .before .if2 .left)) (omega (arith, c .before .before .if3 .left))
+          (c .if4 .left),
+      omega (arith, c .before .before .before .before .before .loop-test .taken),
+    )
 
 returns-5 : tie.Need-returns-5 Inv-loop μ-loop
 returns-5 c =
-    let l = c .before in
-    let s = l .before .before .before in
-    let all = l .loop .inv .0 in
+    let at-loop = c .before in
+    let at-start = at-loop .before .before .before in
+    let all = at-loop .loop .inv .0 in
     let few = ascend-few all in
-    sym (held-yes _ _ _ (omega (arith, few, l .loop .inv .1, c .loop-test .left, s .pre .0))
-    (ascend-all all (omega (arith, few, l .loop .inv .1, c .loop-test .left, s .pre .0)) (omega (arith, s .pre .0, s .pre .1))))
+    sym (held-yes _ _ _ (omega (arith, few, at-loop .loop .inv .1, c .loop-test .left, at-start .pre .0))
+    (ascend-all all (omega (arith, few, at-loop .loop .inv .1, c .loop-test .left, at-start .pre .0)) (omega (arith, at-start .pre .0, at-start .pre .1))))
 
 pub holds-spec : {M : Type 1} → statement M
 holds-spec =

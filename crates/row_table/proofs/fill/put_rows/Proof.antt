@@ -12,20 +12,20 @@ slice-write-starts c = omega (arith, rows-pos (c .before .before .args .t .now))
 
 put-starts-requires : tie.Need-put-starts-requires
 put-starts-requires c κs =
-    let a = c .before .before .before .args in
-    (omega (arith, length-set (a.starts .now) 0 0), omega arith)
+    let given = c .before .before .before .args in
+    (omega (arith, length-set (given.starts .now) 0 0), omega arith)
 
 same-length : tie.Need-same-length
 same-length c =
     let put = c .before .before in
-    let a = put .before .before .before .before .args in
-    omega (arith, length-set (a.starts .now) 0 0, put .put-starts .ensures .size)
+    let given = put .before .before .before .before .args in
+    omega (arith, length-set (given.starts .now) 0 0, put .put-starts .ensures .size)
 
 returns : tie.Need-returns
 returns c =
     let put = c .before .before in
-    let a = put .before .before .before .before .args in
-    put-all (a.t .now) (omega (arith, rows-pos (a.t .now))) (put .put-starts .ensures)
+    let given = put .before .before .before .before .args in
+    put-all (given.t .now) (omega (arith, rows-pos (given.t .now))) (put .put-starts .ensures)
 
 pub put-rows-spec : {M : Type 1} → statement M
 put-rows-spec =

@@ -13,40 +13,46 @@ use Rattle.row_table.proofs.fill.row_starts.Tie as tie
 returns : tie.Need-returns
 returns c =
     let checked = c .before in
-    let a = checked .before .before .before .args in
-    fill-refused (a.t .now) (a.starts .now) (checked .text-refusal .ensures) (c .if1 .taken)
+    let given = checked .before .before .before .args in
+    fill-refused (given.t .now) (given.starts .now) (checked .text-refusal .ensures) (c .if1 .taken)
 
 returns-2 : tie.Need-returns-2
 returns-2 c =
     let counted = c .before in
     let checked = counted .before .before in
-    let a = checked .before .before .before .args in
-    fill-short (a.t .now) (a.starts .now) (sym (checked .text-refusal .ensures) ∙ counted .before .if1 .left)
+    let given = checked .before .before .before .args in
+    fill-short (given.t .now) (given.starts .now) (sym (checked .text-refusal .ensures) ∙ counted .before .if1 .left)
     (omega (arith, c .if2 .taken, counted .row-count .ensures))
 
 put-rows-requires : tie.Need-put-rows-requires
 put-rows-requires c κs =
     let counted = c .before .before in
     let checked = counted .before .before in
-    let a = checked .before .before .before .args in (
+    let given = checked .before .before .before .args in (
       omega (arith, c .before .if2 .left, counted .row-count .ensures),
-      accepted-short (a.t .now) (sym (checked .text-refusal .ensures) ∙ counted .before .if1 .left),
+      accepted-short (given.t .now) (sym (checked .text-refusal .ensures) ∙ counted .before .if1 .left),
     )
 
 cast-content : tie.Need-cast-t11
 cast-content c =
     let counted = c .before .before .before .before .before .before in
     let checked = counted .before .before in
-    let t = checked .before .before .before .args .t .now in
-    omega (arith, c .content-of .ensures, content-near t, count-le t, accepted-short t (sym (checked .text-refusal .ensures) ∙ counted .before .if1 .left))
+    let text-now = checked .before .before .before .args .t .now in
+    omega (
+      arith,
+      c .content-of .ensures,
+      content-near text-now,
+      count-le text-now,
+      accepted-short text-now (sym (checked .text-refusal .ensures) ∙ counted .before .if1 .left),
+    )
 
 returns-3 : tie.Need-returns-3
 returns-3 c =
     let put = c .before .before .before in
     let counted = put .before .before .before in
     let checked = counted .before .before in
-    let a = checked .before .before .before .args in
-    fill-done (a.t .now) (a.starts .now) (sym (checked .text-refusal .ensures) ∙ counted .before .if1 .left)
+    let given = checked .before .before .before .args in
+    fill-done (given.t .now) (given.starts .now) (sym (checked .text-refusal .ensures) ∙ counted .before .if1 .left)
     (omega (arith, put .before .before .if2 .left, counted .row-count .ensures)) (c .content-of .ensures) (put .put-rows .ensures)
 
 pub row-starts-spec : {M : Type 1} → statement M

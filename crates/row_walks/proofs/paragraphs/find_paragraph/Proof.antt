@@ -28,50 +28,50 @@ paragraph-round-requires c κs = (c .loop .inv .0, c .loop .inv .1, c .loop .inv
 -- the round has found its row
 returns : tie.Need-returns Inv-loop μ-loop
 returns c =
-    let r = c .before .before .before .before in
-    let l = r .before in
-    let a = l .before .before .args in
-    let ended = rw (c .before .before .l .given .1) at (r .paragraph-round .ensures .1) in (
-      sym (l .loop .inv .3 ∙ last-round (a .t .now) (a .forward) _ _ (c .if1 .taken) ∙
-          ap atLast (sym (r .paragraph-round .ensures .0) ∙ c .before .before .l .given .1)),
+    let at-paragraph-round = c .before .before .before .before in
+    let at-loop = at-paragraph-round .before in
+    let given = at-loop .before .before .args in
+    let ended = rw (c .before .before .l .given .1) at (at-paragraph-round .paragraph-round .ensures .1) in (
+      sym (at-loop .loop .inv .3 ∙ last-round (given .t .now) (given .forward) _ _ (c .if1 .taken) ∙
+          ap atLast (sym (at-paragraph-round .paragraph-round .ensures .0) ∙ c .before .before .l .given .1)),
       ended,
     )
 
 loop-again : tie.Need-loop-again Inv-loop μ-loop
 loop-again c =
-    let r = c .before .before .before .before in
-    let l = r .before in
-    let a = l .before .before .args in (
-      rw (c .before .before .l .given .1) at (r .paragraph-round .ensures .1),
-      l .loop .inv .1,
-      l .loop .inv .2,
-      l .loop .inv .3 ∙
-          one-round (a .t .now) (a .forward) _ _ (c .if1 .left) ∙
-          ap (goOn (λ (x : ℕ). paragraphs (a .t .now) (a .forward) (l .loop .owed - 1) x))
-          (sym (r .paragraph-round .ensures .0) ∙ c .before .before .l .given .1),
+    let at-paragraph-round = c .before .before .before .before in
+    let at-loop = at-paragraph-round .before in
+    let given = at-loop .before .before .args in (
+      rw (c .before .before .l .given .1) at (at-paragraph-round .paragraph-round .ensures .1),
+      at-loop .loop .inv .1,
+      at-loop .loop .inv .2,
+      at-loop .loop .inv .3 ∙
+          one-round (given .t .now) (given .forward) _ _ (c .if1 .left) ∙
+          ap (goOn (λ (x : ℕ). paragraphs (given .t .now) (given .forward) (at-loop .loop .owed - 1) x))
+          (sym (at-paragraph-round .paragraph-round .ensures .0) ∙ c .before .before .l .given .1),
     )
 
 -- the round has run off
 returns-2 : tie.Need-returns-2 Inv-loop μ-loop
 returns-2 c =
-    let r = c .before .before .before .before in
-    let l = r .before in
-    let a = l .before .before .args in
-    let ended = rw (c .before .before .l2 .given .1) at (r .paragraph-round .ensures .1) in (
-      sym (l .loop .inv .3 ∙ last-round (a .t .now) (a .forward) _ _ (c .if2 .taken) ∙
-          ap atLast (sym (r .paragraph-round .ensures .0) ∙ c .before .before .l2 .given .1)),
+    let at-paragraph-round = c .before .before .before .before in
+    let at-loop = at-paragraph-round .before in
+    let given = at-loop .before .before .args in
+    let ended = rw (c .before .before .l2 .given .1) at (at-paragraph-round .paragraph-round .ensures .1) in (
+      sym (at-loop .loop .inv .3 ∙ last-round (given .t .now) (given .forward) _ _ (c .if2 .taken) ∙
+          ap atLast (sym (at-paragraph-round .paragraph-round .ensures .0) ∙ c .before .before .l2 .given .1)),
       ended,
     )
 
 returns-3 : tie.Need-returns-3 Inv-loop μ-loop
 returns-3 c =
-    let r = c .before .before .before .before in
-    let l = r .before in
-    let a = l .before .before .args in (
-      sym (l .loop .inv .3 ∙ one-round (a .t .now) (a .forward) _ _ (c .if2 .left) ∙
-          ap (goOn (λ (x : ℕ). paragraphs (a .t .now) (a .forward) (l .loop .owed - 1) x))
-          (sym (r .paragraph-round .ensures .0) ∙ c .before .before .l2 .given .1)),
-      rows-pos (a .t .now),
+    let at-paragraph-round = c .before .before .before .before in
+    let at-loop = at-paragraph-round .before in
+    let given = at-loop .before .before .args in (
+      sym (at-loop .loop .inv .3 ∙ one-round (given .t .now) (given .forward) _ _ (c .if2 .left) ∙
+          ap (goOn (λ (x : ℕ). paragraphs (given .t .now) (given .forward) (at-loop .loop .owed - 1) x))
+          (sym (at-paragraph-round .paragraph-round .ensures .0) ∙ c .before .before .l2 .given .1)),
+      rows-pos (given .t .now),
     )
 
 pub find-paragraph-spec : {M : Type 1} → statement M

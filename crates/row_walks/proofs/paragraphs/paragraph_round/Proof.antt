@@ -19,18 +19,19 @@ abbrev μ-loop : tie.MeasureT-loop
 
 cast-end : tie.Need-cast-end Inv-loop μ-loop
 cast-end c =
-    let s = c .before in
-    fits-pos (s .args .last) (omega (arith, s .pre .1, s .pre .2, content-near (s .args .t .now), count-le (s .args .t .now)))
+    let at-start = c .before in
+    fits-pos (at-start .args .last)
+    (omega (arith, at-start .pre .1, at-start .pre .2, content-near (at-start .args .t .now), count-le (at-start .args .t .now)))
 
 cast-curr : tie.Need-cast-curr Inv-loop μ-loop
 cast-curr c =
-    let s = c .before .before .before in
-    fits-pos (s .args .from .row) (omega (arith, s .pre .0 .below, s .pre .0 .within, s .pre .2))
+    let at-start = c .before .before .before in
+    fits-pos (at-start .args .from .row) (omega (arith, at-start .pre .0 .below, at-start .pre .0 .within, at-start .pre .2))
 
 loop-holds : tie.Need-loop-holds Inv-loop μ-loop
 loop-holds c =
-    let s = c .before .before .before in
-    rounding-start (s .args .t .now) (s .args .forward) (s .args .last) _ _ (s .pre .0) (s .pre .1) (s .pre .2)
+    let at-start = c .before .before .before in
+    rounding-start (at-start .args .t .now) (at-start .args .forward) (at-start .args .last) _ _ (at-start .pre .0) (at-start .pre .1) (at-start .pre .2)
 
 cast-t15 : tie.Need-cast-t15 Inv-loop μ-loop
 cast-t15 c = rounding-fits (c .loop .inv)
@@ -44,44 +45,46 @@ returns c = rounding-found (c .before .before .loop .inv) _ (c .before .is-void 
 -- one row on
 add-curr : tie.Need-add-curr Inv-loop μ-loop
 add-curr c =
-    let l = c .before .before in
-    rounding-next (l .loop .inv) _ (l .before .before .direction .ensures)
+    let at-loop = c .before .before in
+    rounding-next (at-loop .loop .inv) _ (at-loop .before .before .direction .ensures)
 
 -- it is outside: one row back
 sub-curr : tie.Need-sub-curr Inv-loop μ-loop
 sub-curr c =
-    let l = c .before .before .before in
-    rounding-back (l .loop .inv) _ (l .before .before .direction .ensures)
+    let at-loop = c .before .before .before in
+    rounding-back (at-loop .loop .inv) _ (at-loop .before .before .direction .ensures)
 
 cast-t19 : tie.Need-cast-t19 Inv-loop μ-loop
 cast-t19 c =
-    let l = c .before .before .before in
-    rounding-back-fits (l .loop .inv) _ (l .before .before .direction .ensures)
+    let at-loop = c .before .before .before in
+    rounding-back-fits (at-loop .loop .inv) _ (at-loop .before .before .direction .ensures)
 
 returns-2 : tie.Need-returns-2 Inv-loop μ-loop
 returns-2 c =
-    let v = c .before .before in
-    let l = v .before in
-    rounding-off (l .loop .inv) _ (v .is-void .ensures) (c .before .if1 .left) _ (l .before .before .direction .ensures) (c .if2 .taken)
+    let at-is-void = c .before .before in
+    let at-loop = at-is-void .before in
+    rounding-off (at-loop .loop .inv) _ (at-is-void .is-void .ensures) (c .before .if1 .left) _ (at-loop .before .before .direction .ensures) (c .if2 .taken)
 
 -- it is not: the walk goes on from there
 beside-requires : tie.Need-beside-requires Inv-loop μ-loop
 beside-requires c κs =
-    let v = c .before .before in
-    let l = v .before in
-    rounding-in (l .loop .inv) _ (v .is-void .ensures) (c .before .if1 .left) _ (l .before .before .direction .ensures) (c .if2 .left)
+    let at-is-void = c .before .before in
+    let at-loop = at-is-void .before in
+    rounding-in (at-loop .loop .inv) _ (at-is-void .is-void .ensures) (c .before .if1 .left) _ (at-loop .before .before .direction .ensures) (c .if2 .left)
 
 loop-less : tie.Need-loop-less Inv-loop μ-loop
 loop-less c =
-    let v = c .before .before .before in
-    let l = v .before in
-    rounding-less (l .loop .inv) _ (v .is-void .ensures) (c .before .before .if1 .left) _ (l .before .before .direction .ensures) (c .before .if2 .left)
+    let at-is-void = c .before .before .before in
+    let at-loop = at-is-void .before in
+    rounding-less (at-loop .loop .inv) _ (at-is-void .is-void .ensures) (c .before .before .if1 .left) _ (at-loop .before .before .direction .ensures)
+    (c .before .if2 .left)
 
 loop-again : tie.Need-loop-again Inv-loop μ-loop
 loop-again c =
-    let v = c .before .before .before in
-    let l = v .before in
-    rounding-on (l .loop .inv) _ (v .is-void .ensures) (c .before .before .if1 .left) _ (l .before .before .direction .ensures) (c .before .if2 .left) _
+    let at-is-void = c .before .before .before in
+    let at-loop = at-is-void .before in
+    rounding-on (at-loop .loop .inv) _ (at-is-void .is-void .ensures) (c .before .before .if1 .left) _ (at-loop .before .before .direction .ensures)
+    (c .before .if2 .left) _
     (c .beside .ensures)
 
 pub paragraph-round-spec : {M : Type 1} → statement M

@@ -23,30 +23,33 @@ abbrev μ-loop : tie.MeasureT-loop
 
 loop-holds : tie.Need-loop-holds Inv-loop μ-loop
 loop-holds c =
-    let p = c .before .pre in
-    (p .0, p .1, p .2, rw (p .1))
+    let required = c .before .pre in
+    (required .0, required .1, required .2, rw (required .1))
 
 returns : tie.Need-returns Inv-loop μ-loop
 returns c =
-    let l = c .before .before in
-    let a = l .before .before .args in
-    let v = l .loop .inv in (
-      sym (v .3 ∙ down-done (a .t .now) (a .x) (l .loop .left) (l .loop .row) _ (omega (arith, c .if1 .taken))),
-      omega (arith, v .0 .below, v .0 .within),
+    let at-loop = c .before .before in
+    let given = at-loop .before .before .args in
+    let invariant = at-loop .loop .inv in (
+      sym (invariant .3 ∙ down-done (given .t .now) (given .x) (at-loop .loop .left) (at-loop .loop .row) _ (omega (arith, c .if1 .taken))),
+      omega (arith, invariant .0 .below, invariant .0 .within),
     )
 
 next-line-requires : tie.Need-next-line-requires Inv-loop μ-loop
 next-line-requires c κs =
-    let l = c .before .before in
-    let v = l .loop .inv in
-    (v .0, has-next (l .before .before .args .t .now) (l .loop .row) _ (v .1) (c .before .loop-test .taken))
+    let at-loop = c .before .before in
+    let invariant = at-loop .loop .inv in
+    (invariant .0, has-next (at-loop .before .before .args .t .now) (at-loop .loop .row) _ (invariant .1) (c .before .loop-test .taken))
 
 begins-requires : tie.Need-begins-requires Inv-loop μ-loop
 begins-requires c κs =
-    let l = c .before .before .before in
-    let t = l .before .before .args .t .now in
-    let v = l .loop .inv in
-    (line-there t (c .next-line .result) _ (c .next-line .ensures) (has-next t (l .loop .row) _ (v .1) (c .before .before .loop-test .taken)), v .2)
+    let at-loop = c .before .before .before in
+    let text-now = at-loop .before .before .args .t .now in
+    let invariant = at-loop .loop .inv in (
+      line-there text-now (c .next-line .result) _ (c .next-line .ensures)
+          (has-next text-now (at-loop .loop .row) _ (invariant .1) (c .before .before .loop-test .taken)),
+      invariant .2,
+    )
 
 loop-less : tie.Need-loop-less Inv-loop μ-loop
 loop-less c = omega (arith, ap (λ (l : Line). l .row) (c .before .before .next-line .ensures), c .before .before .before .before .loop-test .taken)
@@ -54,16 +57,19 @@ loop-less c = omega (arith, ap (λ (l : Line). l .row) (c .before .before .next-
 -- the row below begins with the mark, or it does not
 loop-again : tie.Need-loop-again Inv-loop μ-loop
 loop-again c =
-    let d = c .before .before in
-    let more = d .before .before .loop-test .taken in
-    let l = d .before .before .before in
-    let a = l .before .before .args in
-    let v = l .loop .inv in
-    let down = ap (λ (l : Line). l .row) (d .next-line .ensures) in (
-      line-there (a .t .now) (d .next-line .result) _ (d .next-line .ensures) (has-next (a .t .now) (l .loop .row) _ (v .1) more),
-      v .1,
-      v .2,
-      v .3 ∙ down-step (a .t .now) (a .x) (l .loop .left) (l .loop .row) (a .last) _ (omega (arith, d .before .if1 .left)) more down ∙
+    let at-next-line = c .before .before in
+    let more = at-next-line .before .before .loop-test .taken in
+    let at-loop = at-next-line .before .before .before in
+    let given = at-loop .before .before .args in
+    let invariant = at-loop .loop .inv in
+    let down = ap (λ (l : Line). l .row) (at-next-line .next-line .ensures) in (
+      line-there (given .t .now) (at-next-line .next-line .result) _ (at-next-line .next-line .ensures)
+          (has-next (given .t .now) (at-loop .loop .row) _ (invariant .1) more),
+      invariant .1,
+      invariant .2,
+      invariant .3
+          ∙ down-step (given .t .now) (given .x) (at-loop .loop .left) (at-loop .loop .row) (given .last) _
+          (omega (arith, at-next-line .before .if1 .left)) more down ∙
           rw (sym (c .before .begins .ensures) ∙ c .if2 .taken),
     )
 
@@ -72,26 +78,29 @@ loop-less-2 c = omega (arith, ap (λ (l : Line). l .row) (c .before .before .nex
 
 loop-again-2 : tie.Need-loop-again-2 Inv-loop μ-loop
 loop-again-2 c =
-    let d = c .before .before in
-    let more = d .before .before .loop-test .taken in
-    let l = d .before .before .before in
-    let a = l .before .before .args in
-    let v = l .loop .inv in
-    let down = ap (λ (l : Line). l .row) (d .next-line .ensures) in (
-      line-there (a .t .now) (d .next-line .result) _ (d .next-line .ensures) (has-next (a .t .now) (l .loop .row) _ (v .1) more),
-      v .1,
-      v .2,
-      v .3 ∙ down-step (a .t .now) (a .x) (l .loop .left) (l .loop .row) (a .last) _ (omega (arith, d .before .if1 .left)) more down ∙
+    let at-next-line = c .before .before in
+    let more = at-next-line .before .before .loop-test .taken in
+    let at-loop = at-next-line .before .before .before in
+    let given = at-loop .before .before .args in
+    let invariant = at-loop .loop .inv in
+    let down = ap (λ (l : Line). l .row) (at-next-line .next-line .ensures) in (
+      line-there (given .t .now) (at-next-line .next-line .result) _ (at-next-line .next-line .ensures)
+          (has-next (given .t .now) (at-loop .loop .row) _ (invariant .1) more),
+      invariant .1,
+      invariant .2,
+      invariant .3
+          ∙ down-step (given .t .now) (given .x) (at-loop .loop .left) (at-loop .loop .row) (given .last) _
+          (omega (arith, at-next-line .before .if1 .left)) more down ∙
           rw (sym (c .before .begins .ensures) ∙ c .if2 .left),
     )
 
 returns-2 : tie.Need-returns-2 Inv-loop μ-loop
 returns-2 c =
-    let l = c .before in
-    let a = l .before .before .args in
-    let v = l .loop .inv in (
-      sym (v .3 ∙ down-none (a .t .now) (a .x) (l .loop .left) (l .loop .row) _ (omega (arith, c .loop-test .left))),
-      omega (arith, v .0 .below, v .0 .within),
+    let at-loop = c .before in
+    let given = at-loop .before .before .args in
+    let invariant = at-loop .loop .inv in (
+      sym (invariant .3 ∙ down-none (given .t .now) (given .x) (at-loop .loop .left) (at-loop .loop .row) _ (omega (arith, c .loop-test .left))),
+      omega (arith, invariant .0 .below, invariant .0 .within),
     )
 
 pub section-down-spec : {M : Type 1} → statement M

@@ -19,16 +19,19 @@ abbrev μ-loop : tie.MeasureT-loop
 
 returns : tie.Need-returns Inv-loop μ-loop
 returns c =
-    let l = c .before .before in
-    let a = l .before .before .args in (
-      sym (l .loop .inv .2 ∙ up-done (a .t .now) (a .x) (l .loop .left) (l .loop .row) (c .if1 .taken)),
-      omega (arith, l .loop .inv .0 .below, l .loop .inv .0 .within),
+    let at-loop = c .before .before in
+    let given = at-loop .before .before .args in (
+      sym (at-loop .loop .inv .2 ∙ up-done (given .t .now) (given .x) (at-loop .loop .left) (at-loop .loop .row) (c .if1 .taken)),
+      omega (arith, at-loop .loop .inv .0 .below, at-loop .loop .inv .0 .within),
     )
 
 begins-requires : tie.Need-begins-requires Inv-loop μ-loop
 begins-requires c κs =
-    let l = c .before .before .before in
-    (line-there (l .before .before .args .t .now) (c .prev-line .result) _ (c .prev-line .ensures) (omega (arith, l .loop .inv .0 .in-row)), l .loop .inv .1)
+    let at-loop = c .before .before .before in (
+      line-there (at-loop .before .before .args .t .now) (c .prev-line .result) _ (c .prev-line .ensures)
+          (omega (arith, at-loop .loop .inv .0 .in-row)),
+      at-loop .loop .inv .1,
+    )
 
 loop-less : tie.Need-loop-less Inv-loop μ-loop
 loop-less c = omega (arith, ap (λ (l : Line). l .row) (c .before .before .prev-line .ensures))
@@ -36,14 +39,15 @@ loop-less c = omega (arith, ap (λ (l : Line). l .row) (c .before .before .prev-
 -- the row above begins with the mark, or it does not
 loop-again : tie.Need-loop-again Inv-loop μ-loop
 loop-again c =
-    let u = c .before .before in
-    let l = u .before .before .before in
-    let a = l .before .before .args in
-    let up = ap (λ (l : Line). l .row) (u .prev-line .ensures) in (
-      line-there (a .t .now) (u .prev-line .result) _ (u .prev-line .ensures) (omega (arith, l .loop .inv .0 .in-row)),
-      l .loop .inv .1,
-      l .loop .inv .2 ∙
-          up-step (a .t .now) (a .x) (l .loop .left) (l .loop .row) _ (omega (arith, u .before .if1 .left)) (u .before .before .loop-test .taken) up ∙
+    let at-prev-line = c .before .before in
+    let at-loop = at-prev-line .before .before .before in
+    let given = at-loop .before .before .args in
+    let up = ap (λ (l : Line). l .row) (at-prev-line .prev-line .ensures) in (
+      line-there (given .t .now) (at-prev-line .prev-line .result) _ (at-prev-line .prev-line .ensures) (omega (arith, at-loop .loop .inv .0 .in-row)),
+      at-loop .loop .inv .1,
+      at-loop .loop .inv .2 ∙
+          up-step (given .t .now) (given .x) (at-loop .loop .left) (at-loop .loop .row) _ (omega (arith, at-prev-line .before .if1 .left))
+          (at-prev-line .before .before .loop-test .taken) up ∙
           rw (sym (c .before .begins .ensures) ∙ c .if2 .taken),
     )
 
@@ -52,23 +56,24 @@ loop-less-2 c = omega (arith, ap (λ (l : Line). l .row) (c .before .before .pre
 
 loop-again-2 : tie.Need-loop-again-2 Inv-loop μ-loop
 loop-again-2 c =
-    let u = c .before .before in
-    let l = u .before .before .before in
-    let a = l .before .before .args in
-    let up = ap (λ (l : Line). l .row) (u .prev-line .ensures) in (
-      line-there (a .t .now) (u .prev-line .result) _ (u .prev-line .ensures) (omega (arith, l .loop .inv .0 .in-row)),
-      l .loop .inv .1,
-      l .loop .inv .2 ∙
-          up-step (a .t .now) (a .x) (l .loop .left) (l .loop .row) _ (omega (arith, u .before .if1 .left)) (u .before .before .loop-test .taken) up ∙
+    let at-prev-line = c .before .before in
+    let at-loop = at-prev-line .before .before .before in
+    let given = at-loop .before .before .args in
+    let up = ap (λ (l : Line). l .row) (at-prev-line .prev-line .ensures) in (
+      line-there (given .t .now) (at-prev-line .prev-line .result) _ (at-prev-line .prev-line .ensures) (omega (arith, at-loop .loop .inv .0 .in-row)),
+      at-loop .loop .inv .1,
+      at-loop .loop .inv .2 ∙
+          up-step (given .t .now) (given .x) (at-loop .loop .left) (at-loop .loop .row) _ (omega (arith, at-prev-line .before .if1 .left))
+          (at-prev-line .before .before .loop-test .taken) up ∙
           rw (sym (c .before .begins .ensures) ∙ c .if2 .left),
     )
 
 returns-2 : tie.Need-returns-2 Inv-loop μ-loop
 returns-2 c =
-    let l = c .before in
-    let a = l .before .before .args in (
-      sym (l .loop .inv .2 ∙ up-none (a .t .now) (a .x) (l .loop .left) (l .loop .row) (c .loop-test .left)),
-      omega (arith, l .loop .inv .0 .below, l .loop .inv .0 .within),
+    let at-loop = c .before in
+    let given = at-loop .before .before .args in (
+      sym (at-loop .loop .inv .2 ∙ up-none (given .t .now) (given .x) (at-loop .loop .left) (at-loop .loop .row) (c .loop-test .left)),
+      omega (arith, at-loop .loop .inv .0 .below, at-loop .loop .inv .0 .within),
     )
 
 pub section-up-spec : {M : Type 1} → statement M

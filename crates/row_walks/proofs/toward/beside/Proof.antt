@@ -6,8 +6,8 @@ use Rattle.row_walks.proofs.toward.beside.Tie as tie
 
 next-line-requires : tie.Need-next-line-requires
 next-line-requires c κs =
-    let s = c .before .before in
-    (s .pre .0, rw (c .if1 .taken) at (s .pre .1))
+    let at-start = c .before .before in
+    (at-start .pre .0, rw (c .if1 .taken) at (at-start .pre .1))
 
 returns : tie.Need-returns
 returns c = rw (c .before .if1 .taken) (c .next-line .ensures)

@@ -22,9 +22,12 @@ loop-holds c = (walk-start _ _ _ _ _, omega arith)
 
 loop-again : tie.Need-loop-again Inv-loop μ-loop
 loop-again c =
-    let l = c .before .before in
-    let i = l .before .loop .inv in
-    (walk-count (i .0) (l .before .loop .n) refl (walk-next (i .0) (l .loop-test .taken) (c .first-segment .ensures .0)), omega arith)
+    let at-loop-test = c .before .before in
+    let invariant = at-loop-test .before .loop .inv in (
+      walk-count (invariant .0) (at-loop-test .before .loop .n) refl
+          (walk-next (invariant .0) (at-loop-test .loop-test .taken) (c .first-segment .ensures .0)),
+      omega arith,
+    )
 
 returns : tie.Need-returns Inv-loop μ-loop
 returns c = (sym (walk-end (c .before .loop .inv .0) (c .loop-test .left)), omega arith)

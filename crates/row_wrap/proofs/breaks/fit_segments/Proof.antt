@@ -10,8 +10,9 @@ returns c = fitted-refused (omega (arith, c .before .count-segments .ensures .0)
 
 returns-2 : tie.Need-returns-2
 returns-2 c =
-    let n = c .before .before .before .before .before .count-segments .ensures in
-    fitted-count (omega (arith, n .0, c .before .before .before .before .if1 .left)) (omega (arith, n .0)) (c .before .before .write-segments .ensures)
+    let count-segments-told = c .before .before .before .before .before .count-segments .ensures in
+    fitted-count (omega (arith, count-segments-told .0, c .before .before .before .before .if1 .left)) (omega (arith, count-segments-told .0))
+    (c .before .before .write-segments .ensures)
 
 pub fit-segments-spec : {M : Type 1} → statement M
 fit-segments-spec =

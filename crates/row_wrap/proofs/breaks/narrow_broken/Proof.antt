@@ -10,7 +10,9 @@ use Rattle.row_wrap.proofs.breaks.narrow_broken.Tie as tie
 
 fit-segments-requires : tie.Need-fit-segments-requires
 unfolding whites zeroWidths doubleWidths doublesOf
-fit-segments-requires c κs = (record { widths = widths-lent Narrow refl refl; whites-are = refl }, c .before .before .before .before .before .before .pre)
+fit-segments-requires c κs =
+    let at-start = c .before .before .before .before .before .before in
+    (record { widths = widths-lent Narrow refl refl; whites-are = refl }, at-start .pre)
 
 returns : tie.Need-returns
 unfolding zeroWidths doubleWidths doublesOf

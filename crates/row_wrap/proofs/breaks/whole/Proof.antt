@@ -10,9 +10,9 @@ returns c = fitted-refused (c .if1 .taken)
 
 returns-2 : tie.Need-returns-2
 returns-2 c =
-    let h = c .before .before .before .before .if1 .left in
+    let left = c .before .before .before .before .if1 .left in
     let room = c .before .before .before .before .before .before .before .args .out .now in
-    fitted-count h refl (c .before .before .put-segment .ensures ∙ filled-pair _ _ room h)
+    fitted-count left refl (c .before .before .put-segment .ensures ∙ filled-pair _ _ room left)
 
 pub whole-spec : {M : Type 1} → statement M
 whole-spec = tie.close (tie.spec returns (λ c κs. search needs) (λ c. search needs) returns-2)

@@ -11,7 +11,9 @@ use Rattle.row_wrap.proofs.breaks.wide_broken.Tie as tie
 
 fit-segments-requires : tie.Need-fit-segments-requires
 unfolding whites zeroWidths wideDoubles doublesOf
-fit-segments-requires c κs = (record { widths = widths-lent Wide refl refl; whites-are = refl }, c .before .before .before .before .before .before .pre)
+fit-segments-requires c κs =
+    let at-start = c .before .before .before .before .before .before in
+    (record { widths = widths-lent Wide refl refl; whites-are = refl }, at-start .pre)
 
 returns : tie.Need-returns
 unfolding zeroWidths wideDoubles doublesOf

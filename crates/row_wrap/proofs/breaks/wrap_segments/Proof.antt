@@ -18,21 +18,22 @@ whole-requires c κs = accepted-brief _ (sym (c .before .before .before .before 
 
 returns-2 : tie.Need-returns-2
 returns-2 c =
-    let s = c .before .before .before .before in
-    let a = s .before .before .before .before .before .before .args in
-    let whole = segments-whole (widthAs (a .ambiguous)) isWhite _ _ _ (sym (s .before .is-whole .ensures) ∙ s .if2 .taken) in
-    wrapped-is _ _ _ _ (s .before .before .before .row-refusal .ensures) (s .before .before .if1 .left) whole (c .before .before .whole .ensures)
+    let at-if2 = c .before .before .before .before in
+    let given = at-if2 .before .before .before .before .before .before .args in
+    let whole = segments-whole (widthAs (given .ambiguous)) isWhite _ _ _ (sym (at-if2 .before .is-whole .ensures) ∙ at-if2 .if2 .taken) in
+    wrapped-is _ _ _ _ (at-if2 .before .before .before .row-refusal .ensures) (at-if2 .before .before .if1 .left) whole (c .before .before .whole .ensures)
 
 broken-requires : tie.Need-broken-requires
 broken-requires c κs = accepted-brief _ (sym (c .before .before .before .before .before .row-refusal .ensures) ∙ c .before .before .before .before .if1 .left)
 
 returns-3 : tie.Need-returns-3
 returns-3 c =
-    let s = c .before .before .before .before .before in
-    let a = s .before .before .before .before .before .before .args in
-    let parts = segments-broken (widthAs (a .ambiguous)) isWhite _ _ _ (sym (s .before .is-whole .ensures) ∙ s .if2 .left) in
-    let word = ap (λ (b : Bool). rowSegments (widthAs (a .ambiguous)) b (a .width) (a .row .now)) (sym (c .before .before .before .before .is-word .ensures)) in
-    wrapped-is _ _ _ _ (s .before .before .before .row-refusal .ensures) (s .before .before .if1 .left)
+    let at-if2 = c .before .before .before .before .before in
+    let given = at-if2 .before .before .before .before .before .before .args in
+    let parts = segments-broken (widthAs (given .ambiguous)) isWhite _ _ _ (sym (at-if2 .before .is-whole .ensures) ∙ at-if2 .if2 .left) in
+    let word = ap (λ (b : Bool). rowSegments (widthAs (given .ambiguous)) b (given .width) (given .row .now))
+    (sym (c .before .before .before .before .is-word .ensures)) in
+    wrapped-is _ _ _ _ (at-if2 .before .before .before .row-refusal .ensures) (at-if2 .before .before .if1 .left)
     (parts ∙ word) (c .before .before .broken .ensures)
 
 pub wrap-segments-spec : {M : Type 1} → statement M

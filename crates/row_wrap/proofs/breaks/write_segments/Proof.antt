@@ -24,18 +24,20 @@ loop-holds c = (walk-start _ _ _ _ _, filled-start _ _)
 
 put-segment-requires : tie.Need-put-segment-requires Inv-loop μ-loop
 put-segment-requires c κs =
-    let l = c .before .before .before in
-    let i = l .before .loop .inv in
-    let n = walk-next (i .0) (l .loop-test .taken) (c .before .first-segment .ensures .0) in
-    (omega (arith, n .there, i .1 .size), (omega arith, omega (arith, n .onward .inside)))
+    let at-loop-test = c .before .before .before in
+    let invariant = at-loop-test .before .loop .inv in
+    let by-walk-next = walk-next (invariant .0) (at-loop-test .loop-test .taken) (c .before .first-segment .ensures .0) in
+    (omega (arith, by-walk-next .there, invariant .1 .size), (omega arith, omega (arith, by-walk-next .onward .inside)))
 
 loop-again : tie.Need-loop-again Inv-loop μ-loop
 loop-again c =
-    let l = c .before .before .before .before .before .before in
-    let i = l .before .loop .inv in
-    let n = walk-next (i .0) (l .loop-test .taken) (c .before .before .before .before .first-segment .ensures .0) in
-    let fit = l .before .before .before .before .before .before .before .pre .1 in
-    (n .onward, rw (c .before .before .put-segment .ensures) (filled-two (i .1) (n .there) fit (n .first) (n .second)))
+    let at-loop-test = c .before .before .before .before .before .before in
+    let invariant = at-loop-test .before .loop .inv in
+    let by-walk-next = walk-next (invariant .0) (at-loop-test .loop-test .taken) (c .before .before .before .before .first-segment .ensures .0) in
+    let fit = at-loop-test .before .before .before .before .before .before .before .pre .1 in (
+      by-walk-next .onward,
+      rw (c .before .before .put-segment .ensures) (filled-two (invariant .1) (by-walk-next .there) fit (by-walk-next .first) (by-walk-next .second)),
+    )
 
 returns : tie.Need-returns Inv-loop μ-loop
 returns c = filled-end (c .before .loop .inv .1) (walk-end (c .before .loop .inv .0) (c .loop-test .left))

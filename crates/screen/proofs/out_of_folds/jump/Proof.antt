@@ -10,43 +10,46 @@ use Rattle.screen.proofs.out_of_folds.jump.Tie as tie
 
 closed-fold-at-requires : tie.Need-closed-fold-at-requires
 closed-fold-at-requires c κs =
-    let s = c .before .before in
-    (s .pre .1, omega (arith, s .pre .2 .in-row, s .pre .0), omega (arith, s .pre .4, content-near (s .args .t .now)))
+    let at-start = c .before .before in
+    (at-start .pre .1, omega (arith, at-start .pre .2 .in-row, at-start .pre .0), omega (arith, at-start .pre .4, content-near (at-start .args .t .now)))
 
 jump-to-requires : tie.Need-jump-to-requires
 jump-to-requires c κs =
-    let f = c .before .before .before .before in
-    let s = f .before .before .before in
-    let a = s .args in
-    let near = content-near (a .t .now) in
-    let w = end-within (a .folds .now) (a .rows) (a .content) (omega (arith, s .pre .4)) (omega (arith, s .pre .4, s .pre .0))
-    (a .down) (a .l .row) _ _ (omega (arith, s .pre .2 .in-row, s .pre .0)) (sym (f .closed-fold-at .ensures) ∙ c .before .before .first .given .1) in
-    (s .pre .2, omega (arith, w, c .pick .ensures, s .pre .0), s .pre .3)
+    let at-closed-fold-at = c .before .before .before .before in
+    let at-start = at-closed-fold-at .before .before .before in
+    let given = at-start .args in
+    let near = content-near (given .t .now) in
+    let by-end-within = end-within (given .folds .now) (given .rows) (given .content) (omega (arith, at-start .pre .4))
+    (omega (arith, at-start .pre .4, at-start .pre .0))
+    (given .down) (given .l .row) _ _ (omega (arith, at-start .pre .2 .in-row, at-start .pre .0))
+    (sym (at-closed-fold-at .closed-fold-at .ensures) ∙ c .before .before .first .given .1) in
+    (at-start .pre .2, omega (arith, by-end-within, c .pick .ensures, at-start .pre .0), at-start .pre .3)
 
 returns : tie.Need-returns
 returns c =
-    let k = c .before in
-    let f = k .before .before .before .before in
-    let s = f .before .before .before in
-    let a = s .args in
-    let j = c .jump-to .ensures in (
-      j .0 ∙
-          ap (jumpedTo (a .t .now) (record { row = a .l .row; col = a .col })) (k .pick .ensures) ∙
-          sym (jumped-out (a .t .now) (a .folds .now) (a .down) (record { row = a .l .row; col = a .col }) (s .pre .0) (s .pre .4)
-          (f .closed-fold-at .ensures) _ _ (k .before .before .first .given .1)),
-      j .1,
-      j .2,
+    let at-pick = c .before in
+    let at-closed-fold-at = at-pick .before .before .before .before in
+    let at-start = at-closed-fold-at .before .before .before in
+    let given = at-start .args in
+    let jump-to-told = c .jump-to .ensures in (
+      jump-to-told .0 ∙
+          ap (jumpedTo (given .t .now) (record { row = given .l .row; col = given .col })) (at-pick .pick .ensures) ∙
+          sym (jumped-out (given .t .now) (given .folds .now) (given .down) (record { row = given .l .row; col = given .col }) (at-start .pre .0)
+          (at-start .pre .4)
+          (at-closed-fold-at .closed-fold-at .ensures) _ _ (at-pick .before .before .first .given .1)),
+      jump-to-told .1,
+      jump-to-told .2,
     )
 
 returns-2 : tie.Need-returns-2
 returns-2 c =
-    let f = c .before .before in
-    let s = f .before .before .before in
-    let a = s .args in (
-      sym (jumped-not (a .t .now) (a .folds .now) (a .down) (record { row = a .l .row; col = a .col }) (s .pre .0) (s .pre .4)
-          (f .closed-fold-at .ensures) (c .enum-told .given .1)),
-      s .pre .2,
-      s .pre .3,
+    let at-closed-fold-at = c .before .before in
+    let at-start = at-closed-fold-at .before .before .before in
+    let given = at-start .args in (
+      sym (jumped-not (given .t .now) (given .folds .now) (given .down) (record { row = given .l .row; col = given .col }) (at-start .pre .0) (at-start .pre .4)
+          (at-closed-fold-at .closed-fold-at .ensures) (c .enum-told .given .1)),
+      at-start .pre .2,
+      at-start .pre .3,
     )
 
 pub jump-spec : {M : Type 1} → statement M

@@ -9,26 +9,27 @@ use Rattle.screen.proofs.out_of_folds.jump_to.Tie as tie
 
 returns : tie.Need-returns
 returns c =
-    let s = c .before .before in
-    jump-own (s .args .t .now) (s .args .l) (s .args .col) (s .args .row) (s .pre .0) (s .pre .2) (c .if1 .taken)
+    let at-start = c .before .before in
+    jump-own (at-start .args .t .now) (at-start .args .l) (at-start .args .col) (at-start .args .row) (at-start .pre .0) (at-start .pre .2) (c .if1 .taken)
 
 line-to-requires : tie.Need-line-to-requires
 line-to-requires c κs = (stands-own (c .before .before .pre .0), c .before .before .pre .1)
 
 row-len-requires : tie.Need-row-len-requires
 row-len-requires c κs =
-    let s = c .before .before .before in
-    line-there (s .args .t .now) (c .line-to .result) (s .args .row) (c .line-to .ensures) (s .pre .1)
+    let at-start = c .before .before .before in
+    line-there (at-start .args .t .now) (c .line-to .result) (at-start .args .row) (c .line-to .ensures) (at-start .pre .1)
 
 returns-2 : tie.Need-returns-2
 returns-2 c =
-    let m = c .before in
-    let n = m .before in
-    let k = n .before in
-    let s = k .before .before .before in
-    let a = s .args in
-    jump-other (a .t .now) (a .l) (a .col) (a .row) (k .line-to .result) (n .row-len .result) _ (s .pre .1) (s .pre .2) (k .before .if1 .left)
-    (k .line-to .ensures) (n .row-len .ensures) (c .least .ensures ∙ ap (min (a .col)) (m .minus .ensures))
+    let at-minus = c .before in
+    let at-row-len = at-minus .before in
+    let at-line-to = at-row-len .before in
+    let at-start = at-line-to .before .before .before in
+    let given = at-start .args in
+    jump-other (given .t .now) (given .l) (given .col) (given .row) (at-line-to .line-to .result) (at-row-len .row-len .result) _ (at-start .pre .1)
+    (at-start .pre .2) (at-line-to .before .if1 .left)
+    (at-line-to .line-to .ensures) (at-row-len .row-len .ensures) (c .least .ensures ∙ ap (min (given .col)) (at-minus .minus .ensures))
 
 pub jump-to-spec : {M : Type 1} → statement M
 jump-to-spec =

@@ -9,8 +9,8 @@ returns c = rw (c .before .enum-told .given .1) (c .jump .ensures)
 
 returns-2 : tie.Need-returns-2
 returns-2 c =
-    let s = c .before .before .before .before in
-    rw (c .enum-told2 .given .1) (refl, s .pre .2, s .pre .3)
+    let at-start = c .before .before .before .before in
+    rw (c .enum-told2 .given .1) (refl, at-start .pre .2, at-start .pre .3)
 
 pub start-spec : {M : Type 1} → statement M
 start-spec = tie.close (tie.spec (λ c. search needs) (λ c κs. search needs) (λ c. search needs) returns returns-2)

@@ -8,10 +8,11 @@ use Rattle.screen.proofs.walks.glide.Tie as tie
 
 returns : tie.Need-returns
 returns c =
-    let k = c .before in
-    let a = k .before .before .before .before .before .before .args in
-    let lay = layOf (widthBy (a .zeros .now) (a .doubles .now)) (a .word) (a .width) in
-    leads-place (a .t .now) (a .folds .now) lay (a .down) (a .offset) (a .n) (a .from) (k .walk .result) (c .land .ensures) (k .walk .ensures .0)
+    let at-walk = c .before in
+    let given = at-walk .before .before .before .before .before .before .args in
+    let lay = layOf (widthBy (given .zeros .now) (given .doubles .now)) (given .word) (given .width) in
+    leads-place (given .t .now) (given .folds .now) lay (given .down) (given .offset) (given .n) (given .from) (at-walk .walk .result)
+    (c .land .ensures) (at-walk .walk .ensures .0)
 
 pub glide-spec : {M : Type 1} → statement M
 glide-spec = tie.close (tie.spec (λ c κs. search needs) (λ c κs. search needs) returns)

@@ -13,35 +13,42 @@ use Rattle.screen.proofs.walks.land.Tie as tie
 
 ahead-of-requires : tie.Need-ahead-of-requires
 ahead-of-requires c κs =
-    let s = c .before .before .before .before .before .before in
-    let a = s .args in
-    let w = widthBy (a .zeros .now) (a .doubles .now) in
-    omega (arith, c .segment-count .ensures .0, ap (λ (x : List ℕ). segmentCount (layOf w (a .word) (a .width) x)) (c .before .row .ensures), s .pre .1 .inside)
+    let at-start = c .before .before .before .before .before .before in
+    let given = at-start .args in
+    let width = widthBy (given .zeros .now) (given .doubles .now) in
+    omega (
+      arith,
+      c .segment-count .ensures .0,
+      ap (λ (x : List ℕ). segmentCount (layOf width (given .word) (given .width) x)) (c .before .row .ensures),
+      at-start .pre .1 .inside,
+    )
 
 clamp-to-segment-requires : tie.Need-clamp-to-segment-requires
 clamp-to-segment-requires c κs =
-    let i = c .before in
-    let n = i .before in
-    let o = n .before in
-    let s = o .before .before .before .before .before in
-    let a = s .args in
-    let w = widthBy (a .zeros .now) (a .doubles .now) in
-    let b = part-starts w (a .t .now) (a .word) (a .width) (a .down) (a .s .row) (o .row .ensures) (a .s .ahead) (n .segment-count .ensures .0)
-    (i .ahead-of .ensures) (c .find-segment .ensures .0) (s .pre .1 .inside) in
-    omega (arith, b, row-fits (a .t .now) (a .s .row) (s .pre .1 .line .in-row), s .pre .0 .2, s .pre .0 .3)
+    let at-ahead-of = c .before in
+    let at-segment-count = at-ahead-of .before in
+    let at-row = at-segment-count .before in
+    let at-start = at-row .before .before .before .before .before in
+    let given = at-start .args in
+    let width = widthBy (given .zeros .now) (given .doubles .now) in
+    let by-part-starts = part-starts width (given .t .now) (given .word) (given .width) (given .down) (given .s .row) (at-row .row .ensures)
+    (given .s .ahead) (at-segment-count .segment-count .ensures .0)
+    (at-ahead-of .ahead-of .ensures) (c .find-segment .ensures .0) (at-start .pre .1 .inside) in
+    omega (arith, by-part-starts, row-fits (given .t .now) (given .s .row) (at-start .pre .1 .line .in-row), at-start .pre .0 .2, at-start .pre .0 .3)
 
 returns : tie.Need-returns
 returns c =
-    let f = c .before in
-    let i = f .before in
-    let n = i .before in
-    let o = n .before in
-    let s = o .before .before .before .before .before in
-    let a = s .args in
-    let w = widthBy (a .zeros .now) (a .doubles .now) in
-    place-is w (a .t .now) (a .word) (a .width) (a .down) (a .s .row) (o .row .ensures) (a .s .ahead) (n .segment-count .ensures .0) (i .ahead-of .ensures)
-    (f .find-segment .ensures .0) (s .pre .1 .inside)
-    (a .offset) _ (c .clamp-to-segment .ensures)
+    let at-find-segment = c .before in
+    let at-ahead-of = at-find-segment .before in
+    let at-segment-count = at-ahead-of .before in
+    let at-row = at-segment-count .before in
+    let at-start = at-row .before .before .before .before .before in
+    let given = at-start .args in
+    let width = widthBy (given .zeros .now) (given .doubles .now) in
+    place-is width (given .t .now) (given .word) (given .width) (given .down) (given .s .row) (at-row .row .ensures) (given .s .ahead)
+    (at-segment-count .segment-count .ensures .0) (at-ahead-of .ahead-of .ensures)
+    (at-find-segment .find-segment .ensures .0) (at-start .pre .1 .inside)
+    (given .offset) _ (c .clamp-to-segment .ensures)
 
 pub land-spec : {M : Type 1} → statement M
 land-spec =

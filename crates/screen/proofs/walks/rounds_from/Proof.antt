@@ -11,59 +11,66 @@ use Rattle.screen.proofs.walks.rounds_from.Tie as tie
 
 glide-requires : tie.Need-glide-requires
 glide-requires c κs =
-    let z = c .before .before .before .before .before .before in
-    let a = z .args in
-    let w = widthBy (a .zeros .now) (a .doubles .now) in
-    let inside = from-inside w (a .t .now) (a .folds .now) (a .word) (a .width) (a .down) (a .n) (z .pre .0 .1) (record { row = a .l .row; col = a .col })
-    (a .offset) (z .pre .1 .2) in
-    ((z .pre .0 .0, z .pre .1 .1), record { line = z .pre .1 .0; inside = inside })
+    let at-start = c .before .before .before .before .before .before in
+    let given = at-start .args in
+    let width = widthBy (given .zeros .now) (given .doubles .now) in
+    let inside = from-inside width (given .t .now) (given .folds .now) (given .word) (given .width) (given .down) (given .n) (at-start .pre .0 .1)
+    (record { row = given .l .row; col = given .col })
+    (given .offset) (at-start .pre .1 .2) in
+    ((at-start .pre .0 .0, at-start .pre .1 .1), record { line = at-start .pre .1 .0; inside = inside })
 
 returns : tie.Need-returns
 returns c =
-    let i = c .before in
-    let z = i .before .before .before .before .before .before in
-    let a = z .args in
-    let w = widthBy (a .zeros .now) (a .doubles .now) in
-    from-on w (a .t .now) (a .folds .now) (a .word) (a .width) (a .down) (a .n) (z .pre .0 .1) (record { row = a .l .row; col = a .col }) (a .offset)
-    (z .pre .1 .2) (c .glide .ensures) (i .if1 .taken)
+    let at-if1 = c .before in
+    let at-start = at-if1 .before .before .before .before .before .before in
+    let given = at-start .args in
+    let width = widthBy (given .zeros .now) (given .doubles .now) in
+    from-on width (given .t .now) (given .folds .now) (given .word) (given .width) (given .down) (given .n) (at-start .pre .0 .1)
+    (record { row = given .l .row; col = given .col }) (given .offset)
+    (at-start .pre .1 .2) (c .glide .ensures) (at-if1 .if1 .taken)
 
 visible-row-requires : tie.Need-visible-row-requires
 visible-row-requires c κs =
-    let z = c .before .before .before .before .before .before in
-    (z .pre .0 .0 .folds-good, omega (arith, z .pre .1 .0 .in-row, z .pre .0 .0 .all-rows))
+    let at-start = c .before .before .before .before .before .before in
+    (at-start .pre .0 .0 .folds-good, omega (arith, at-start .pre .1 .0 .in-row, at-start .pre .0 .0 .all-rows))
 
 glide-requires-2 : tie.Need-glide-requires-2
 glide-requires-2 c κs =
-    let z = c .before .before .before .before .before .before .before .before .before .before in
-    let a = z .args in
-    let w = widthBy (a .zeros .now) (a .doubles .now) in
-    let inside = from-inside w (a .t .now) (a .folds .now) (a .word) (a .width) (a .down) (a .n) (z .pre .0 .1) (record { row = a .l .row; col = a .col })
-    (a .offset) (z .pre .1 .2) in
-    ((z .pre .0 .0, z .pre .1 .1), record { line = z .pre .1 .0; inside = inside })
+    let at-start = c .before .before .before .before .before .before .before .before .before .before in
+    let given = at-start .args in
+    let width = widthBy (given .zeros .now) (given .doubles .now) in
+    let inside = from-inside width (given .t .now) (given .folds .now) (given .word) (given .width) (given .down) (given .n) (at-start .pre .0 .1)
+    (record { row = given .l .row; col = given .col })
+    (given .offset) (at-start .pre .1 .2) in
+    ((at-start .pre .0 .0, at-start .pre .1 .1), record { line = at-start .pre .1 .0; inside = inside })
 
 returns-2 : tie.Need-returns-2
 returns-2 c =
-    let v = c .before .before .before .before in
-    let i = v .before in
-    let z = i .before .before .before .before .before .before in
-    let a = z .args in
-    let w = widthBy (a .zeros .now) (a .doubles .now) in
-    let found = ap (λ (k : ℕ). toward (a .folds .now) k (a .down) (a .l .row)) (sym (z .pre .0 .0 .all-rows)) ∙ sym (v .visible-row .ensures) ∙
+    let at-visible-row = c .before .before .before .before in
+    let at-if1 = at-visible-row .before in
+    let at-start = at-if1 .before .before .before .before .before .before in
+    let given = at-start .args in
+    let width = widthBy (given .zeros .now) (given .doubles .now) in
+    let found = ap (λ (k : ℕ). toward (given .folds .now) k (given .down) (given .l .row)) (sym (at-start .pre .0 .0 .all-rows))
+    ∙ sym (at-visible-row .visible-row .ensures) ∙
     c .before .before .x .given .1 in
-    from-off w (a .t .now) (a .folds .now) (a .word) (a .width) (a .down) (a .n) (z .pre .0 .1) (record { row = a .l .row; col = a .col }) (a .offset)
-    (z .pre .1 .2) (c .glide2 .ensures) _ (omega (arith, i .if1 .left)) found
+    from-off width (given .t .now) (given .folds .now) (given .word) (given .width) (given .down) (given .n) (at-start .pre .0 .1)
+    (record { row = given .l .row; col = given .col }) (given .offset)
+    (at-start .pre .1 .2) (c .glide2 .ensures) _ (omega (arith, at-if1 .if1 .left)) found
 
 returns-3 : tie.Need-returns-3
 returns-3 c =
-    let v = c .before .before in
-    let i = v .before in
-    let z = i .before .before .before .before .before .before in
-    let a = z .args in
-    let w = widthBy (a .zeros .now) (a .doubles .now) in
-    let none = ap (λ (k : ℕ). toward (a .folds .now) k (a .down) (a .l .row)) (sym (z .pre .0 .0 .all-rows)) ∙ sym (v .visible-row .ensures) ∙
+    let at-visible-row = c .before .before in
+    let at-if1 = at-visible-row .before in
+    let at-start = at-if1 .before .before .before .before .before .before in
+    let given = at-start .args in
+    let width = widthBy (given .zeros .now) (given .doubles .now) in
+    let none = ap (λ (k : ℕ). toward (given .folds .now) k (given .down) (given .l .row)) (sym (at-start .pre .0 .0 .all-rows))
+    ∙ sym (at-visible-row .visible-row .ensures) ∙
     c .enum-told .given .1 in
-    from-stuck w (a .t .now) (a .folds .now) (a .word) (a .width) (a .down) (a .n) (z .pre .0 .1) (record { row = a .l .row; col = a .col }) (a .offset)
-    (z .pre .1 .2) (omega (arith, i .if1 .left)) none
+    from-stuck width (given .t .now) (given .folds .now) (given .word) (given .width) (given .down) (given .n) (at-start .pre .0 .1)
+    (record { row = given .l .row; col = given .col }) (given .offset)
+    (at-start .pre .1 .2) (omega (arith, at-if1 .if1 .left)) none
 
 pub rounds-from-spec : {M : Type 1} → statement M
 rounds-from-spec =

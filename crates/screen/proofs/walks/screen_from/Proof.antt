@@ -9,34 +9,39 @@ use Rattle.screen.proofs.walks.screen_from.Tie as tie
 
 or-own-requires : tie.Need-or-own-requires
 or-own-requires c κs =
-    let z = c .before .before .before .before .before .before in
-    let a = z .args in
-    let lay = layOf (widthBy (a .zeros .now) (a .doubles .now)) (a .word) (a .width) in
-    omega (arith, seat-near (a .t .now) (a .folds .now) lay (a .down) (record { row = a .l .row; col = a .col }) (c .seat .ensures), z .pre .1 .0)
+    let at-start = c .before .before .before .before .before .before in
+    let given = at-start .args in
+    let lay = layOf (widthBy (given .zeros .now) (given .doubles .now)) (given .word) (given .width) in
+    omega (
+      arith,
+      seat-near (given .t .now) (given .folds .now) lay (given .down) (record { row = given .l .row; col = given .col }) (c .seat .ensures),
+      at-start .pre .1 .0,
+    )
 
 rounds-from-requires : tie.Need-rounds-from-requires
 rounds-from-requires c κs =
-    let s = c .before in
-    let z = s .before .before .before .before .before .before in
-    let a = z .args in
-    let lay = layOf (widthBy (a .zeros .now) (a .doubles .now)) (a .word) (a .width) in (
-      z .pre .0,
+    let at-seat = c .before in
+    let at-start = at-seat .before .before .before .before .before .before in
+    let given = at-start .args in
+    let lay = layOf (widthBy (given .zeros .now) (given .doubles .now)) (given .word) (given .width) in (
+      at-start .pre .0,
       (
-        z .pre .1 .1,
+        at-start .pre .1 .1,
         c .or-own .ensures .1,
-        seat-ahead (a .t .now) (a .folds .now) lay (a .down) (record { row = a .l .row; col = a .col }) (s .seat .ensures),
+        seat-ahead (given .t .now) (given .folds .now) lay (given .down) (record { row = given .l .row; col = given .col }) (at-seat .seat .ensures),
       ),
     )
 
 returns : tie.Need-returns
 returns c =
-    let o = c .before in
-    let s = o .before in
-    let a = s .before .before .before .before .before .before .args in
-    let lay = layOf (widthBy (a .zeros .now) (a .doubles .now)) (a .word) (a .width) in (
-      glided-made (a .t .now) (a .folds .now) lay (a .down) (record { row = a .l .row; col = a .col }) (s .seat .ensures) (a .n) (a .offset)
-          (o .or-own .ensures .0) (c .rounds-from .ensures),
-      o .or-own .ensures .1,
+    let at-or-own = c .before in
+    let at-seat = at-or-own .before in
+    let given = at-seat .before .before .before .before .before .before .args in
+    let lay = layOf (widthBy (given .zeros .now) (given .doubles .now)) (given .word) (given .width) in (
+      glided-made (given .t .now) (given .folds .now) lay (given .down) (record { row = given .l .row; col = given .col }) (at-seat .seat .ensures)
+          (given .n) (given .offset)
+          (at-or-own .or-own .ensures .0) (c .rounds-from .ensures),
+      at-or-own .or-own .ensures .1,
     )
 
 pub screen-from-spec : {M : Type 1} → statement M

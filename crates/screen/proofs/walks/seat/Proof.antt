@@ -7,22 +7,24 @@ use Rattle.screen.proofs.walks.seat.Tie as tie
 
 ahead-of-requires : tie.Need-ahead-of-requires
 ahead-of-requires c κs =
-    let f = c .before in
-    let o = f .before in
-    let a = o .before .before .before .before .before .args in
-    let w = widthBy (a .zeros .now) (a .doubles .now) in
-    seat-inside w (a .t .now) (a .word) (a .width) (a .down) (a .l .row) (o .row .ensures) (a .col) (c .segment-count .ensures .0) (f .find-segment .ensures .0)
+    let at-find-segment = c .before in
+    let at-row = at-find-segment .before in
+    let given = at-row .before .before .before .before .before .args in
+    let width = widthBy (given .zeros .now) (given .doubles .now) in
+    seat-inside width (given .t .now) (given .word) (given .width) (given .down) (given .l .row) (at-row .row .ensures) (given .col)
+    (c .segment-count .ensures .0) (at-find-segment .find-segment .ensures .0)
 
 returns : tie.Need-returns
 returns c =
-    let h = c .before in
-    let n = h .before in
-    let f = n .before in
-    let o = f .before in
-    let a = o .before .before .before .before .before .args in
-    let w = widthBy (a .zeros .now) (a .doubles .now) in
-    seat-made w (a .t .now) (a .word) (a .width) (a .down) (a .l .row) (o .row .ensures) (a .col) (n .segment-count .ensures .0)
-    (f .find-segment .ensures .0) _ _ (h .ahead-of .ensures) (c .minus .ensures)
+    let at-ahead-of = c .before in
+    let at-segment-count = at-ahead-of .before in
+    let at-find-segment = at-segment-count .before in
+    let at-row = at-find-segment .before in
+    let given = at-row .before .before .before .before .before .args in
+    let width = widthBy (given .zeros .now) (given .doubles .now) in
+    seat-made width (given .t .now) (given .word) (given .width) (given .down) (given .l .row) (at-row .row .ensures) (given .col)
+    (at-segment-count .segment-count .ensures .0)
+    (at-find-segment .find-segment .ensures .0) _ _ (at-ahead-of .ahead-of .ensures) (c .minus .ensures)
 
 pub seat-spec : {M : Type 1} → statement M
 seat-spec =

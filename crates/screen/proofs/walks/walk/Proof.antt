@@ -25,98 +25,109 @@ abbrev μ-loop : tie.MeasureT-loop
 
 free-rows-requires : tie.Need-free-rows-requires Inv-loop μ-loop
 free-rows-requires c κs =
-    let s = c .before .before .before .before .before in
-    omega (arith, s .pre .1 .line .in-row, s .pre .0 .all-rows)
+    let at-start = c .before .before .before .before .before in
+    omega (arith, at-start .pre .1 .line .in-row, at-start .pre .0 .all-rows)
 
 loop-holds : tie.Need-loop-holds Inv-loop μ-loop
 loop-holds c =
-    let s = c .before .before .before .before .before .before in
-    (walking-start (s .args .from) (s .pre .1), c .free-rows .ensures)
+    let at-start = c .before .before .before .before .before .before in
+    (walking-start (at-start .args .from) (at-start .pre .1), c .free-rows .ensures)
 
 hop-requires : tie.Need-hop-requires Inv-loop μ-loop
 hop-requires c κs =
-    let l = c .before in
-    let s = l .before .before .before .before .before .before .before in
-    let all = s .pre .0 .all-rows in (
-      s .pre .0 .folds-good,
-      omega (arith, l .loop .inv .0 .line .in-row, all),
-      omega (arith, all, count-le (s .args .t .now), s .pre .0 .brief),
-      l .loop .inv .1,
+    let at-loop = c .before in
+    let at-start = at-loop .before .before .before .before .before .before .before in
+    let all = at-start .pre .0 .all-rows in (
+      at-start .pre .0 .folds-good,
+      omega (arith, at-loop .loop .inv .0 .line .in-row, all),
+      omega (arith, all, count-le (at-start .args .t .now), at-start .pre .0 .brief),
+      at-loop .loop .inv .1,
     )
 
 line-to-requires : tie.Need-line-to-requires Inv-loop μ-loop
 line-to-requires c κs =
-    let v = c .before .before .before in
-    let l = v .before .before in
-    let s = l .before .before .before .before .before .before .before in
-    let a = s .args in
-    let all = s .pre .0 .all-rows in (
-      stands-own (l .loop .inv .0 .line),
+    let at-hop = c .before .before .before in
+    let at-loop = at-hop .before .before in
+    let at-start = at-loop .before .before .before .before .before .before .before in
+    let given = at-start .args in
+    let all = at-start .pre .0 .all-rows in (
+      stands-own (at-loop .loop .inv .0 .line),
       omega (
         arith,
         all,
-        toward-within (a .folds .now) (a .rows) (a .down) (l .loop .row) _ (omega (arith, all, l .loop .inv .0 .line .in-row))
-            (sym (v .hop .ensures .found) ∙ c .before .seen .given .1),
+        toward-within (given .folds .now) (given .rows) (given .down) (at-loop .loop .row) _ (omega (arith, all, at-loop .loop .inv .0 .line .in-row))
+            (sym (at-hop .hop .ensures .found) ∙ c .before .seen .given .1),
       ),
     )
 
 row-requires : tie.Need-row-requires Inv-loop μ-loop
 row-requires c κs =
-    let v = c .before .before .before .before in
-    let l = v .before .before in
-    let s = l .before .before .before .before .before .before .before in
-    let a = s .args in
-    let all = s .pre .0 .all-rows in
-    line-there (a .t .now) (c .line-to .result) _ (c .line-to .ensures)
+    let at-hop = c .before .before .before .before in
+    let at-loop = at-hop .before .before in
+    let at-start = at-loop .before .before .before .before .before .before .before in
+    let given = at-start .args in
+    let all = at-start .pre .0 .all-rows in
+    line-there (given .t .now) (c .line-to .result) _ (c .line-to .ensures)
     (omega (
       arith,
       all,
-      toward-within (a .folds .now) (a .rows) (a .down) (l .loop .row) _ (omega (arith, all, l .loop .inv .0 .line .in-row))
-          (sym (v .hop .ensures .found) ∙ c .before .before .seen .given .1),
+      toward-within (given .folds .now) (given .rows) (given .down) (at-loop .loop .row) _ (omega (arith, all, at-loop .loop .inv .0 .line .in-row))
+          (sym (at-hop .hop .ensures .found) ∙ c .before .before .seen .given .1),
     ))
 
 segment-count-requires : tie.Need-segment-count-requires Inv-loop μ-loop
 segment-count-requires c κs =
-    let p = c .before .before .before .before .before .before .before .before .before .before .before .before .before .before .pre .0 in
-    (p .tables, p .wide)
+    let required = c .before .before .before .before .before .before .before .before .before .before .before .before .before .before .pre .0 in
+    (required .tables, required .wide)
 
 -- the next visible row comes, with the rows behind it that no fold hides
 loop-again : tie.Need-loop-again Inv-loop μ-loop
 loop-again c =
-    let r = c .before in
-    let k = r .before in
-    let v = k .before .before .before .before in
-    let l = v .before .before in
-    let s = l .before .before .before .before .before .before .before in
-    let a = s .args in
-    let all = s .pre .0 .all-rows in
-    let w = widthBy (a .zeros .now) (a .doubles .now) in
-    let is = k .before .before .seen .given .1 in
-    let seen = sym (v .hop .ensures .found) ∙ is in
-    let found = ap (λ (n : ℕ). toward (a .folds .now) n (a .down) (l .loop .row)) (sym all) ∙ seen in
-    let there : k .line-to .result .row ≡ k .before .before .seen .given .0 .0 = ap (λ (x : Line). x .row) (k .line-to .ensures) in (
-      walking-cross (l .loop .inv .0) _ (c .segment-count .result) (k .line-to .result) (v .before .loop-test .taken) found
-          (omega (arith, all, toward-within (a .folds .now) (a .rows) (a .down) (l .loop .row) _ (omega (arith, all, l .loop .inv .0 .line .in-row)) seen))
-          (k .line-to .ensures) (c .segment-count .ensures .0 ∙ ap (λ (x : List ℕ). segmentCount (layOf w (a .word) (a .width) x)) (r .row .ensures))
+    let at-row = c .before in
+    let at-line-to = at-row .before in
+    let at-hop = at-line-to .before .before .before .before in
+    let at-loop = at-hop .before .before in
+    let at-start = at-loop .before .before .before .before .before .before .before in
+    let given = at-start .args in
+    let all = at-start .pre .0 .all-rows in
+    let width = widthBy (given .zeros .now) (given .doubles .now) in
+    let is = at-line-to .before .before .seen .given .1 in
+    let seen = sym (at-hop .hop .ensures .found) ∙ is in
+    let found = ap (λ (n : ℕ). toward (given .folds .now) n (given .down) (at-loop .loop .row)) (sym all) ∙ seen in
+    let there : at-line-to .line-to .result .row ≡ at-line-to .before .before .seen .given .0 .0 = ap (λ (x : Line). x .row) (at-line-to .line-to .ensures) in (
+      walking-cross (at-loop .loop .inv .0) _ (c .segment-count .result) (at-line-to .line-to .result) (at-hop .before .loop-test .taken) found
+          (omega (
+            arith,
+            all,
+            toward-within (given .folds .now) (given .rows) (given .down) (at-loop .loop .row) _
+                (omega (arith, all, at-loop .loop .inv .0 .line .in-row)) seen,
+          ))
+          (at-line-to .line-to .ensures)
+          (c .segment-count .ensures .0 ∙ ap (λ (x : List ℕ). segmentCount (layOf width (given .word) (given .width) x)) (at-row .row .ensures))
           (c .segment-count .ensures .1),
-      rw there (v .hop .ensures .onward _ is),
+      rw there (at-hop .hop .ensures .onward _ is),
     )
 
 returns : tie.Need-returns Inv-loop μ-loop
 returns c =
-    let v = c .before .before in
-    let l = v .before .before in
-    let s = l .before .before .before .before .before .before .before in
-    let a = s .args in
-    let none = ap (λ (k : ℕ). toward (a .folds .now) k (a .down) (l .loop .row)) (sym (s .pre .0 .all-rows)) ∙ sym (v .hop .ensures .found) ∙
-    c .enum-told .given .1 in
-    (walking-edge (l .loop .inv .0) (a .from) refl refl (omega (arith, v .before .loop-test .taken)) none, walking-spot (l .loop .inv .0) 0 (omega arith))
+    let at-hop = c .before .before in
+    let at-loop = at-hop .before .before in
+    let at-start = at-loop .before .before .before .before .before .before .before in
+    let given = at-start .args in
+    let none = ap (λ (k : ℕ). toward (given .folds .now) k (given .down) (at-loop .loop .row)) (sym (at-start .pre .0 .all-rows))
+    ∙ sym (at-hop .hop .ensures .found) ∙
+    c .enum-told .given .1 in (
+      walking-edge (at-loop .loop .inv .0) (given .from) refl refl (omega (arith, at-hop .before .loop-test .taken)) none,
+      walking-spot (at-loop .loop .inv .0) 0 (omega arith),
+    )
 
 returns-2 : tie.Need-returns-2 Inv-loop μ-loop
 returns-2 c =
-    let l = c .before in
-    let s = l .before .before .before .before .before .before .before in
-    (walking-end (l .loop .inv .0) (s .args .from) refl refl (omega (arith, c .loop-test .left)), walking-spot (l .loop .inv .0) _ (omega arith))
+    let at-loop = c .before in
+    let at-start = at-loop .before .before .before .before .before .before .before in (
+      walking-end (at-loop .loop .inv .0) (at-start .args .from) refl refl (omega (arith, c .loop-test .left)),
+      walking-spot (at-loop .loop .inv .0) _ (omega arith),
+    )
 
 pub walk-spec : {M : Type 1} → statement M
 walk-spec =

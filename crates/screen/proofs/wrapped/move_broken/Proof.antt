@@ -12,45 +12,51 @@ use Rattle.screen.proofs.wrapped.move_broken.Tie as tie
 
 start-requires : tie.Need-start-requires
 start-requires c κs =
-    let s = c .before .before .before .before .before in
-    let p = s .pre .1 .0 in (
-      s .pre .1 .1,
-      rw (s .pre .1 .1) (p .folds-good),
-      p .line,
-      omega (arith, p .here .in-col, row-fits (s .args .t .now) (s .args .l .row) (p .row-good .in-rows), p .row-good .brief),
-      s .pre .1 .2,
+    let at-start = c .before .before .before .before .before in
+    let required = at-start .pre .1 .0 in (
+      at-start .pre .1 .1,
+      rw (at-start .pre .1 .1) (required .folds-good),
+      required .line,
+      omega (
+        arith,
+        required .here .in-col,
+        row-fits (at-start .args .t .now) (at-start .args .l .row) (required .row-good .in-rows),
+        required .row-good .brief,
+      ),
+      at-start .pre .1 .2,
     )
 
 screen-from-requires : tie.Need-screen-from-requires
 unfolding whites
 screen-from-requires c κs =
-    let m = c .before in
-    let j = m .before in
-    let s = j .before .before .before .before .before .before in
-    let p = s .pre .1 .0 in (
+    let at-most = c .before in
+    let at-start = at-most .before in
+    let at-entry = at-start .before .before .before .before .before .before in
+    let required = at-entry .pre .1 .0 in (
       (
         record {
-          tables = record { widths = s .pre .0 .0; whites-are = refl };
-          wide = s .pre .0 .1;
-          brief = p .row-good .brief;
-          all-rows = s .pre .1 .1;
-          folds-good = rw (s .pre .1 .1) (p .folds-good);
+          tables = record { widths = at-entry .pre .0 .0; whites-are = refl };
+          wide = at-entry .pre .0 .1;
+          brief = required .row-good .brief;
+          all-rows = at-entry .pre .1 .1;
+          folds-good = rw (at-entry .pre .1 .1) (required .folds-good);
         },
-        omega (arith, m .most .ensures),
+        omega (arith, at-most .most .ensures),
       ),
-      (j .start .ensures .2, j .start .ensures .1),
+      (at-start .start .ensures .2, at-start .start .ensures .1),
     )
 
 returns : tie.Need-returns
 returns c =
-    let g = c .before in
-    let m = g .before .before in
-    let j = m .before in
-    let d = j .before in
-    let a = d .before .before .before .before .before .args in
-    let w = widthBy (a .zeros .now) (a .doubles .now) in
-    target-made w (a .t .now) (a .folds .now) (a .tabstop) (layOf w (a .word) (a .width)) (a .down) (a .count) (a .l .row) (a .col) (a .sticky) (a .offset)
-    (d .wanted .ensures) (m .most .ensures) (j .start .ensures .0) (g .screen-from .ensures .0)
+    let at-screen-from = c .before in
+    let at-most = at-screen-from .before .before in
+    let at-start = at-most .before in
+    let at-wanted = at-start .before in
+    let given = at-wanted .before .before .before .before .before .args in
+    let width = widthBy (given .zeros .now) (given .doubles .now) in
+    target-made width (given .t .now) (given .folds .now) (given .tabstop) (layOf width (given .word) (given .width)) (given .down) (given .count)
+    (given .l .row) (given .col) (given .sticky) (given .offset)
+    (at-wanted .wanted .ensures) (at-most .most .ensures) (at-start .start .ensures .0) (at-screen-from .screen-from .ensures .0)
 
 pub move-broken-spec : {M : Type 1} → statement M
 move-broken-spec =

@@ -8,13 +8,14 @@ use Rattle.screen.proofs.wrapped.move_screen.Tie as tie
 
 returns : tie.Need-returns
 returns c =
-    let r = c .before in
-    rw (eq-eqb _ 0 (r .before .if1 .taken)) (c .unkept .ensures ∙ ap unkept (r .move-rows .ensures))
+    let at-move-rows = c .before in
+    rw (eq-eqb _ 0 (at-move-rows .before .if1 .taken)) (c .unkept .ensures ∙ ap unkept (at-move-rows .move-rows .ensures))
 
 returns-2 : tie.Need-returns-2
 returns-2 c =
-    let r = c .before in
-    rw (ne-eqb _ 0 (r .before .before .before .if1 .left), r .before .enum-told .given .1) (c .unkept2 .ensures ∙ ap unkept (r .move-rows2 .ensures))
+    let at-move-rows2 = c .before in
+    rw (ne-eqb _ 0 (at-move-rows2 .before .before .before .if1 .left), at-move-rows2 .before .enum-told .given .1)
+    (c .unkept2 .ensures ∙ ap unkept (at-move-rows2 .move-rows2 .ensures))
 
 returns-3 : tie.Need-returns-3
 returns-3 c = rw (ne-eqb _ 0 (c .before .before .before .if1 .left), c .before .enum-told2 .given .1) (c .move-broken .ensures)

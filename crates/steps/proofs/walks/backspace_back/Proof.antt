@@ -23,25 +23,27 @@ abbrev μ-loop : tie.MeasureT-loop
 
 loop-holds : tie.Need-loop-holds Inv-loop μ-loop
 loop-holds c =
-    let s = c .before .before .before .before in
-    let a = s .args in (
-      going-start (backspaceBack (a .t .now)) (position (a .p .row) (a .e .start + a .p .col - rowStart (a .t .now) (a .p .row))) (max (a .count) 1) _ _ _
-          (stands-own (s .pre .here)) (omega (arith, s .pre .here .begins))
+    let at-start = c .before .before .before .before in
+    let given = at-start .args in (
+      going-start (backspaceBack (given .t .now))
+          (position (given .p .row) (given .e .start + given .p .col - rowStart (given .t .now) (given .p .row))) (max (given .count) 1) _ _ _
+          (stands-own (at-start .pre .here)) (omega (arith, at-start .pre .here .begins))
           (c .most .ensures),
-      s .pre .brief,
+      at-start .pre .brief,
     )
 
 -- at the first offset
 returns : tie.Need-returns Inv-loop μ-loop
 returns c =
-    let l = c .before .before in
-    let g = l .loop .inv .0 in
-    let s = l .before .before .before .before .before in
-    let a = s .args in
-    let f = back-first (g .stands) (c .if1 .taken) in
-    let first = sym (f .0) in
-    let none : 0 ≡ l .loop .at - rowStart (a .t .now) (l .loop .row) = omega arith in
-    (λ i. position (first i) (none i)) ∙ going-stop g (f .1) ∙ going-from (backspaceBack (a .t .now)) _ (a .p) (a .e .start) _ (s .pre .line .begins)
+    let at-loop = c .before .before in
+    let invariant = at-loop .loop .inv .0 in
+    let at-start = at-loop .before .before .before .before .before in
+    let given = at-start .args in
+    let by-back-first = back-first (invariant .stands) (c .if1 .taken) in
+    let first = sym (by-back-first .0) in
+    let none : 0 ≡ at-loop .loop .at - rowStart (given .t .now) (at-loop .loop .row) = omega arith in
+    (λ i. position (first i) (none i)) ∙ going-stop invariant (by-back-first .1)
+    ∙ going-from (backspaceBack (given .t .now)) _ (given .p) (given .e .start) _ (at-start .pre .line .begins)
 
 -- behind the separator of the first row, which is empty
 sub-row : tie.Need-sub-row Inv-loop μ-loop
@@ -49,54 +51,60 @@ sub-row c = back-nl (c .before .before .before .before .before .loop .inv .0 .st
 
 loop-again : tie.Need-loop-again Inv-loop μ-loop
 loop-again c =
-    let l = c .before .before .before .before .before in
-    let g = l .loop .inv .0 in
-    let some : 0 < l .loop .at = omega arith in
+    let at-loop = c .before .before .before .before .before in
+    let invariant = at-loop .loop .inv .0 in
+    let some : 0 < at-loop .loop .at = omega arith in
     let nl = c .before .if2 .taken in (
-      going-on g _ _ _ (c .before .before .before .before .loop-test .taken) (back-end (g .stands) some nl)
-          (back-void (g .stands) some nl (λ p. absurd (omega arith))),
-      l .loop .inv .1,
+      going-on invariant _ _ _ (c .before .before .before .before .loop-test .taken) (back-end (invariant .stands) some nl)
+          (back-void (invariant .stands) some nl (λ p. absurd (omega arith))),
+      at-loop .loop .inv .1,
     )
 
 -- behind the separator of another empty row
 sub-row-2 : tie.Need-sub-row-2 Inv-loop μ-loop
-sub-row-2 c = back-nl (c .before .before .before .before .before .before .before .loop .inv .0 .stands) (omega arith) (c .before .before .before .if2 .taken) .1
+sub-row-2 c =
+    let at-loop = c .before .before .before .before .before .before .before in
+    back-nl (at-loop .loop .inv .0 .stands) (omega arith) (c .before .before .before .if2 .taken) .1
 
 loop-again-2 : tie.Need-loop-again-2 Inv-loop μ-loop
 loop-again-2 c =
-    let o = c .before .before .before in
-    let l = o .before .before .before .before in
-    let g = l .loop .inv .0 in
-    let some : 0 < l .loop .at = omega arith in (
-      going-on g _ _ _ (o .before .before .before .loop-test .taken) (back-end (g .stands) some (o .if2 .taken))
-          (back-void (g .stands) some (o .if2 .taken) (λ p. c .if4 .taken)),
-      l .loop .inv .1,
+    let at-if2 = c .before .before .before in
+    let at-loop = at-if2 .before .before .before .before in
+    let invariant = at-loop .loop .inv .0 in
+    let some : 0 < at-loop .loop .at = omega arith in (
+      going-on invariant _ _ _ (at-if2 .before .before .before .loop-test .taken) (back-end (invariant .stands) some (at-if2 .if2 .taken))
+          (back-void (invariant .stands) some (at-if2 .if2 .taken) (λ p. c .if4 .taken)),
+      at-loop .loop .inv .1,
     )
 
 -- behind the separator of a row that has characters
 sub-row-3 : tie.Need-sub-row-3 Inv-loop μ-loop
-sub-row-3 c = back-nl (c .before .before .before .before .before .before .before .loop .inv .0 .stands) (omega arith) (c .before .before .before .if2 .taken) .1
+sub-row-3 c =
+    let at-loop = c .before .before .before .before .before .before .before in
+    back-nl (at-loop .loop .inv .0 .stands) (omega arith) (c .before .before .before .if2 .taken) .1
 
 loop-again-3 : tie.Need-loop-again-3 Inv-loop μ-loop
 loop-again-3 c =
-    let o = c .before .before .before in
-    let l = o .before .before .before .before in
-    let g = l .loop .inv .0 in
-    let some : 0 < l .loop .at = omega arith in
-    let more : 0 < l .loop .at - 1 = omega arith in (
-      going-on g _ _ _ (o .before .before .before .loop-test .taken) (back-char (back-end (g .stands) some (o .if2 .taken)) more (c .if4 .left))
-          (back-wrap (g .stands) some (o .if2 .taken) more (c .if4 .left)),
-      l .loop .inv .1,
+    let at-if2 = c .before .before .before in
+    let at-loop = at-if2 .before .before .before .before in
+    let invariant = at-loop .loop .inv .0 in
+    let some : 0 < at-loop .loop .at = omega arith in
+    let more : 0 < at-loop .loop .at - 1 = omega arith in (
+      going-on invariant _ _ _ (at-if2 .before .before .before .loop-test .taken)
+          (back-char (back-end (invariant .stands) some (at-if2 .if2 .taken)) more (c .if4 .left))
+          (back-wrap (invariant .stands) some (at-if2 .if2 .taken) more (c .if4 .left)),
+      at-loop .loop .inv .1,
     )
 
 -- behind a character
 loop-again-4 : tie.Need-loop-again-4 Inv-loop μ-loop
 loop-again-4 c =
-    let l = c .before .before .before .before in
-    let g = l .loop .inv .0 in
-    let some : 0 < l .loop .at = omega arith in (
-      going-on g _ _ _ (c .before .before .before .loop-test .taken) (back-char (g .stands) some (c .if2 .left)) (back-on (g .stands) some (c .if2 .left)),
-      l .loop .inv .1,
+    let at-loop = c .before .before .before .before in
+    let invariant = at-loop .loop .inv .0 in
+    let some : 0 < at-loop .loop .at = omega arith in (
+      going-on invariant _ _ _ (c .before .before .before .loop-test .taken) (back-char (invariant .stands) some (c .if2 .left))
+          (back-on (invariant .stands) some (c .if2 .left)),
+      at-loop .loop .inv .1,
     )
 
 up-requires : tie.Need-up-requires Inv-loop μ-loop
@@ -105,19 +113,20 @@ up-requires c κs = c .before .loop .inv .0 .stands
 -- the row is found again, with its start
 sub-col : tie.Need-sub-col Inv-loop μ-loop
 sub-col c =
-    let l = c .before .before .before in
-    let t = l .before .before .before .before .before .args .t .now in
-    omega (arith, up-start t (c .before .up .result) (l .loop .row) (c .before .up .ensures), l .loop .inv .0 .stands .from)
+    let at-loop = c .before .before .before in
+    let text-now = at-loop .before .before .before .before .before .args .t .now in
+    omega (arith, up-start text-now (c .before .up .result) (at-loop .loop .row) (c .before .up .ensures), at-loop .loop .inv .0 .stands .from)
 
 returns-2 : tie.Need-returns-2 Inv-loop μ-loop
 returns-2 c =
-    let u = c .before in
-    let l = u .before .before in
-    let s = l .before .before .before .before .before in
-    let a = s .args in
-    ap (λ (s : ℕ). position (l .loop .row) (l .loop .at - s)) (up-start (a .t .now) (u .up .result) (l .loop .row) (u .up .ensures)) ∙
-    going-done (l .loop .inv .0) (u .before .loop-test .left) ∙
-    going-from (backspaceBack (a .t .now)) _ (a .p) (a .e .start) _ (s .pre .line .begins)
+    let at-up = c .before in
+    let at-loop = at-up .before .before in
+    let at-start = at-loop .before .before .before .before .before in
+    let given = at-start .args in
+    ap (λ (s : ℕ). position (at-loop .loop .row) (at-loop .loop .at - s))
+    (up-start (given .t .now) (at-up .up .result) (at-loop .loop .row) (at-up .up .ensures)) ∙
+    going-done (at-loop .loop .inv .0) (at-up .before .loop-test .left) ∙
+    going-from (backspaceBack (given .t .now)) _ (given .p) (given .e .start) _ (at-start .pre .line .begins)
 
 pub backspace-back-spec : {M : Type 1} → statement M
 backspace-back-spec =

@@ -22,72 +22,75 @@ abbrev μ-loop : tie.MeasureT-loop
 
 loop-holds : tie.Need-loop-holds Inv-loop μ-loop
 loop-holds c =
-    let s = c .before .before .before .before in
-    let a = s .args in (
-      going-start (spaceFwd (a .t .now)) (position (a .p .row) (a .e .start + a .p .col - a .e .start)) (max (a .count) 1) _ _ _ (s .pre .here)
+    let at-start = c .before .before .before .before in
+    let given = at-start .args in (
+      going-start (spaceFwd (given .t .now)) (position (given .p .row) (given .e .start + given .p .col - given .e .start))
+          (max (given .count) 1) _ _ _ (at-start .pre .here)
           (omega arith) (c .most .ensures),
-      s .pre .brief,
+      at-start .pre .brief,
     )
 
 -- at the end of the text
 returns : tie.Need-returns Inv-loop μ-loop
 returns c =
-    let l = c .before .before in
-    let g = l .loop .inv .0 in
-    going-stop g (space-end (g .stands) (c .if1 .taken)) ∙
-    going-from (spaceFwd (l .before .before .before .before .before .args .t .now)) _ (l .before .before .before .before .before .args .p)
-    (l .before .before .before .before .before .args .e .start) _ refl
+    let at-loop = c .before .before in
+    let invariant = at-loop .loop .inv .0 in
+    going-stop invariant (space-end (invariant .stands) (c .if1 .taken)) ∙
+    going-from (spaceFwd (at-loop .before .before .before .before .before .args .t .now)) _ (at-loop .before .before .before .before .before .args .p)
+    (at-loop .before .before .before .before .before .args .e .start) _ refl
 
 -- on a separator
 loop-again : tie.Need-loop-again Inv-loop μ-loop
 loop-again c =
-    let o = c .before .before in
-    let l = o .before .before in
-    let g = l .loop .inv .0 in (
-      going-on g _ _ _ (o .before .loop-test .taken) (step-nl (g .stands) (o .if1 .left) (c .if2 .taken)) (space-nl (g .stands) (o .if1 .left) (c .if2 .taken)),
-      l .loop .inv .1,
+    let at-if1 = c .before .before in
+    let at-loop = at-if1 .before .before in
+    let invariant = at-loop .loop .inv .0 in (
+      going-on invariant _ _ _ (at-if1 .before .loop-test .taken) (step-nl (invariant .stands) (at-if1 .if1 .left) (c .if2 .taken))
+          (space-nl (invariant .stands) (at-if1 .if1 .left) (c .if2 .taken)),
+      at-loop .loop .inv .1,
     )
 
 -- on the last character of the text
 returns-2 : tie.Need-returns-2 Inv-loop μ-loop
 returns-2 c =
-    let o = c .before .before .before in
-    let l = o .before .before in
-    let g = l .loop .inv .0 in
-    going-stop g (space-last (g .stands) (o .if1 .left) (c .before .if2 .left) (c .if3 .taken)) ∙
-    going-from (spaceFwd (l .before .before .before .before .before .args .t .now)) _ (l .before .before .before .before .before .args .p)
-    (l .before .before .before .before .before .args .e .start) _ refl
+    let at-if1 = c .before .before .before in
+    let at-loop = at-if1 .before .before in
+    let invariant = at-loop .loop .inv .0 in
+    going-stop invariant (space-last (invariant .stands) (at-if1 .if1 .left) (c .before .if2 .left) (c .if3 .taken)) ∙
+    going-from (spaceFwd (at-loop .before .before .before .before .before .args .t .now)) _ (at-loop .before .before .before .before .before .args .p)
+    (at-loop .before .before .before .before .before .args .e .start) _ refl
 
 -- before a separator
 loop-again-2 : tie.Need-loop-again-2 Inv-loop μ-loop
 loop-again-2 c =
-    let o = c .before .before .before .before .before in
-    let l = o .before .before in
-    let g = l .loop .inv .0 in
+    let at-if1 = c .before .before .before .before .before in
+    let at-loop = at-if1 .before .before in
+    let invariant = at-loop .loop .inv .0 in
     let on = c .before .before .before .if2 .left in
     let more = c .before .before .if3 .left in (
-      going-on g _ _ _ (o .before .loop-test .taken) (step-nl (step-char (g .stands) (o .if1 .left) on) more (c .if4 .taken))
-          (space-wrap (g .stands) (o .if1 .left) on more (c .if4 .taken)),
-      l .loop .inv .1,
+      going-on invariant _ _ _ (at-if1 .before .loop-test .taken) (step-nl (step-char (invariant .stands) (at-if1 .if1 .left) on) more (c .if4 .taken))
+          (space-wrap (invariant .stands) (at-if1 .if1 .left) on more (c .if4 .taken)),
+      at-loop .loop .inv .1,
     )
 
 -- before another character
 loop-again-3 : tie.Need-loop-again-3 Inv-loop μ-loop
 loop-again-3 c =
-    let o = c .before .before .before .before .before in
-    let l = o .before .before in
-    let g = l .loop .inv .0 in
+    let at-if1 = c .before .before .before .before .before in
+    let at-loop = at-if1 .before .before in
+    let invariant = at-loop .loop .inv .0 in
     let on = c .before .before .before .if2 .left in (
-      going-on g _ _ _ (o .before .loop-test .taken) (step-char (g .stands) (o .if1 .left) on)
-          (space-on (g .stands) (o .if1 .left) on (c .before .before .if3 .left) (c .if4 .left)),
-      l .loop .inv .1,
+      going-on invariant _ _ _ (at-if1 .before .loop-test .taken) (step-char (invariant .stands) (at-if1 .if1 .left) on)
+          (space-on (invariant .stands) (at-if1 .if1 .left) on (c .before .before .if3 .left) (c .if4 .left)),
+      at-loop .loop .inv .1,
     )
 
 returns-3 : tie.Need-returns-3 Inv-loop μ-loop
 returns-3 c =
+    let at-start = c .before .before .before .before .before .before in
     going-done (c .before .loop .inv .0) (c .loop-test .left) ∙
-    going-from (spaceFwd (c .before .before .before .before .before .before .args .t .now)) _ (c .before .before .before .before .before .before .args .p)
-    (c .before .before .before .before .before .before .args .e .start) _ refl
+    going-from (spaceFwd (at-start .args .t .now)) _ (at-start .args .p)
+    (at-start .args .e .start) _ refl
 
 pub space-fwd-spec : {M : Type 1} → statement M
 space-fwd-spec =

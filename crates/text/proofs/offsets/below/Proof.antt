@@ -17,9 +17,10 @@ abbrev μ-loop : tie.MeasureT-loop
 
 loop-again : tie.Need-loop-again Inv-loop μ-loop
 loop-again c =
-    let k = c .before .before .before .before in
-    let v = k .loop .inv in (
-      pass-on (k .before .before .args .t .now) (v .0) (c .before .separators .result) _ (omega arith) (omega arith) (c .before .separators .ensures .0),
+    let at-loop = c .before .before .before .before in
+    let invariant = at-loop .loop .inv in (
+      pass-on (at-loop .before .before .args .t .now) (invariant .0) (c .before .separators .result) _ (omega arith) (omega arith)
+          (c .before .separators .ensures .0),
       omega arith,
     )
 

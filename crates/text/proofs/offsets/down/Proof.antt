@@ -8,13 +8,13 @@ use Rattle.text.proofs.offsets.down.Tie as tie
 
 returns : tie.Need-returns
 returns c =
-    let s = c .before .before in
-    line-eq (s .args .t .now) (s .pre .0 .begins) (omega (arith, c .if1 .taken))
+    let at-start = c .before .before in
+    line-eq (at-start .args .t .now) (at-start .pre .0 .begins) (omega (arith, c .if1 .taken))
 
 add-below : tie.Need-add-below
 add-below c =
-    let s = c .before .before .before in
-    omega (arith, s .pre .1, count-le (s .args .t .now))
+    let at-start = c .before .before .before in
+    omega (arith, at-start .pre .1, count-le (at-start .args .t .now))
 
 returns-2 : tie.Need-returns-2
 returns-2 c = c .below .ensures .there (c .before .before .before .before .pre .1)

@@ -24,10 +24,10 @@ loop-again-2 c = (step-char (c .before .before .before .loop .inv .0) (omega ari
 
 returns : tie.Need-returns Inv-loop μ-loop
 returns c =
-    let k = c .before in
-    let t = k .before .args .t .now in
-    let here : k .loop .i ≡ k .before .args .at = omega arith in
-    line-eq (k .before .args .t .now) (k .loop .inv .0 .begins) (sym (stands-row (k .loop .inv .0)) ∙ ap (rowOf t) here)
+    let at-loop = c .before in
+    let text-now = at-loop .before .args .t .now in
+    let here : at-loop .loop .i ≡ at-loop .before .args .at = omega arith in
+    line-eq (at-loop .before .args .t .now) (at-loop .loop .inv .0 .begins) (sym (stands-row (at-loop .loop .inv .0)) ∙ ap (rowOf text-now) here)
 
 pub line-of-spec : {M : Type 1} → statement M
 line-of-spec =

@@ -10,10 +10,11 @@ use Rattle.text.proofs.offsets.next_line.Tie as tie
 
 returns : tie.Need-returns
 returns c =
-    let s = c .before .before in
-    let t = s .args .t .now in
-    let l = s .args .l in
-    line-eq t (omega (arith, stands-end (s .pre .0), s .pre .0 .begins, next-start t (l .row) (s .pre .0 .in-row))) refl
+    let at-start = c .before .before in
+    let text-now = at-start .args .t .now in
+    let given-l = at-start .args .l in
+    line-eq text-now
+    (omega (arith, stands-end (at-start .pre .0), at-start .pre .0 .begins, next-start text-now (given-l .row) (at-start .pre .0 .in-row))) refl
 
 pub next-line-spec : {M : Type 1} → statement M
 next-line-spec = tie.close (tie.spec (λ c κs. search needs) (λ c. search needs) (λ c. search needs) returns)

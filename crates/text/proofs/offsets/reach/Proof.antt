@@ -8,8 +8,8 @@ use Rattle.text.proofs.offsets.reach.Tie as tie
 
 returns : tie.Need-returns
 returns c =
-    let t = c .before .before .args .t .now in
-    reached-row t (sym (start-zero t)) (sym (c .if1 .taken)) (first-line t .in-row)
+    let text-now = c .before .before .args .t .now in
+    reached-row text-now (sym (start-zero text-now)) (sym (c .if1 .taken)) (first-line text-now .in-row)
 
 below-requires : tie.Need-below-requires
 below-requires c κs = (stands-own (first-line (c .before .before .args .t .now)), search needs)

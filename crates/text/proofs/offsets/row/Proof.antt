@@ -12,11 +12,11 @@ use Rattle.text.proofs.offsets.row.Tie as tie
 
 returns : tie.Need-returns
 returns c =
-    let k = c .before .before .before in
-    let t = k .args .t .now in
-    let l = k .args .l in
-    let long : c .before .row-end .result - l .start ≡ rowLen t (l .row) = omega (arith, stands-end (k .pre)) in
-    rw (long, k .pre .begins) (sym (row-part t (l .row) (k .pre .in-row)))
+    let at-start = c .before .before .before in
+    let text-now = at-start .args .t .now in
+    let given-l = at-start .args .l in
+    let long : c .before .row-end .result - given-l .start ≡ rowLen text-now (given-l .row) = omega (arith, stands-end (at-start .pre)) in
+    rw (long, at-start .pre .begins) (sym (row-part text-now (given-l .row) (at-start .pre .in-row)))
 
 pub row-spec : {M : Type 1} → statement M
 row-spec =

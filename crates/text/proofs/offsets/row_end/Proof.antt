@@ -18,13 +18,13 @@ abbrev μ-loop : tie.MeasureT-loop
 
 returns : tie.Need-returns Inv-loop μ-loop
 returns c =
-    let k = c .before .before in
-    omega (arith, rest-nl (k .before .before .args .t .now) (k .before .loop .e) (k .loop-test .taken) (c .if1 .taken))
+    let at-loop-test = c .before .before in
+    omega (arith, rest-nl (at-loop-test .before .before .args .t .now) (at-loop-test .before .loop .e) (at-loop-test .loop-test .taken) (c .if1 .taken))
 
 loop-again : tie.Need-loop-again Inv-loop μ-loop
 loop-again c =
-    let k = c .before .before in
-    omega (arith, rest-on (k .before .before .args .t .now) (k .before .loop .e) (k .loop-test .taken) (c .if1 .left))
+    let at-loop-test = c .before .before in
+    omega (arith, rest-on (at-loop-test .before .before .args .t .now) (at-loop-test .before .loop .e) (at-loop-test .loop-test .taken) (c .if1 .left))
 
 returns-2 : tie.Need-returns-2 Inv-loop μ-loop
 returns-2 c = omega (arith, rest-end (c .before .before .args .t .now) (c .before .loop .e) (c .loop-test .left))

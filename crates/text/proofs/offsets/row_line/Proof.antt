@@ -5,7 +5,7 @@ use Rattle.text.proofs.offsets.row_line.Statement.{statement}
 use Rattle.text.proofs.offsets.row_line.Tie as tie
 
 line-from-requires : tie.Need-line-from-requires
-line-from-requires c κs = let s = c .before in (first-line (s .args .t .now), s .pre .0, s .pre .1)
+line-from-requires c κs = let at-start = c .before in (first-line (at-start .args .t .now), at-start .pre .0, at-start .pre .1)
 
 pub row-line-spec : {M : Type 1} → statement M
 row-line-spec = tie.close (tie.spec line-from-requires (λ c. search needs))

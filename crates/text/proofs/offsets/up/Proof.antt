@@ -17,25 +17,27 @@ abbrev μ-loop : tie.MeasureT-loop
 
 returns : tie.Need-returns Inv-loop μ-loop
 returns c =
-    let k = c .before .before .before .before .before in
-    c .walk-up .ensures ∙ ap (lineAt (k .before .before .args .t .now)) (k .loop .inv .1)
+    let at-loop = c .before .before .before .before .before in
+    c .walk-up .ensures ∙ ap (lineAt (at-loop .before .before .args .t .now)) (at-loop .loop .inv .1)
 
 sub-r : tie.Need-sub-r Inv-loop μ-loop
 sub-r c =
-    let k = c .before .before .before .before in
-    pass-back (k .before .before .args .t .now) (k .loop .inv .0) (c .before .separators .result) _ (omega arith) (c .before .separators .ensures .0) .0
+    let at-loop = c .before .before .before .before in
+    pass-back (at-loop .before .before .args .t .now) (at-loop .loop .inv .0) (c .before .separators .result) _ (omega arith)
+    (c .before .separators .ensures .0) .0
 
 loop-again : tie.Need-loop-again Inv-loop μ-loop
 loop-again c =
-    let k = c .before .before .before .before in
-    let v = k .loop .inv in
-    let b = pass-back (k .before .before .args .t .now) (v .0) (c .before .separators .result) _ (omega arith) (c .before .separators .ensures .0) in
-    (b .1, left-over (k .loop .r) (k .loop .left) (c .before .separators .result) (b .0) (c .if1 .left) ∙ v .1)
+    let at-loop = c .before .before .before .before in
+    let invariant = at-loop .loop .inv in
+    let by-pass-back = pass-back (at-loop .before .before .args .t .now) (invariant .0) (c .before .separators .result) _ (omega arith)
+    (c .before .separators .ensures .0) in
+    (by-pass-back .1, left-over (at-loop .loop .r) (at-loop .loop .left) (c .before .separators .result) (by-pass-back .0) (c .if1 .left) ∙ invariant .1)
 
 returns-2 : tie.Need-returns-2 Inv-loop μ-loop
 returns-2 c =
-    let k = c .before .before in
-    c .walk-up2 .ensures ∙ ap (lineAt (k .before .before .args .t .now)) (k .loop .inv .1)
+    let at-loop = c .before .before in
+    c .walk-up2 .ensures ∙ ap (lineAt (at-loop .before .before .args .t .now)) (at-loop .loop .inv .1)
 
 pub up-spec : {M : Type 1} → statement M
 up-spec =

@@ -18,19 +18,19 @@ abbrev μ-loop : tie.MeasureT-loop
 
 returns : tie.Need-returns Inv-loop μ-loop
 returns c =
-    let k = c .before .before .before in
-    let at-row = step-nl (k .before .loop .inv .0) (k .loop-test .taken) (c .before .if1 .taken) in
-    reached-row (k .before .before .args .t .now) (at-row .begins) (c .if2 .taken) (at-row .in-row)
+    let at-loop-test = c .before .before .before in
+    let at-row = step-nl (at-loop-test .before .loop .inv .0) (at-loop-test .loop-test .taken) (c .before .if1 .taken) in
+    reached-row (at-loop-test .before .before .args .t .now) (at-row .begins) (c .if2 .taken) (at-row .in-row)
 
 loop-again : tie.Need-loop-again Inv-loop μ-loop
 loop-again c =
-    let k = c .before .before .before in
-    (stands-own (step-nl (k .before .loop .inv .0) (k .loop-test .taken) (c .before .if1 .taken)), omega (arith, c .if2 .left))
+    let at-loop-test = c .before .before .before in
+    (stands-own (step-nl (at-loop-test .before .loop .inv .0) (at-loop-test .loop-test .taken) (c .before .if1 .taken)), omega (arith, c .if2 .left))
 
 loop-again-2 : tie.Need-loop-again-2 Inv-loop μ-loop
 loop-again-2 c =
-    let k = c .before .before in
-    (step-char (k .before .loop .inv .0) (k .loop-test .taken) (c .if1 .left), k .before .loop .inv .1)
+    let at-loop-test = c .before .before in
+    (step-char (at-loop-test .before .loop .inv .0) (at-loop-test .loop-test .taken) (c .if1 .left), at-loop-test .before .loop .inv .1)
 
 -- the text ends before row `to`
 returns-2 : tie.Need-returns-2 Inv-loop μ-loop

@@ -19,30 +19,31 @@ abbrev μ-loop : tie.MeasureT-loop
 
 returns : tie.Need-returns Inv-loop μ-loop
 returns c =
-    let k = c .before .before .before in
-    line-eq (k .before .before .args .t .now) (back-nl (k .before .loop .inv .0) (k .loop-test .taken) (c .before .if1 .taken) .0) (omega arith)
+    let at-loop-test = c .before .before .before in
+    line-eq (at-loop-test .before .before .args .t .now)
+    (back-nl (at-loop-test .before .loop .inv .0) (at-loop-test .loop-test .taken) (c .before .if1 .taken) .0) (omega arith)
 
 sub-r : tie.Need-sub-r Inv-loop μ-loop
 sub-r c =
-    let k = c .before .before .before in
-    back-nl (k .before .loop .inv .0) (k .loop-test .taken) (c .before .if1 .taken) .1
+    let at-loop-test = c .before .before .before in
+    back-nl (at-loop-test .before .loop .inv .0) (at-loop-test .loop-test .taken) (c .before .if1 .taken) .1
 
 loop-again : tie.Need-loop-again Inv-loop μ-loop
 loop-again c =
-    let k = c .before .before .before in
-    let b = back-nl (k .before .loop .inv .0) (k .loop-test .taken) (c .before .if1 .taken) in
-    (b .2, omega arith, omega (arith, c .if2 .left))
+    let at-loop-test = c .before .before .before in
+    let by-back-nl = back-nl (at-loop-test .before .loop .inv .0) (at-loop-test .loop-test .taken) (c .before .if1 .taken) in
+    (by-back-nl .2, omega arith, omega (arith, c .if2 .left))
 
 loop-again-2 : tie.Need-loop-again-2 Inv-loop μ-loop
 loop-again-2 c =
-    let k = c .before .before in
-    (back-char (k .before .loop .inv .0) (k .loop-test .taken) (c .if1 .left), omega arith, omega arith)
+    let at-loop-test = c .before .before in
+    (back-char (at-loop-test .before .loop .inv .0) (at-loop-test .loop-test .taken) (c .if1 .left), omega arith, omega arith)
 
 returns-2 : tie.Need-returns-2 Inv-loop μ-loop
 returns-2 c =
-    let k = c .before in
-    let t = k .before .args .t .now in
-    line-eq t (sym (start-zero t)) (omega (arith, on-first (stands-at (k .loop .inv .0)) (omega arith)))
+    let at-loop = c .before in
+    let text-now = at-loop .before .args .t .now in
+    line-eq text-now (sym (start-zero text-now)) (omega (arith, on-first (stands-at (at-loop .loop .inv .0)) (omega arith)))
 
 pub walk-up-spec : {M : Type 1} → statement M
 walk-up-spec =

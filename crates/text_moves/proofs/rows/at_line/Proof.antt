@@ -8,8 +8,8 @@ use Rattle.text_moves.proofs.rows.at_line.Tie as tie
 
 returns : tie.Need-returns
 returns c =
-    let a = c .before .before .args in
-    ap (position (a .l .row)) (c .first-non-blank .ensures .0)
+    let given = c .before .before .args in
+    ap (position (given .l .row)) (c .first-non-blank .ensures .0)
 
 pub at-line-spec : {M : Type 1} → statement M
 at-line-spec = tie.close (tie.spec (λ c κs. search needs) returns)

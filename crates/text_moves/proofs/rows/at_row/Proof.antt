@@ -8,12 +8,15 @@ use Rattle.text_moves.proofs.rows.at_row.Statement.{statement}
 use Rattle.text_moves.proofs.rows.at_row.Tie as tie
 
 line-from-requires : tie.Need-line-from-requires
-line-from-requires c κs = let p = c .before .pre in (p .0 .line, p .0 .all-rows, p .1)
+line-from-requires c κs = let required = c .before .pre in (required .0 .line, required .0 .all-rows, required .1)
 
 at-line-requires : tie.Need-at-line-requires
 at-line-requires c κs =
-    let s = c .before .before in
-    (line-there (s .args .t .now) (c .line-from .result) _ (c .line-from .ensures) (omega (arith, s .pre .0 .all-rows, s .pre .1)), s .pre .0 .brief)
+    let at-start = c .before .before in (
+      line-there (at-start .args .t .now) (c .line-from .result) _ (c .line-from .ensures)
+          (omega (arith, at-start .pre .0 .all-rows, at-start .pre .1)),
+      at-start .pre .0 .brief,
+    )
 
 returns : tie.Need-returns
 returns c = c .at-line .ensures ∙ ap (λ (l : Line). atRow (c .before .before .before .args .t .now) (l .row)) (c .before .line-from .ensures)

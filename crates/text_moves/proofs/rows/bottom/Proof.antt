@@ -14,24 +14,24 @@ sub-last : tie.Need-sub-last
 sub-last c = omega (arith, accepted-rows (c .before .before .pre))
 
 at-row-requires : tie.Need-at-row-requires
-at-row-requires c κs = let s = c .before .before .before in (s .pre, omega (arith, accepted-rows (s .pre)))
+at-row-requires c κs = let at-start = c .before .before .before in (at-start .pre, omega (arith, accepted-rows (at-start .pre)))
 
 returns : tie.Need-returns
 returns c =
-    let s = c .before .before .before .before in
-    rw (eq-eqb (s .args .count) 0 (c .before .if1 .taken))
-    (c .at-row .ensures ∙ ap (λ (n : ℕ). atRow (s .args .t .now) (n - 1)) (s .pre .content-rows))
+    let at-start = c .before .before .before .before in
+    rw (eq-eqb (at-start .args .count) 0 (c .before .if1 .taken))
+    (c .at-row .ensures ∙ ap (λ (n : ℕ). atRow (at-start .args .t .now) (n - 1)) (at-start .pre .content-rows))
 
 at-row-requires-2 : tie.Need-at-row-requires-2
-at-row-requires-2 c κs = let s = c .before .before .before .before in (s .pre, omega (arith, c .least .ensures, accepted-rows (s .pre)))
+at-row-requires-2 c κs = let at-start = c .before .before .before .before in (at-start .pre, omega (arith, c .least .ensures, accepted-rows (at-start .pre)))
 
 returns-2 : tie.Need-returns-2
 returns-2 c =
-    let s = c .before .before .before .before .before in
-    let a = s .args in
-    rw (ne-eqb (a .count) 0 (c .before .before .if1 .left))
+    let at-start = c .before .before .before .before .before in
+    let given = at-start .args in
+    rw (ne-eqb (given .count) 0 (c .before .before .if1 .left))
     (c .at-row2 .ensures ∙
-    ap (atRow (a .t .now)) (c .before .least .ensures ∙ ap (λ (n : ℕ). min (a .count - 1) (n - 1)) (s .pre .content-rows)))
+    ap (atRow (given .t .now)) (c .before .least .ensures ∙ ap (λ (n : ℕ). min (given .count - 1) (n - 1)) (at-start .pre .content-rows)))
 
 pub bottom-spec : {M : Type 1} → statement M
 bottom-spec =

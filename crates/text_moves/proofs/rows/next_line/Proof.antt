@@ -16,23 +16,23 @@ sub-last c = omega (arith, accepted-rows (c .before .before .pre))
 
 returns : tie.Need-returns
 returns c =
-    let s = c .before .before .before .before in
-    rw (le-leb (contentRows (s .args .t .now) - 1) (s .args .p .row) (omega (arith, s .pre .content-rows, c .if1 .taken)))
+    let at-start = c .before .before .before .before in
+    rw (le-leb (contentRows (at-start .args .t .now) - 1) (at-start .args .p .row) (omega (arith, at-start .pre .content-rows, c .if1 .taken)))
 
 at-row-requires : tie.Need-at-row-requires
 at-row-requires c κs =
-    let s = c .before .before .before .before .before .before .before in
-    (s .pre, omega (arith, c .least .ensures, accepted-rows (s .pre)))
+    let at-start = c .before .before .before .before .before .before .before in
+    (at-start .pre, omega (arith, c .least .ensures, accepted-rows (at-start .pre)))
 
 returns-2 : tie.Need-returns-2
 returns-2 c =
-    let m = c .before .before .before in
-    let s = m .before .before .before .before .before in
-    let a = s .args in
-    rw (lt-leb (contentRows (a .t .now) - 1) (a .p .row) (omega (arith, s .pre .content-rows, m .before .if1 .left)))
-    (c .at-row .ensures ∙ ap (atRow (a .t .now)) (c .before .least .ensures ∙
-    ap (λ (n : ℕ). min (a .p .row + n) (a .e .content - 1)) (m .most .ensures) ∙
-    ap (λ (n : ℕ). min (a .p .row + max (a .count) 1) (n - 1)) (s .pre .content-rows)))
+    let at-most = c .before .before .before in
+    let at-start = at-most .before .before .before .before .before in
+    let given = at-start .args in
+    rw (lt-leb (contentRows (given .t .now) - 1) (given .p .row) (omega (arith, at-start .pre .content-rows, at-most .before .if1 .left)))
+    (c .at-row .ensures ∙ ap (atRow (given .t .now)) (c .before .least .ensures ∙
+    ap (λ (n : ℕ). min (given .p .row + n) (given .e .content - 1)) (at-most .most .ensures) ∙
+    ap (λ (n : ℕ). min (given .p .row + max (given .count) 1) (n - 1)) (at-start .pre .content-rows)))
 
 pub next-line-spec : {M : Type 1} → statement M
 next-line-spec =

@@ -14,15 +14,15 @@ returns c = rw (eq-eqb (c .before .before .before .args .p .row) 0 (c .if1 .take
 
 at-row-requires : tie.Need-at-row-requires
 at-row-requires c κs =
-    let s = c .before .before .before .before .before in
-    (s .pre, omega (arith, c .minus .ensures, s .pre .line .in-row, s .pre .all-rows))
+    let at-start = c .before .before .before .before .before in
+    (at-start .pre, omega (arith, c .minus .ensures, at-start .pre .line .in-row, at-start .pre .all-rows))
 
 returns-2 : tie.Need-returns-2
 returns-2 c =
-    let m = c .before .before in
-    let a = m .before .before .before .before .args in
-    rw (ne-eqb (a .p .row) 0 (m .before .if1 .left))
-    (c .at-row .ensures ∙ ap (atRow (a .t .now)) (c .before .minus .ensures ∙ ap (λ (n : ℕ). a .p .row - n) (m .most .ensures)))
+    let at-most = c .before .before in
+    let given = at-most .before .before .before .before .args in
+    rw (ne-eqb (given .p .row) 0 (at-most .before .if1 .left))
+    (c .at-row .ensures ∙ ap (atRow (given .t .now)) (c .before .minus .ensures ∙ ap (λ (n : ℕ). given .p .row - n) (at-most .most .ensures)))
 
 pub prev-line-spec : {M : Type 1} → statement M
 prev-line-spec = tie.close (tie.spec returns (λ c κs. search needs) (λ c κs. search needs) at-row-requires returns-2)

@@ -22,26 +22,28 @@ sub-last c = omega (arith, accepted-rows (c .before .before .before .pre))
 
 returns : tie.Need-returns
 returns c =
-    let m = c .before .before .before in
-    let s = m .before .before in
-    let a = s .args in
-    rw (stays (a .p .row) (a .count) (a .e .content) (contentRows (a .t .now)) _ true (m .most .ensures) (s .pre .content-rows) (c .if1 .taken))
+    let at-most = c .before .before .before in
+    let at-start = at-most .before .before in
+    let given = at-start .args in
+    rw (stays (given .p .row) (given .count) (given .e .content) (contentRows (given .t .now)) _ true (at-most .most .ensures)
+    (at-start .pre .content-rows) (c .if1 .taken))
 
 at-row-requires : tie.Need-at-row-requires
 at-row-requires c κs =
-    let s = c .before .before .before .before .before .before .before in
-    (s .pre, omega (arith, c .least .ensures, accepted-rows (s .pre)))
+    let at-start = c .before .before .before .before .before .before .before in
+    (at-start .pre, omega (arith, c .least .ensures, accepted-rows (at-start .pre)))
 
 returns-2 : tie.Need-returns-2
 returns-2 c =
-    let i = c .before .before .before in
-    let m = i .before .before .before in
-    let s = m .before .before in
-    let a = s .args in
-    rw (stays (a .p .row) (a .count) (a .e .content) (contentRows (a .t .now)) _ false (m .most .ensures) (s .pre .content-rows) (i .if1 .left))
-    (c .at-row .ensures ∙ ap (atRow (a .t .now)) (c .before .least .ensures ∙
-    ap (λ (n : ℕ). min (a .p .row + (n - 1)) (a .e .content - 1)) (m .most .ensures) ∙
-    ap (λ (n : ℕ). min (a .p .row + (max (a .count) 1 - 1)) (n - 1)) (s .pre .content-rows)))
+    let at-if1 = c .before .before .before in
+    let at-most = at-if1 .before .before .before in
+    let at-start = at-most .before .before in
+    let given = at-start .args in
+    rw (stays (given .p .row) (given .count) (given .e .content) (contentRows (given .t .now)) _ false (at-most .most .ensures)
+    (at-start .pre .content-rows) (at-if1 .if1 .left))
+    (c .at-row .ensures ∙ ap (atRow (given .t .now)) (c .before .least .ensures ∙
+    ap (λ (n : ℕ). min (given .p .row + (n - 1)) (given .e .content - 1)) (at-most .most .ensures) ∙
+    ap (λ (n : ℕ). min (given .p .row + (max (given .count) 1 - 1)) (n - 1)) (at-start .pre .content-rows)))
 
 pub this-line-spec : {M : Type 1} → statement M
 this-line-spec =

@@ -12,14 +12,14 @@ use Rattle.text_moves.proofs.sections.section_back.Tie as tie
 -- a mark is no separator
 section-up-requires : tie.Need-section-up-requires
 section-up-requires c κs =
-    let s = c .before .before in
-    (s .pre .0 .line, λ e. omega arith)
+    let at-start = c .before .before in
+    (at-start .pre .0 .line, λ e. omega arith)
 
 returns : tie.Need-returns
 returns c =
-    let a = c .before .before .before .args in
+    let given = c .before .before .before .args in
     ap (λ (r : ℕ). position r 0) (c .section-up .ensures .0 ∙
-    ap (λ (n : ℕ). sectionUp (a .t .now) (a .x) n (a .p .row)) (c .before .most .ensures))
+    ap (λ (n : ℕ). sectionUp (given .t .now) (given .x) n (given .p .row)) (c .before .most .ensures))
 
 pub section-back-spec : {M : Type 1} → statement M
 section-back-spec = tie.close (tie.spec (λ c κs. search needs) section-up-requires returns)

@@ -16,14 +16,14 @@ sub-last c = omega (arith, accepted-rows (c .before .before .pre .0))
 -- a mark is no separator
 section-down-requires : tie.Need-section-down-requires
 section-down-requires c κs =
-    let s = c .before .before .before in
-    (s .pre .0 .line, ap (λ (n : ℕ). n - 1) (s .pre .0 .content-rows), λ e. omega arith)
+    let at-start = c .before .before .before in
+    (at-start .pre .0 .line, ap (λ (n : ℕ). n - 1) (at-start .pre .0 .content-rows), λ e. omega arith)
 
 returns : tie.Need-returns
 returns c =
-    let a = c .before .before .before .before .args in
+    let given = c .before .before .before .before .args in
     ap (λ (r : ℕ). position r 0) (c .section-down .ensures .0 ∙
-    ap (λ (n : ℕ). sectionDown (a .t .now) (a .x) n (a .p .row) (contentRows (a .t .now) - 1 - a .p .row)) (c .before .most .ensures))
+    ap (λ (n : ℕ). sectionDown (given .t .now) (given .x) n (given .p .row) (contentRows (given .t .now) - 1 - given .p .row)) (c .before .most .ensures))
 
 pub section-on-spec : {M : Type 1} → statement M
 section-on-spec = tie.close (tie.spec sub-last (λ c κs. search needs) section-down-requires returns)

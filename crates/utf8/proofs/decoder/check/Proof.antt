@@ -30,8 +30,9 @@ loop-again c =
 -- any other
 loop-less-2 : tie.Need-loop-less-2 Inv-loop μ-loop
 loop-less-2 c =
+    let at-stretch = c .before .before .before .before .before .before .before in
     let on = walked-on _ _ (c .before .before .before .count-on .ensures) (c .before .next .given .1) in
-    omega (arith, on .1, c .before .before .before .before .before .before .before .stretch .ensures .0)
+    omega (arith, on .1, at-stretch .stretch .ensures .0)
 
 loop-again-2 : tie.Need-loop-again-2 Inv-loop μ-loop
 loop-again-2 c = walked-on _ _ (c .before .before .before .count-on .ensures) (c .before .next .given .1) .0

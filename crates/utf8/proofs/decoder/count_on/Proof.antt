@@ -17,20 +17,20 @@ abbrev μ-loop : tie.MeasureT-loop
 
 loop-less : tie.Need-loop-less Inv-loop μ-loop
 loop-less c =
-    let s = stepped-good _ _ _ (c .before .before .before .step .ensures) (c .before .next .given .1) in
-    omega (arith, s .1)
+    let by-stepped-good = stepped-good _ _ _ (c .before .before .before .step .ensures) (c .before .next .given .1) in
+    omega (arith, by-stepped-good .1)
 
 -- a sequence more
 loop-again : tie.Need-loop-again Inv-loop μ-loop
 loop-again c =
-    let s = stepped-good _ _ _ (c .before .before .before .step .ensures) (c .before .next .given .1) in
-    counts-on (c .before .before .before .before .before .loop .inv) _ _ (s .0) (s .1) (s .2)
+    let by-stepped-good = stepped-good _ _ _ (c .before .before .before .step .ensures) (c .before .next .given .1) in
+    counts-on (c .before .before .before .before .before .loop .inv) _ _ (by-stepped-good .0) (by-stepped-good .1) (by-stepped-good .2)
 
 -- the place
 returns : tie.Need-returns Inv-loop μ-loop
 returns c =
-    let s = stepped-bad _ _ _ (c .before .before .before .step .ensures) (c .before .place .given .1) in
-    counts-bad (c .before .before .before .before .before .loop .inv) s
+    let by-stepped-bad = stepped-bad _ _ _ (c .before .before .before .step .ensures) (c .before .place .given .1) in
+    counts-bad (c .before .before .before .before .before .loop .inv) by-stepped-bad
 
 pub count-on-spec : {M : Type 1} → statement M
 count-on-spec =

@@ -21,15 +21,15 @@ loop-holds c = (search needs, refl)
 
 loop-again : tie.Need-loop-again Inv-loop μ-loop
 loop-again c =
-    let s = c .before .before .before in
-    let l = c .before .before .loop in
-    (search needs, any-on isAbove s.args.bytes.now (l .i) (l .above) (c .before .loop-test .taken) (l .inv .1))
+    let at-start = c .before .before .before in
+    let at-loop = c .before .before .loop in
+    (search needs, any-on isAbove at-start.args.bytes.now (at-loop .i) (at-loop .above) (c .before .loop-test .taken) (at-loop .inv .1))
 
 returns : tie.Need-returns Inv-loop μ-loop
 returns c =
-    let s = c .before .before in
-    let l = c .before .loop in
-    ap not (sym (any-end isAbove s.args.bytes.now (l .i) (l .above) (c .loop-test .left) (l .inv .1)))
+    let at-start = c .before .before in
+    let at-loop = c .before .loop in
+    ap not (sym (any-end isAbove at-start.args.bytes.now (at-loop .i) (at-loop .above) (c .loop-test .left) (at-loop .inv .1)))
 
 pub plain-spec : {M : Type 1} → statement M
 plain-spec =

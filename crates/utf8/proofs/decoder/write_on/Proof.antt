@@ -20,31 +20,31 @@ loop-holds c = going-start (c .before .before .pre .0)
 
 slice-write-points : tie.Need-slice-write-points Inv-loop μ-loop
 slice-write-points c =
-    let s = stepped-good _ _ _ (c .before .before .before .step .ensures) (c .before .next .given .1) in
-    going-room (c .before .before .before .before .before .loop .inv) _ _ (s .0)
+    let by-stepped-good = stepped-good _ _ _ (c .before .before .before .step .ensures) (c .before .next .given .1) in
+    going-room (c .before .before .before .before .before .loop .inv) _ _ (by-stepped-good .0)
 
 add-n : tie.Need-add-n Inv-loop μ-loop
 add-n c =
-    let s = stepped-good _ _ _ (c .before .before .before .step .ensures) (c .before .next .given .1) in
-    let there = going-room (c .before .before .before .before .before .loop .inv) _ _ (s .0) in
+    let by-stepped-good = stepped-good _ _ _ (c .before .before .before .step .ensures) (c .before .next .given .1) in
+    let there = going-room (c .before .before .before .before .before .loop .inv) _ _ (by-stepped-good .0) in
     omega arith
 
 loop-less : tie.Need-loop-less Inv-loop μ-loop
 loop-less c =
-    let s = stepped-good _ _ _ (c .before .before .before .step .ensures) (c .before .next .given .1) in
-    omega (arith, s .1)
+    let by-stepped-good = stepped-good _ _ _ (c .before .before .before .step .ensures) (c .before .next .given .1) in
+    omega (arith, by-stepped-good .1)
 
 -- a sequence more
 loop-again : tie.Need-loop-again Inv-loop μ-loop
 loop-again c =
-    let s = stepped-good _ _ _ (c .before .before .before .step .ensures) (c .before .next .given .1) in
-    going-on (c .before .before .before .before .before .loop .inv) _ _ (s .0) (s .2)
+    let by-stepped-good = stepped-good _ _ _ (c .before .before .before .step .ensures) (c .before .next .given .1) in
+    going-on (c .before .before .before .before .before .loop .inv) _ _ (by-stepped-good .0) (by-stepped-good .2)
 
 -- none is bad
 returns : tie.Need-returns Inv-loop μ-loop
 returns c =
-    let s = stepped-bad _ _ _ (c .before .before .before .step .ensures) (c .before .place .given .1) in
-    absurd (going-bad (c .before .before .before .before .before .loop .inv) s)
+    let by-stepped-bad = stepped-bad _ _ _ (c .before .before .before .step .ensures) (c .before .place .given .1) in
+    absurd (going-bad (c .before .before .before .before .before .loop .inv) by-stepped-bad)
 
 returns-2 : tie.Need-returns-2 Inv-loop μ-loop
 returns-2 c = going-wrote (c .before .loop .inv) (c .loop-test .left)

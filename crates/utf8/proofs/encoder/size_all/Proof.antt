@@ -23,25 +23,25 @@ loop-holds c = (omega arith, omega arith, omega arith)
 add-n : tie.Need-add-n Inv-loop μ-loop
 add-n c =
     let at-loop = c .before .before .before in
-    let x = getD (at-loop .before .before .args .points .now) (at-loop .loop .i) 0 in
-    omega (arith, c .size .ensures, size-most x)
+    let value = getD (at-loop .before .before .args .points .now) (at-loop .loop .i) 0 in
+    omega (arith, c .size .ensures, size-most value)
 
 loop-again : tie.Need-loop-again Inv-loop μ-loop
 loop-again c =
     let at-loop = c .before .before .before in
-    let t = at-loop .before .before .args .points .now in
-    let i = at-loop .loop .i in
-    let x = getD t i 0 in
-    let next = utf8-at t i (c .before .before .loop-test .taken) in (
+    let points-now = at-loop .before .before .args .points .now in
+    let index = at-loop .loop .i in
+    let value = getD points-now index 0 in
+    let next = utf8-at points-now index (c .before .before .loop-test .taken) in (
       omega arith,
-      omega (arith, c .size .ensures, size-most x),
-      omega (arith, c .size .ensures, at-loop .loop .inv .2, ap length next, length-append (encoding x) (utf8 (drop (i + 1) t))),
+      omega (arith, c .size .ensures, size-most value),
+      omega (arith, c .size .ensures, at-loop .loop .inv .2, ap length next, length-append (encoding value) (utf8 (drop (index + 1) points-now))),
     )
 
 returns : tie.Need-returns Inv-loop μ-loop
 returns c =
-    let t = c .before .before .before .args .points .now in
-    omega (arith, c .before .loop .inv .2, ap length (utf8-end t (c .before .loop .i) (c .loop-test .left)))
+    let points-now = c .before .before .before .args .points .now in
+    omega (arith, c .before .loop .inv .2, ap length (utf8-end points-now (c .before .loop .i) (c .loop-test .left)))
 
 pub size-all-spec : {M : Type 1} → statement M
 size-all-spec =

@@ -56,7 +56,7 @@ loop-again c =
     (c .before .if2 .left) (c .if3 .left)
 
 returns-4 : tie.Need-returns-4 Inv-loop μ-loop
-returns-4 c = let w = c .before .loop .inv in (follows-end w (c .loop-test .left), w .onward, w .begun .within)
+returns-4 c = let invariant = c .before .loop .inv in (follows-end invariant (c .loop-test .left), invariant .onward, invariant .begun .within)
 
 pub follow-spec : {M : Type 1} → statement M
 follow-spec =

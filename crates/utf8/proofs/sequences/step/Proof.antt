@@ -53,7 +53,9 @@ returns-5 c =
 
 -- F5 and above
 returns-6 : tie.Need-returns-6
-returns-6 c = begins-high _ _ (c .before .before .before .before .before .before .before .pre) (c .if5 .left)
+returns-6 c =
+    let at-start = c .before .before .before .before .before .before .before in
+    begins-high _ _ (at-start .pre) (c .if5 .left)
 
 pub step-spec : {M : Type 1} → statement M
 step-spec =

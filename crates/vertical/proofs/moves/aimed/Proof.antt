@@ -11,27 +11,27 @@ use Rattle.vertical.proofs.moves.aimed.Tie as tie
 
 line-from-requires : tie.Need-line-from-requires
 line-from-requires c κs =
-    let s = c .before .before .before in
-    (s .pre .1 .0, s .pre .1 .1, omega (arith, s .pre .0 .1 .in-rows, s .pre .1 .1))
+    let at-start = c .before .before .before in
+    (at-start .pre .1 .0, at-start .pre .1 .1, omega (arith, at-start .pre .0 .1 .in-rows, at-start .pre .1 .1))
 
 row-requires : tie.Need-row-requires
 row-requires c κs =
-    let s = c .before .before .before .before in
-    line-there (s .args .t .now) (c .line-from .result) _ (c .line-from .ensures) (s .pre .0 .1 .in-rows)
+    let at-start = c .before .before .before .before in
+    line-there (at-start .args .t .now) (c .line-from .result) _ (c .line-from .ensures) (at-start .pre .0 .1 .in-rows)
 
 char-col-in-requires : tie.Need-char-col-in-requires
 char-col-in-requires c κs =
-    let s = c .before .before .before .before .before in
-    let own = ap (λ (x : Line). rowAt (s .args .t .now) (x .row)) (c .before .line-from .ensures) in
-    (s .pre .0 .0, row-ready (s .pre .0 .1) (c .row .ensures ∙ own))
+    let at-start = c .before .before .before .before .before in
+    let own = ap (λ (x : Line). rowAt (at-start .args .t .now) (x .row)) (c .before .line-from .ensures) in
+    (at-start .pre .0 .0, row-ready (at-start .pre .0 .1) (c .row .ensures ∙ own))
 
 returns : tie.Need-returns
 returns c =
-    let k = c .before .before in
-    let s = k .before .before .before .before .before .before in
-    let own : k .before .row .result .now ≡ rowAt (s .args .t .now) (s .args .row) = k .before .row .ensures ∙
-    ap (λ (x : Line). rowAt (s .args .t .now) (x .row)) (k .before .before .line-from .ensures) in
-    rw (← own, ← k .char-col-in .ensures, ← c .before .minus .ensures) (c .least .ensures)
+    let at-char-col-in = c .before .before in
+    let at-start = at-char-col-in .before .before .before .before .before .before in
+    let own : at-char-col-in .before .row .result .now ≡ rowAt (at-start .args .t .now) (at-start .args .row) = at-char-col-in .before .row .ensures ∙
+    ap (λ (x : Line). rowAt (at-start .args .t .now) (x .row)) (at-char-col-in .before .before .line-from .ensures) in
+    rw (← own, ← at-char-col-in .char-col-in .ensures, ← c .before .minus .ensures) (c .least .ensures)
 
 pub aimed-spec : {M : Type 1} → statement M
 aimed-spec =

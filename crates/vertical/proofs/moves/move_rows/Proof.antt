@@ -11,16 +11,25 @@ use Rattle.vertical.proofs.moves.move_rows.Tie as tie
 
 move-vertical-requires : tie.Need-move-vertical-requires
 move-vertical-requires c κs =
-    let s = c .before .before .before .before .before in
-    (s .pre .0, ((s .pre .1 .0, delta-asked (s .args .down) (s .args .count) (omega (arith, s .fits .count)) _ (c .delta-of .ensures)), s .pre .1 .1))
+    let at-start = c .before .before .before .before .before in (
+      at-start .pre .0,
+      (
+        (
+          at-start .pre .1 .0,
+          delta-asked (at-start .args .down) (at-start .args .count) (omega (arith, at-start .fits .count)) _ (c .delta-of .ensures),
+        ),
+        at-start .pre .1 .1,
+      ),
+    )
 
 returns : tie.Need-returns
 returns c =
-    let s = c .before .before .before .before .before .before in
-    let a = s .args in
+    let at-start = c .before .before .before .before .before .before in
+    let given = at-start .args in
     c .move-vertical .ensures ∙
-    ap (λ (z : ℤ). moveVertical (widthBy (a .zeros .now) (a .doubles .now)) (a .t .now) (a .folds .now) (a .tabstop) z (a .l .row) (a .col) (a .sticky))
-    (read-delta (a .down) (a .count) (omega (arith, s .fits .count)) _ (c .before .delta-of .ensures))
+    ap (λ (z : ℤ). moveVertical (widthBy (given .zeros .now) (given .doubles .now)) (given .t .now) (given .folds .now) (given .tabstop) z
+    (given .l .row) (given .col) (given .sticky))
+    (read-delta (given .down) (given .count) (omega (arith, at-start .fits .count)) _ (c .before .delta-of .ensures))
 
 pub move-rows-spec : {M : Type 1} → statement M
 move-rows-spec = tie.close (tie.spec (λ c κs. search needs) move-vertical-requires returns)

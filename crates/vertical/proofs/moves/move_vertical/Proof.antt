@@ -12,42 +12,51 @@ use Rattle.vertical.proofs.moves.move_vertical.Tie as tie
 
 vertical-row-requires : tie.Need-vertical-row-requires
 vertical-row-requires c κs =
-    let s = c .before .before .before .before .before in
-    let p = s .pre .1 .0 .0 in
-    let n = s .pre .1 .1 in (
-      rw n (p .folds-good),
-      omega (arith, p .row-good .in-rows, n),
-      omega (arith, count-le (s .args .t .now), p .row-good .brief, n),
-      rw (toZ-ofZ (s .fits .delta)) (s .pre .1 .0 .1),
+    let at-start = c .before .before .before .before .before in
+    let required = at-start .pre .1 .0 .0 in
+    let required-second = at-start .pre .1 .1 in (
+      rw required-second (required .folds-good),
+      omega (arith, required .row-good .in-rows, required-second),
+      omega (arith, count-le (at-start .args .t .now), required .row-good .brief, required-second),
+      rw (toZ-ofZ (at-start .fits .delta)) (at-start .pre .1 .0 .1),
     )
 
 returns : tie.Need-returns
 returns c =
-    let v = c .before in
-    let d = v .before in
-    let s = d .before .before .before .before .before in
-    let a = s .args in
-    let w = widthBy (a .zeros .now) (a .doubles .now) in
-    let to = v .vertical-row .ensures .0 ∙ reached (a .folds .now) (a .l .row) (s .pre .1 .1) (toZ-ofZ (s .fits .delta)) in
-    stays-is w (a .t .now) (a .tabstop) (a .l .row) (a .col) (d .wanted .ensures) to (c .if1 .taken)
+    let at-vertical-row = c .before in
+    let at-wanted = at-vertical-row .before in
+    let at-start = at-wanted .before .before .before .before .before in
+    let given = at-start .args in
+    let width = widthBy (given .zeros .now) (given .doubles .now) in
+    let to = at-vertical-row .vertical-row .ensures .0 ∙ reached (given .folds .now) (given .l .row) (at-start .pre .1 .1) (toZ-ofZ (at-start .fits .delta)) in
+    stays-is width (given .t .now) (given .tabstop) (given .l .row) (given .col) (at-wanted .wanted .ensures) to (c .if1 .taken)
 
 -- the row reached is one of the text
 aimed-requires : tie.Need-aimed-requires
 aimed-requires c κs =
-    let v = c .before in
-    let s = v .before .before .before .before .before .before in
-    let p = s .pre .1 .0 .0 in
-    ((s .pre .0, record { brief = p .row-good .brief; in-rows = omega (arith, v .vertical-row .ensures .1, s .pre .1 .1); stop = p .row-good .stop }), (p .line, s .pre .1 .1))
+    let at-vertical-row = c .before in
+    let at-start = at-vertical-row .before .before .before .before .before .before in
+    let required = at-start .pre .1 .0 .0 in (
+      (
+        at-start .pre .0,
+        record {
+          brief = required .row-good .brief;
+          in-rows = omega (arith, at-vertical-row .vertical-row .ensures .1, at-start .pre .1 .1);
+          stop = required .row-good .stop;
+        },
+      ),
+      (required .line, at-start .pre .1 .1),
+    )
 
 returns-2 : tie.Need-returns-2
 returns-2 c =
-    let v = c .before .before in
-    let d = v .before in
-    let s = d .before .before .before .before .before in
-    let a = s .args in
-    let w = widthBy (a .zeros .now) (a .doubles .now) in
-    let to = v .vertical-row .ensures .0 ∙ reached (a .folds .now) (a .l .row) (s .pre .1 .1) (toZ-ofZ (s .fits .delta)) in
-    lands-is w (a .t .now) (a .tabstop) (a .l .row) (a .col) (d .wanted .ensures) to (c .before .if1 .left) (c .aimed .ensures)
+    let at-vertical-row = c .before .before in
+    let at-wanted = at-vertical-row .before in
+    let at-start = at-wanted .before .before .before .before .before in
+    let given = at-start .args in
+    let width = widthBy (given .zeros .now) (given .doubles .now) in
+    let to = at-vertical-row .vertical-row .ensures .0 ∙ reached (given .folds .now) (given .l .row) (at-start .pre .1 .1) (toZ-ofZ (at-start .fits .delta)) in
+    lands-is width (given .t .now) (given .tabstop) (given .l .row) (given .col) (at-wanted .wanted .ensures) to (c .before .if1 .left) (c .aimed .ensures)
 
 pub move-vertical-spec : {M : Type 1} → statement M
 move-vertical-spec =

@@ -12,25 +12,25 @@ use Rattle.vertical.proofs.moves.wanted.Tie as tie
 
 cursor-col-in-requires : tie.Need-cursor-col-in-requires
 cursor-col-in-requires c κs =
-    let p = c .before .before .before .before .before .before .before .pre in
-    (p .0, row-ready (p .1 .row-good) (c .row .ensures))
+    let required = c .before .before .before .before .before .before .before .pre in
+    (required .0, row-ready (required .1 .row-good) (c .row .ensures))
 
 -- the sticky column
 returns : tie.Need-returns
 returns c =
-    let a = c .before .before .before .before .before .before .before .args in
-    let w = widthBy (a .zeros .now) (a .doubles .now) in
-    sym (ap (wantedCol w (a .t .now) (a .tabstop) (a .l .row) (a .col)) (c .before .sticky .given .1))
+    let given = c .before .before .before .before .before .before .before .args in
+    let width = widthBy (given .zeros .now) (given .doubles .now) in
+    sym (ap (wantedCol width (given .t .now) (given .tabstop) (given .l .row) (given .col)) (c .before .sticky .given .1))
 
 -- the cursor's own
 returns-2 : tie.Need-returns-2
 returns-2 c =
-    let o = c .before in
-    let a = o .before .before .before .before .before .before .before .args in
-    let w = widthBy (a .zeros .now) (a .doubles .now) in
+    let at-row = c .before in
+    let given = at-row .before .before .before .before .before .before .before .args in
+    let width = widthBy (given .zeros .now) (given .doubles .now) in
     c .cursor-col-in .ensures ∙
-    ap (λ (x : List ℕ). cursorCol w (a .tabstop) x (a .col)) (o .row .ensures) ∙
-    sym (ap (wantedCol w (a .t .now) (a .tabstop) (a .l .row) (a .col)) (o .before .enum-told .given .1))
+    ap (λ (x : List ℕ). cursorCol width (given .tabstop) x (given .col)) (at-row .row .ensures) ∙
+    sym (ap (wantedCol width (given .t .now) (given .tabstop) (given .l .row) (given .col)) (at-row .before .enum-told .given .1))
 
 pub wanted-spec : {M : Type 1} → statement M
 wanted-spec =

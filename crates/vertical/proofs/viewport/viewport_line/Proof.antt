@@ -16,18 +16,18 @@ at-edge t top height offset edge e l q s = s ∙ ap (λ (x : Edge). lineAt t (vi
 
 returns : tie.Need-returns
 returns c =
-    let a = c .before .before .before .before .args in
-    at-edge (a .t .now) (a .top) (a .height) (a .offset) (a .edge) _ _ (c .before .enum-told .given .1) (c .viewport-top .ensures)
+    let given = c .before .before .before .before .args in
+    at-edge (given .t .now) (given .top) (given .height) (given .offset) (given .edge) _ _ (c .before .enum-told .given .1) (c .viewport-top .ensures)
 
 returns-2 : tie.Need-returns-2
 returns-2 c =
-    let a = c .before .before .before .before .args in
-    at-edge (a .t .now) (a .top) (a .height) (a .offset) (a .edge) _ _ (c .before .enum-told2 .given .1) (c .viewport-middle .ensures)
+    let given = c .before .before .before .before .args in
+    at-edge (given .t .now) (given .top) (given .height) (given .offset) (given .edge) _ _ (c .before .enum-told2 .given .1) (c .viewport-middle .ensures)
 
 returns-3 : tie.Need-returns-3
 returns-3 c =
-    let a = c .before .before .before .before .args in
-    at-edge (a .t .now) (a .top) (a .height) (a .offset) (a .edge) _ _ (c .before .enum-told3 .given .1) (c .viewport-bottom .ensures)
+    let given = c .before .before .before .before .args in
+    at-edge (given .t .now) (given .top) (given .height) (given .offset) (given .edge) _ _ (c .before .enum-told3 .given .1) (c .viewport-bottom .ensures)
 
 pub viewport-line-spec : {M : Type 1} → statement M
 viewport-line-spec =

@@ -26,27 +26,33 @@ speaks-requires c κs = c .before .before .before .is-letter .ensures
 -- the token at i speaks of c
 loop-again : tie.Need-loop-again Inv-loop μ-loop
 loop-again c =
-    let s = c .before .before .before .before .before .before .before in
-    let l = c .before .before .before .before .before .loop in
-    let m : length (s.args.t1.tokens) ≡ 128 = search (needs, places) in
-    let hit = sym (c .before .before .speaks .ensures) ∙ c .before .if1 .taken in
-    (omega arith, l.inv .1 ∙ decided-said s.args.t1.tokens s.args.t1.len l.i s.args.c l.is (omega arith) (omega arith) hit)
+    let at-start = c .before .before .before .before .before .before .before in
+    let at-loop = c .before .before .before .before .before .loop in
+    let size-is : length (at-start.args.t1.tokens) ≡ 128 = search (needs, places) in
+    let hit = sym (c .before .before .speaks .ensures) ∙ c .before .if1 .taken in (
+      omega arith,
+      at-loop.inv .1
+          ∙ decided-said at-start.args.t1.tokens at-start.args.t1.len at-loop.i at-start.args.c at-loop.is (omega arith) (omega arith) hit,
+    )
 
 -- it does not
 loop-again-2 : tie.Need-loop-again-2 Inv-loop μ-loop
 loop-again-2 c =
-    let s = c .before .before .before .before .before .before in
-    let l = c .before .before .before .before .loop in
-    let m : length (s.args.t1.tokens) ≡ 128 = search (needs, places) in
-    let miss = sym (c .before .speaks .ensures) ∙ c .if1 .left in
-    (omega arith, l.inv .1 ∙ decided-on s.args.t1.tokens s.args.t1.len l.i s.args.c l.is (omega arith) (omega arith) miss)
+    let at-start = c .before .before .before .before .before .before in
+    let at-loop = c .before .before .before .before .loop in
+    let size-is : length (at-start.args.t1.tokens) ≡ 128 = search (needs, places) in
+    let miss = sym (c .before .speaks .ensures) ∙ c .if1 .left in (
+      omega arith,
+      at-loop.inv .1
+          ∙ decided-on at-start.args.t1.tokens at-start.args.t1.len at-loop.i at-start.args.c at-loop.is (omega arith) (omega arith) miss,
+    )
 
 returns : tie.Need-returns Inv-loop μ-loop
 returns c =
-    let s = c .before .before .before in
-    let l = c .before .loop in
-    let m : length (s.args.t1.tokens) ≡ 128 = search (needs, places) in
-    sym (l.inv .1 ∙ decided-end s.args.t1.tokens s.args.t1.len l.i s.args.c l.is (c .loop-test .left) (omega arith))
+    let at-start = c .before .before .before in
+    let at-loop = c .before .loop in
+    let size-is : length (at-start.args.t1.tokens) ≡ 128 = search (needs, places) in
+    sym (at-loop.inv .1 ∙ decided-end at-start.args.t1.tokens at-start.args.t1.len at-loop.i at-start.args.c at-loop.is (c .loop-test .left) (omega arith))
 
 pub holds-spec : {M : Type 1} → statement M
 holds-spec =

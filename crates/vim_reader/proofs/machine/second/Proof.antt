@@ -11,10 +11,12 @@ returns : tie.Need-returns
 returns c = sym (second-over _ _ _ _ (c .if1 .taken))
 
 returns-2 : tie.Need-returns-2
-returns-2 c = let e = c .before .most .ensures in let h = c .if2 .taken in sym (second-below _ _ _ _ (c .before .before .if1 .left) (rw e at h))
+returns-2 c = let most-told =
+    c .before .most .ensures in let taken = c .if2 .taken in sym (second-below _ _ _ _ (c .before .before .if1 .left) (rw most-told at taken))
 
 returns-3 : tie.Need-returns-3
-returns-3 c = let e = c .before .most .ensures in let h = c .if2 .left in sym (second-taken _ _ _ _ (c .before .before .if1 .left) (rw e at h))
+returns-3 c = let most-told =
+    c .before .most .ensures in let left = c .if2 .left in sym (second-taken _ _ _ _ (c .before .before .if1 .left) (rw most-told at left))
 
 pub second-spec : {M : Type 1} → statement M
 second-spec = tie.close (tie.spec returns (λ c κs. search needs) returns-2 returns-3)

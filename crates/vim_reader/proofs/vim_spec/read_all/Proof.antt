@@ -26,11 +26,19 @@ loop-holds c = run-start _ _ (c .new .ensures)
 -- no list goes on so
 returns : tie.Need-returns Inv-loop μ-loop
 unfolding answered
-returns c = c .refused-at .ensures ∙ sym (ap answered (run-dead (c .before .before .before .before .before .before .loop .inv) (c .before .before .before .before .before .loop-test .taken) _ (c .before .before .before .step .ensures) _ (c .before .before .phase .ensures) (c .before .if1 .taken)))
+returns c =
+    let at-loop = c .before .before .before .before .before .before in
+    c .refused-at .ensures
+    ∙ sym (ap answered
+    (run-dead (at-loop .loop .inv) (c .before .before .before .before .before .loop-test .taken) _ (c .before .before .before .step .ensures) _
+    (c .before .before .phase .ensures) (c .before .if1 .taken)))
 
 -- within a part
 loop-again : tie.Need-loop-again Inv-loop μ-loop
-loop-again c = run-on (c .before .before .before .before .before .before .loop .inv) (c .before .before .before .before .before .loop-test .taken) _ (c .before .before .before .step .ensures) _ (c .before .before .phase .ensures) (c .before .if1 .left) (c .if2 .taken)
+loop-again c =
+    let at-loop = c .before .before .before .before .before .before in
+    run-on (at-loop .loop .inv) (c .before .before .before .before .before .loop-test .taken) _ (c .before .before .before .step .ensures) _
+    (c .before .before .phase .ensures) (c .before .if1 .left) (c .if2 .taken)
 
 mul-t15 : tie.Need-mul-t15 Inv-loop μ-loop
 mul-t15 c = omega arith
@@ -41,29 +49,46 @@ element-set-from-spec c = omega arith
 -- a comma, and a place for its token
 loop-again-2 : tie.Need-loop-again-2 Inv-loop μ-loop
 loop-again-2 c =
-    run-part (c .before .before .before .before .before .before .before .before .loop .inv) (c .before .before .before .before .before .before .before .loop-test .taken) _ (c .before .before .before .before .before .step .ensures) _ (c .before .before .before .before .phase .ensures) (c .before .before .if2 .left) _
-    (λ few. ap (λ (t : VimToken). record { tokens = set (c .before .before .before .before .before .before .before .before .loop .spec .tokens) (c .before .before .before .before .before .before .before .before .loop .n) t; len = c .before .before .before .before .before .before .before .before .loop .n + 1 }) (c .token-of .ensures))
+    let at-loop-test = c .before .before .before .before .before .before .before in
+    let at-loop = at-loop-test .before in
+    run-part (at-loop .loop .inv) (at-loop-test .loop-test .taken) _ (c .before .before .before .before .before .step .ensures) _
+    (c .before .before .before .before .phase .ensures) (c .before .before .if2 .left) _
+    (λ few. ap (λ (t : VimToken). record { tokens = set (at-loop .loop .spec .tokens) (at-loop .loop .n) t; len = at-loop .loop .n + 1 })
+    (c .token-of .ensures))
 
 -- a comma, and no place
 loop-again-3 : tie.Need-loop-again-3 Inv-loop μ-loop
-loop-again-3 c = run-part (c .before .before .before .before .before .before .before .loop .inv) (c .before .before .before .before .before .before .loop-test .taken) _ (c .before .before .before .before .step .ensures) _ (c .before .before .before .phase .ensures) (c .before .if2 .left) _ (λ few. absurd (omega arith))
+loop-again-3 c =
+    let at-loop-test = c .before .before .before .before .before .before in
+    let at-loop = at-loop-test .before in
+    run-part (at-loop .loop .inv) (at-loop-test .loop-test .taken) _ (c .before .before .before .before .step .ensures) _
+    (c .before .before .before .phase .ensures) (c .before .if2 .left) _ (λ few. absurd (omega arith))
 
 add-n-2 : tie.Need-add-n-2 Inv-loop μ-loop
-add-n-2 c = omega (arith, c .before .before .before .before .before .before .before .loop .inv .fewer)
+add-n-2 c =
+    let at-loop = c .before .before .before .before .before .before .before in
+    omega (arith, at-loop .loop .inv .fewer)
 
 -- the list ends too early
 returns-2 : tie.Need-returns-2 Inv-loop μ-loop
-returns-2 c = c .refused-at2 .ensures ∙ run-cut (c .before .before .before .before .loop .inv) (c .before .before .before .loop-test .left) (sym (c .before .before .may-end .ensures) ∙ not-true _ (c .before .if4 .taken))
+returns-2 c =
+    c .refused-at2 .ensures
+    ∙ run-cut (c .before .before .before .before .loop .inv) (c .before .before .before .loop-test .left)
+    (sym (c .before .before .may-end .ensures) ∙ not-true _ (c .before .if4 .taken))
 
 returns-3 : tie.Need-returns-3 Inv-loop μ-loop
 returns-3 c =
-    run-none (c .before .before .before .before .before .loop .inv) (c .before .before .before .before .loop-test .left) (sym (c .before .before .before .may-end .ensures) ∙ not-false _ (c .before .before .if4 .left))
+    run-none (c .before .before .before .before .before .loop .inv) (c .before .before .before .before .loop-test .left)
+    (sym (c .before .before .before .may-end .ensures) ∙ not-false _ (c .before .before .if4 .left))
     (sym (c .before .phase2 .ensures) ∙ c .if5 .taken)
 
 returns-4 : tie.Need-returns-4 Inv-loop μ-loop
 returns-4 c =
+    let at-loop-test = c .before .before .before .before .before .before in
+    let at-loop = at-loop-test .before in
     c .refused-at3 .ensures
-    ∙ run-many (c .before .before .before .before .before .before .before .loop .inv) (c .before .before .before .before .before .before .loop-test .left) (sym (c .before .before .before .before .before .may-end .ensures) ∙ not-false _ (c .before .before .before .before .if4 .left))
+    ∙ run-many (at-loop .loop .inv) (at-loop-test .loop-test .left)
+    (sym (c .before .before .before .before .before .may-end .ensures) ∙ not-false _ (c .before .before .before .before .if4 .left))
     (λ z. c .before .before .if5 .left (c .before .before .before .phase2 .ensures ∙ z)) (c .before .if6 .taken)
 
 mul-t23 : tie.Need-mul-t23 Inv-loop μ-loop
@@ -75,8 +100,16 @@ element-set-from-spec-2 c = omega arith
 -- the last token
 returns-5 : tie.Need-returns-5 Inv-loop μ-loop
 returns-5 c =
-    ap (λ (t : VimToken). record { refusal = 0; place = 0; spec = record { tokens = set (c .before .before .before .before .before .before .before .loop .spec .tokens) (c .before .before .before .before .before .before .before .loop .n) t; len = c .before .before .before .before .before .before .before .loop .n + 1 } }) (c .token-of2 .ensures)
-    ∙ run-last (c .before .before .before .before .before .before .before .loop .inv) (c .before .before .before .before .before .before .loop-test .left) (sym (c .before .before .before .before .before .may-end .ensures) ∙ not-false _ (c .before .before .before .before .if4 .left))
+    let at-loop-test = c .before .before .before .before .before .before in
+    let at-loop = at-loop-test .before in
+    ap (λ (t : VimToken).
+    record {
+      refusal = 0;
+      place = 0;
+      spec = record { tokens = set (at-loop .loop .spec .tokens) (at-loop .loop .n) t; len = at-loop .loop .n + 1 };
+    }) (c .token-of2 .ensures)
+    ∙ run-last (at-loop .loop .inv) (at-loop-test .loop-test .left)
+    (sym (c .before .before .before .before .before .may-end .ensures) ∙ not-false _ (c .before .before .before .before .if4 .left))
     (λ z. c .before .before .if5 .left (c .before .before .before .phase2 .ensures ∙ z)) (omega arith)
 
 pub read-all-spec : {M : Type 1} → statement M

@@ -25,8 +25,9 @@ returns c =
     let at-own = at-entry .before .before in
     let given = at-own .before .before .before .before .args in
     let folds = foldsOf (given .m) (given .folds .now) in
-    let q = entered-number (given .t .now) _ folds (given .k) _ (at-entry .enter .ensures) (at-own .taken .ensures .1) (at-folds .or-folds .ensures) in
-    answer-first (given .t .now) folds (given .list .now) (given .big) (given .m) (given .stop) (given .count) (given .k) _ q (c .if1 .taken)
+    let by-entered-number = entered-number (given .t .now) _ folds (given .k) _ (at-entry .enter .ensures) (at-own .taken .ensures .1)
+    (at-folds .or-folds .ensures) in
+    answer-first (given .t .now) folds (given .list .now) (given .big) (given .m) (given .stop) (given .count) (given .k) _ by-entered-number (c .if1 .taken)
 
 -- the list goes wrong
 returns-2 : tie.Need-returns-2
@@ -38,8 +39,9 @@ returns-2 c =
     let at-own = at-entry .before .before in
     let given = at-own .before .before .before .before .args in
     let folds = foldsOf (given .m) (given .folds .now) in
-    let q = entered-number (given .t .now) _ folds (given .k) _ (at-entry .enter .ensures) (at-own .taken .ensures .1) (at-folds .or-folds .ensures) in
-    answer-bad (given .t .now) folds (given .list .now) (given .big) (given .m) (given .stop) (given .count) (given .k) _ q (at-test .if1 .left)
+    let by-entered-number = entered-number (given .t .now) _ folds (given .k) _ (at-entry .enter .ensures) (at-own .taken .ensures .1)
+    (at-folds .or-folds .ensures) in
+    answer-bad (given .t .now) folds (given .list .now) (given .big) (given .m) (given .stop) (given .count) (given .k) _ by-entered-number (at-test .if1 .left)
     (at-parse .parse .result) (at-parse .parse .ensures) (c .if2 .taken)
 
 -- it is refused with another number
@@ -53,8 +55,10 @@ returns-3 c =
     let at-own = at-entry .before .before in
     let given = at-own .before .before .before .before .args in
     let folds = foldsOf (given .m) (given .folds .now) in
-    let q = entered-number (given .t .now) _ folds (given .k) _ (at-entry .enter .ensures) (at-own .taken .ensures .1) (at-folds .or-folds .ensures) in
-    answer-refused (given .t .now) folds (given .list .now) (given .big) (given .m) (given .stop) (given .count) (given .k) _ q (at-test .if1 .left)
+    let by-entered-number = entered-number (given .t .now) _ folds (given .k) _ (at-entry .enter .ensures) (at-own .taken .ensures .1)
+    (at-folds .or-folds .ensures) in
+    answer-refused (given .t .now) folds (given .list .now) (given .big) (given .m) (given .stop) (given .count) (given .k) _ by-entered-number
+    (at-test .if1 .left)
     (at-parse .parse .result) (at-parse .parse .ensures) (at-bad .if2 .left) (c .if3 .taken)
 
 to-word-requires : tie.Need-to-word-requires
@@ -79,8 +83,10 @@ returns-4 c =
     let at-own = at-entry .before .before in
     let given = at-own .before .before .before .before .args in
     let folds = foldsOf (given .m) (given .folds .now) in
-    let q = entered-number (given .t .now) _ folds (given .k) _ (at-entry .enter .ensures) (at-own .taken .ensures .1) (at-folds .or-folds .ensures) in
-    answer-given (given .t .now) folds (given .list .now) (given .big) (given .m) (given .stop) (given .count) (given .k) _ q (at-test .if1 .left)
+    let by-entered-number = entered-number (given .t .now) _ folds (given .k) _ (at-entry .enter .ensures) (at-own .taken .ensures .1)
+    (at-folds .or-folds .ensures) in
+    answer-given (given .t .now) folds (given .list .now) (given .big) (given .m) (given .stop) (given .count) (given .k) _ by-entered-number
+    (at-test .if1 .left)
     (at-parse .parse .result) (at-parse .parse .ensures) _ (at-last .if3 .left)
     (c .to-word .ensures
     ∙ ap (λ (r : VimRead). wordCaret (given .t .now) (take (at-own .taken .result) (given .folds .now)) (inVim (kept (r .spec))) (given .big) (given .m)

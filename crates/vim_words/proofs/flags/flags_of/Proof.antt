@@ -26,21 +26,21 @@ loop-again : tie.Need-loop-again Inv-loop μ-loop
 loop-again c =
     let at-loop = c .before .before .before .before in
     let spec = at-loop .before .args .t1 in
-    let l = at-loop .loop in
+    let in-loop = at-loop .loop in
     let told = c .tell .ensures in
-    let m : length (spec .tokens) ≡ 128 = search (needs, places) in (
+    let size-is : length (spec .tokens) ≡ 128 = search (needs, places) in (
       omega arith,
       told .size,
-      spoken-next (spec .tokens) (spec .len) (l .i) (omega arith) (omega arith) (l .flags) _ (l .inv .2) told,
+      spoken-next (spec .tokens) (spec .len) (in-loop .i) (omega arith) (omega arith) (in-loop .flags) _ (in-loop .inv .2) told,
     )
 
 returns : tie.Need-returns Inv-loop μ-loop
 returns c =
     let at-loop = c .before in
     let spec = at-loop .before .args .t1 in
-    let l = at-loop .loop in
-    let m : length (spec .tokens) ≡ 128 = search (needs, places) in
-    spoken-end (spec .tokens) (spec .len) (l .i) (omega arith) (c .loop-test .left) (l .flags) (l .inv .2)
+    let in-loop = at-loop .loop in
+    let size-is : length (spec .tokens) ≡ 128 = search (needs, places) in
+    spoken-end (spec .tokens) (spec .len) (in-loop .i) (omega arith) (c .loop-test .left) (in-loop .flags) (in-loop .inv .2)
 
 pub flags-of-spec : {M : Type 1} → statement M
 flags-of-spec =

@@ -26,25 +26,32 @@ loop-holds c = (omega arith, refl)
 loop-again : tie.Need-loop-again Inv-loop μ-loop
 loop-again c =
     let at-kind = c .before in
-    let l = at-kind .before .before .before .before .loop in
+    let at-loop = at-kind .before .before .before .before .loop in
     let start = at-kind .before .before .before .before .before in
-    let m : length (start .args .t1 .tokens) ≡ 128 = search (needs, places) in
-    (omega arith, l .inv .1 ∙ letters-said (start .args .t1 .tokens) (start .args .t1 .len) (l .i) (omega arith) (omega arith) (l .is) (eq-eqb _ _ (at-kind .if1 .taken)))
+    let size-is : length (start .args .t1 .tokens) ≡ 128 = search (needs, places) in (
+      omega arith,
+      at-loop .inv .1
+          ∙ letters-said (start .args .t1 .tokens) (start .args .t1 .len) (at-loop .i) (omega arith) (omega arith) (at-loop .is)
+          (eq-eqb _ _ (at-kind .if1 .taken)),
+    )
 
 -- another
 loop-again-2 : tie.Need-loop-again-2 Inv-loop μ-loop
 loop-again-2 c =
-    let l = c .before .before .before .before .loop in
+    let at-loop = c .before .before .before .before .loop in
     let start = c .before .before .before .before .before in
-    let m : length (start .args .t1 .tokens) ≡ 128 = search (needs, places) in
-    (omega arith, l .inv .1 ∙ letters-on (start .args .t1 .tokens) (start .args .t1 .len) (l .i) (omega arith) (omega arith) (l .is) (ne-eqb _ _ (c .if1 .left)))
+    let size-is : length (start .args .t1 .tokens) ≡ 128 = search (needs, places) in (
+      omega arith,
+      at-loop .inv .1
+          ∙ letters-on (start .args .t1 .tokens) (start .args .t1 .len) (at-loop .i) (omega arith) (omega arith) (at-loop .is) (ne-eqb _ _ (c .if1 .left)),
+    )
 
 returns : tie.Need-returns Inv-loop μ-loop
 returns c =
-    let l = c .before .loop in
+    let at-loop = c .before .loop in
     let start = c .before .before in
-    let m : length (start .args .t1 .tokens) ≡ 128 = search (needs, places) in
-    sym (l .inv .1 ∙ letters-end (start .args .t1 .tokens) (start .args .t1 .len) (l .i) (omega arith) (c .loop-test .left) (l .is))
+    let size-is : length (start .args .t1 .tokens) ≡ 128 = search (needs, places) in
+    sym (at-loop .inv .1 ∙ letters-end (start .args .t1 .tokens) (start .args .t1 .len) (at-loop .i) (omega arith) (c .loop-test .left) (at-loop .is))
 
 pub letters-of-spec : {M : Type 1} → statement M
 letters-of-spec =

@@ -24,11 +24,11 @@ loop-again c =
     let at-speaks = c .before in
     let at-loop = at-speaks .before .before .before in
     let given = at-loop .before .before .args in
-    let l = at-loop .loop in
+    let in-loop = at-loop .loop in
     let hit = sym (at-speaks .speaks .ensures) ∙ c .if1 .taken in (
       omega arith,
-      length-set (l .flags) (l .c) _ ∙ l .inv .1,
-      telling-said (given .t) (given .flags .now) (l .c) (l .flags) (l .inv .2) (omega arith) _ (at-loop .before .said .ensures) hit,
+      length-set (in-loop .flags) (in-loop .c) _ ∙ in-loop .inv .1,
+      telling-said (given .t) (given .flags .now) (in-loop .c) (in-loop .flags) (in-loop .inv .2) (omega arith) _ (at-loop .before .said .ensures) hit,
     )
 
 -- it does not
@@ -37,15 +37,15 @@ loop-again-2 c =
     let at-speaks = c .before in
     let at-loop = at-speaks .before .before .before in
     let given = at-loop .before .before .args in
-    let l = at-loop .loop in
+    let in-loop = at-loop .loop in
     let miss = sym (at-speaks .speaks .ensures) ∙ c .if1 .left in
-    (omega arith, l .inv .1, telling-kept (given .t) (given .flags .now) (l .c) (l .flags) (l .inv .2) miss)
+    (omega arith, in-loop .inv .1, telling-kept (given .t) (given .flags .now) (in-loop .c) (in-loop .flags) (in-loop .inv .2) miss)
 
 returns : tie.Need-returns Inv-loop μ-loop
 returns c =
-    let l = c .before .loop in
+    let at-loop = c .before .loop in
     let given = c .before .before .before .args in
-    telling-end (given .t) (given .flags .now) (l .c) (l .flags) (c .loop-test .left) (l .inv .1) (l .inv .2)
+    telling-end (given .t) (given .flags .now) (at-loop .c) (at-loop .flags) (c .loop-test .left) (at-loop .inv .1) (at-loop .inv .2)
 
 pub tell-spec : {M : Type 1} → statement M
 tell-spec =

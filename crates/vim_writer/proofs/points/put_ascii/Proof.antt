@@ -26,14 +26,14 @@ cast-out c = omega (arith, c .shared-slice-known .given (c .before .before .loop
 
 loop-again : tie.Need-loop-again Inv-loop μ-loop
 loop-again c =
-    let l = c .before .before .loop in
-    (omega arith, wrote-byte (c .before .before .before .args .s .now) l.i (l.inv .1) (omega arith))
+    let at-loop = c .before .before .loop in
+    (omega arith, wrote-byte (c .before .before .before .args .s .now) at-loop.i (at-loop.inv .1) (omega arith))
 
 returns : tie.Need-returns Inv-loop μ-loop
 returns c =
-    let l = c .before .loop in
-    let e : l.i ≡ c .before .before .args .n = omega arith in
-    wrote-as (ap (λ (k : ℕ). take k (c .before .before .args .s .now)) e) (l.inv .1)
+    let at-loop = c .before .loop in
+    let i-is : at-loop.i ≡ c .before .before .args .n = omega arith in
+    wrote-as (ap (λ (k : ℕ). take k (c .before .before .args .s .now)) i-is) (at-loop.inv .1)
 
 pub put-ascii-spec : {M : Type 1} → statement M
 put-ascii-spec =

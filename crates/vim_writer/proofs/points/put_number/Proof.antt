@@ -13,11 +13,15 @@ put-decimal-requires c κs = omega (arith, length-decimal (c .before .before .ar
 
 put-ascii-requires : tie.Need-put-ascii-requires
 put-ascii-requires c κs =
-    let w = c .before .before .before .put-decimal .ensures in
-    (omega (arith, length-decimal (c .before .before .before .before .before .before .args .n), w .next, w .size), omega (arith, w .next))
+    let at-start = c .before .before .before .before .before .before in
+    let put-decimal-told = c .before .before .before .put-decimal .ensures in
+    (omega (arith, length-decimal (at-start .args .n), put-decimal-told .next, put-decimal-told .size), omega (arith, put-decimal-told .next))
 
 returns : tie.Need-returns
-returns c = wrote-as (wrote-front (c .before .before .before .before .before .before .put-decimal .ensures) (length-decimal (c .before .before .before .before .before .before .before .before .before .args .n))) (c .before .before .put-ascii .ensures)
+returns c =
+    let at-put-decimal = c .before .before .before .before .before .before in
+    let at-start = at-put-decimal .before .before .before in
+    wrote-as (wrote-front (at-put-decimal .put-decimal .ensures) (length-decimal (at-start .args .n))) (c .before .before .put-ascii .ensures)
 
 pub put-number-spec : {M : Type 1} → statement M
 put-number-spec = tie.close (tie.spec (λ c. search needs) put-decimal-requires (λ c. search needs) put-ascii-requires (λ c. search needs) returns)

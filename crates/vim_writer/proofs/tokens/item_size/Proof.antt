@@ -14,16 +14,37 @@ returns-2 : tie.Need-returns-2
 returns-2 c = sym (ap length (item-letters (c .before .before .before .before .args .t) (c .if2 .taken)))
 
 returns-3 : tie.Need-returns-3
-returns-3 c = c .end-size .ensures ∙ sym (ap length (item-one (c .before .before .before .before .before .before .before .args .t) (c .before .if3 .taken)))
+returns-3 c =
+    let at-start = c .before .before .before .before .before .before .before in
+    c .end-size .ensures ∙ sym (ap length (item-one (at-start .args .t) (c .before .if3 .taken)))
 
 add-result : tie.Need-add-result
-add-result c = omega (arith, c .before .end-size2 .ensures, end-most (c .before .before .before .before .before .before .before .before .args .t .lochar) (c .before .before .before .before .before .before .before .before .args .t .lo))
+add-result c =
+    let at-start = c .before .before .before .before .before .before .before .before in
+    omega (arith, c .before .end-size2 .ensures, end-most (at-start .args .t .lochar) (at-start .args .t .lo))
 
 add-result-2 : tie.Need-add-result-2
-add-result-2 c = omega (arith, c .before .end-size2 .ensures, c .end-size3 .ensures, end-most (c .before .before .before .before .before .before .before .before .args .t .lochar) (c .before .before .before .before .before .before .before .before .args .t .lo), end-most (c .before .before .before .before .before .before .before .before .args .t .hichar) (c .before .before .before .before .before .before .before .before .args .t .hi))
+add-result-2 c =
+    let at-start = c .before .before .before .before .before .before .before .before in
+    omega (
+      arith,
+      c .before .end-size2 .ensures,
+      c .end-size3 .ensures,
+      end-most (at-start .args .t .lochar) (at-start .args .t .lo),
+      end-most (at-start .args .t .hichar) (at-start .args .t .hi),
+    )
 
 returns-4 : tie.Need-returns-4
-returns-4 c = omega (arith, c .before .end-size2 .ensures, c .end-size3 .ensures, range-length (c .before .before .before .before .before .before .before .before .args .t) (c .before .before .before .before .before .before .if1 .left) (c .before .before .before .before .if2 .left) (c .before .before .if3 .left))
+returns-4 c =
+    let at-if1 = c .before .before .before .before .before .before in
+    let at-start = at-if1 .before .before in
+    omega (
+      arith,
+      c .before .end-size2 .ensures,
+      c .end-size3 .ensures,
+      range-length (at-start .args .t) (at-if1 .if1 .left) (c .before .before .before .before .if2 .left) (c .before .before .if3 .left),
+    )
 
 pub item-size-spec : {M : Type 1} → statement M
-item-size-spec = tie.close (tie.spec returns returns-2 (λ c κs. search needs) returns-3 (λ c κs. search needs) (λ c κs. search needs) add-result add-result-2 returns-4)
+item-size-spec =
+    tie.close (tie.spec returns returns-2 (λ c κs. search needs) returns-3 (λ c κs. search needs) (λ c κs. search needs) add-result add-result-2 returns-4)

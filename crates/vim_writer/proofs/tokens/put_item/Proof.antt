@@ -12,30 +12,74 @@ returns : tie.Need-returns
 returns c = wrote-as (sym (item-none (c .before .before .before .args .t) (c .if1 .taken))) (wrote-none _ _)
 
 put-requires : tie.Need-put-requires
-put-requires c κs = omega (arith, ap length (item-letters (c .before .before .before .before .before .before .args .t) (c .before .if2 .taken)))
+put-requires c κs =
+    let at-start = c .before .before .before .before .before .before in
+    omega (arith, ap length (item-letters (at-start .args .t) (c .before .if2 .taken)))
 
 returns-2 : tie.Need-returns-2
-returns-2 c = wrote-as (sym (item-letters (c .before .before .before .before .before .before .before .before .before .args .t) (c .before .before .before .before .if2 .taken))) (c .before .before .put .ensures)
+returns-2 c =
+    let at-start = c .before .before .before .before .before .before .before .before .before in
+    wrote-as (sym (item-letters (at-start .args .t) (c .before .before .before .before .if2 .taken))) (c .before .before .put .ensures)
 
 put-end-requires : tie.Need-put-end-requires
-put-end-requires c κs = omega (arith, ap length (item-one (c .before .before .before .before .before .before .before .before .args .t) (c .before .if3 .taken)))
+put-end-requires c κs =
+    let at-start = c .before .before .before .before .before .before .before .before in
+    omega (arith, ap length (item-one (at-start .args .t) (c .before .if3 .taken)))
 
 returns-3 : tie.Need-returns-3
-returns-3 c = wrote-as (sym (item-one (c .before .before .before .before .before .before .before .before .before .before .before .args .t) (c .before .before .before .before .if3 .taken))) (c .before .before .put-end .ensures)
+returns-3 c =
+    let at-start = c .before .before .before .before .before .before .before .before .before .before .before in
+    wrote-as (sym (item-one (at-start .args .t) (c .before .before .before .before .if3 .taken))) (c .before .before .put-end .ensures)
 
 put-end-requires-2 : tie.Need-put-end-requires-2
-put-end-requires-2 c κs = omega (arith, range-length (c .before .before .before .before .before .before .before .before .args .t) (c .before .before .before .before .before .if1 .left) (c .before .before .before .if2 .left) (c .before .if3 .left))
+put-end-requires-2 c κs =
+    let at-start = c .before .before .before .before .before .before .before .before in
+    omega (
+      arith,
+      range-length (at-start .args .t) (c .before .before .before .before .before .if1 .left) (c .before .before .before .if2 .left) (c .before .if3 .left),
+    )
 
 put-requires-2 : tie.Need-put-requires-2
-put-requires-2 c κs = omega (arith, range-length (c .before .before .before .before .before .before .before .before .before .before .before .before .args .t) (c .before .before .before .before .before .before .before .before .before .if1 .left) (c .before .before .before .before .before .before .before .if2 .left) (c .before .before .before .before .before .if3 .left), c .before .before .before .put-end2 .ensures .next, c .before .before .before .put-end2 .ensures .size)
+put-requires-2 c κs =
+    let at-if2 = c .before .before .before .before .before .before .before in
+    let at-if1 = at-if2 .before .before in
+    let at-start = at-if1 .before .before .before in
+    omega (
+      arith,
+      range-length (at-start .args .t) (at-if1 .if1 .left) (at-if2 .if2 .left) (c .before .before .before .before .before .if3 .left),
+      c .before .before .before .put-end2 .ensures .next,
+      c .before .before .before .put-end2 .ensures .size,
+    )
 
 put-end-requires-3 : tie.Need-put-end-requires-3
-put-end-requires-3 c κs = omega (arith, range-length (c .before .before .before .before .before .before .before .before .before .before .before .before .before .before .before .before .args .t) (c .before .before .before .before .before .before .before .before .before .before .before .before .before .if1 .left) (c .before .before .before .before .before .before .before .before .before .before .before .if2 .left) (c .before .before .before .before .before .before .before .before .before .if3 .left), c .before .before .before .before .before .before .before .put-end2 .ensures .next, c .before .before .before .before .before .before .before .put-end2 .ensures .size, c .before .before .before .put2 .ensures .next, c .before .before .before .put2 .ensures .size)
+put-end-requires-3 c κs =
+    let at-put-end2 = c .before .before .before .before .before .before .before in
+    let at-if3 = at-put-end2 .before .before in
+    let at-if2 = at-if3 .before .before in
+    let at-if1 = at-if2 .before .before in
+    let at-start = at-if1 .before .before .before in
+    omega (
+      arith,
+      range-length (at-start .args .t) (at-if1 .if1 .left) (at-if2 .if2 .left) (at-if3 .if3 .left),
+      at-put-end2 .put-end2 .ensures .next,
+      at-put-end2 .put-end2 .ensures .size,
+      c .before .before .before .put2 .ensures .next,
+      c .before .before .before .put2 .ensures .size,
+    )
 
 returns-4 : tie.Need-returns-4
 returns-4 c =
-    wrote-as (sym (item-range (c .before .before .before .before .before .before .before .before .before .before .before .before .before .before .before .before .before .before .before .args .t) (c .before .before .before .before .before .before .before .before .before .before .before .before .before .before .before .before .if1 .left) (c .before .before .before .before .before .before .before .before .before .before .before .before .before .before .if2 .left) (c .before .before .before .before .before .before .before .before .before .before .before .before .if3 .left)))
-    (wrote-then (c .before .before .before .before .before .before .before .before .before .before .put-end2 .ensures) (wrote-then (c .before .before .before .before .before .before .put2 .ensures) (c .before .before .put-end3 .ensures)))
+    let at-put2 = c .before .before .before .before .before .before in
+    let at-put-end2 = at-put2 .before .before .before .before in
+    let at-if3 = at-put-end2 .before .before in
+    let at-if2 = at-if3 .before .before in
+    let at-if1 = at-if2 .before .before in
+    let at-start = at-if1 .before .before .before in
+    wrote-as (sym (item-range (at-start .args .t) (at-if1 .if1 .left) (at-if2 .if2 .left) (at-if3 .if3 .left)))
+    (wrote-then (at-put-end2 .put-end2 .ensures) (wrote-then (at-put2 .put2 .ensures) (c .before .before .put-end3 .ensures)))
 
 pub put-item-spec : {M : Type 1} → statement M
-put-item-spec = tie.close (tie.spec returns put-requires (λ c. search needs) returns-2 put-end-requires (λ c. search needs) returns-3 put-end-requires-2 put-requires-2 put-end-requires-3 (λ c. search needs) returns-4)
+put-item-spec =
+    tie.close
+    (tie.spec returns put-requires (λ c. search needs) returns-2 put-end-requires
+    (λ c. search needs) returns-3 put-end-requires-2 put-requires-2 put-end-requires-3 (λ c. search needs) returns-4)

@@ -25,38 +25,44 @@ loop-holds c = (omega arith, refl)
 -- the first token
 loop-again : tie.Need-loop-again Inv-loop μ-loop
 loop-again c =
-    let s = c .before .before .before .before .before .args .t1 in
-    let l = c .before .before .before .before .loop in
-    let m : length (s.tokens) ≡ 128 = search (needs, places) in
-    (omega arith, c .token-size .ensures ∙ sym (ap length (written-first s.tokens l.i (omega arith) (c .before .before .if1 .taken))))
+    let given-t1 = c .before .before .before .before .before .args .t1 in
+    let at-loop = c .before .before .before .before .loop in
+    let size-is : length (given-t1.tokens) ≡ 128 = search (needs, places) in
+    (omega arith, c .token-size .ensures ∙ sym (ap length (written-first given-t1.tokens at-loop.i (omega arith) (c .before .before .if1 .taken))))
 
 add-n : tie.Need-add-n Inv-loop μ-loop
 add-n c =
-    let s = c .before .before .before .args .t1 in
-    let l = c .before .before .loop in
-    let m : length (s.tokens) ≡ 128 = search (needs, places) in
-    omega (arith, l.inv .1, take-most s.tokens l.i (omega arith))
+    let given-t1 = c .before .before .before .args .t1 in
+    let at-loop = c .before .before .loop in
+    let size-is : length (given-t1.tokens) ≡ 128 = search (needs, places) in
+    omega (arith, at-loop.inv .1, take-most given-t1.tokens at-loop.i (omega arith))
 
 add-n-2 : tie.Need-add-n-2 Inv-loop μ-loop
 add-n-2 c =
-    let s = c .before .before .before .before .before .args .t1 in
-    let l = c .before .before .before .before .loop in
-    let m : length (s.tokens) ≡ 128 = search (needs, places) in
-    omega (arith, l.inv .1, take-most s.tokens l.i (omega arith), c .token-size2 .ensures, token-most (getD s.tokens l.i noToken))
+    let given-t1 = c .before .before .before .before .before .args .t1 in
+    let at-loop = c .before .before .before .before .loop in
+    let size-is : length (given-t1.tokens) ≡ 128 = search (needs, places) in
+    omega (
+      arith,
+      at-loop.inv .1,
+      take-most given-t1.tokens at-loop.i (omega arith),
+      c .token-size2 .ensures,
+      token-most (getD given-t1.tokens at-loop.i noToken),
+    )
 
 -- any other
 loop-again-2 : tie.Need-loop-again-2 Inv-loop μ-loop
 loop-again-2 c =
-    let s = c .before .before .before .before .before .args .t1 in
-    let l = c .before .before .before .before .loop in
-    let m : length (s.tokens) ≡ 128 = search (needs, places) in
-    (omega arith, omega (arith, l.inv .1, next-length s.tokens l.i (omega arith) (c .before .before .if1 .left), c .token-size2 .ensures))
+    let given-t1 = c .before .before .before .before .before .args .t1 in
+    let at-loop = c .before .before .before .before .loop in
+    let size-is : length (given-t1.tokens) ≡ 128 = search (needs, places) in
+    (omega arith, omega (arith, at-loop.inv .1, next-length given-t1.tokens at-loop.i (omega arith) (c .before .before .if1 .left), c .token-size2 .ensures))
 
 returns : tie.Need-returns Inv-loop μ-loop
 returns c =
-    let l = c .before .loop in
-    let e : l.i ≡ c .before .before .args .t1 .len = omega arith in
-    rw (← e) (l.inv .1)
+    let at-loop = c .before .loop in
+    let i-is : at-loop.i ≡ c .before .before .args .t1 .len = omega arith in
+    rw (← i-is) (at-loop.inv .1)
 
 pub list-size-spec : {M : Type 1} → statement M
 list-size-spec =

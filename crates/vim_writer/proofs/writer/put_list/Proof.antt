@@ -25,46 +25,73 @@ loop-holds c = (omega arith, wrote-none _ 0)
 
 put-token-requires : tie.Need-put-token-requires Inv-loop μ-loop
 put-token-requires c κs =
-    let s = c .before .before .before .before .before .before .args .t1 in
-    let l = c .before .before .before .before .loop in
-    let m : length (s.tokens) ≡ 128 = search (needs, places) in
-    omega (arith, room-first s.tokens s.len l.i l.at (length (c .before .before .before .before .before .before .args .room .now)) (omega arith) (omega arith) (c .before .before .before .before .before .before .pre .1) (l.inv .1 .next) (c .before .if1 .taken), l.inv .1 .size)
+    let at-start = c .before .before .before .before .before .before in
+    let given-t1 = at-start .args .t1 in
+    let at-loop = c .before .before .before .before .loop in
+    let size-is : length (given-t1.tokens) ≡ 128 = search (needs, places) in
+    omega (
+      arith,
+      room-first given-t1.tokens given-t1.len at-loop.i at-loop.at (length (at-start .args .room .now)) (omega arith) (omega arith)
+          (at-start .pre .1) (at-loop.inv .1 .next) (c .before .if1 .taken),
+      at-loop.inv .1 .size,
+    )
 
 -- the first token
 loop-again : tie.Need-loop-again Inv-loop μ-loop
 loop-again c =
-    let s = c .before .before .before .before .before .before .before .before .before .args .t1 in
-    let l = c .before .before .before .before .before .before .before .loop in
-    let m : length (s.tokens) ≡ 128 = search (needs, places) in
-    (omega arith, put-first s.tokens l.i (omega arith) (l.inv .1) (c .before .before .before .before .if1 .taken) (c .before .before .put-token .ensures))
+    let given-t1 = c .before .before .before .before .before .before .before .before .before .args .t1 in
+    let at-loop = c .before .before .before .before .before .before .before .loop in
+    let size-is : length (given-t1.tokens) ≡ 128 = search (needs, places) in (
+      omega arith,
+      put-first given-t1.tokens at-loop.i (omega arith) (at-loop.inv .1) (c .before .before .before .before .if1 .taken)
+          (c .before .before .put-token .ensures),
+    )
 
 put-requires : tie.Need-put-requires Inv-loop μ-loop
 put-requires c κs =
-    let s = c .before .before .before .before .before .before .args .t1 in
-    let l = c .before .before .before .before .loop in
-    let m : length (s.tokens) ≡ 128 = search (needs, places) in
-    omega (arith, room-next s.tokens s.len l.i l.at (length (c .before .before .before .before .before .before .args .room .now)) (omega arith) (omega arith) (c .before .before .before .before .before .before .pre .1) (l.inv .1 .next) (c .before .if1 .left), l.inv .1 .size)
+    let at-start = c .before .before .before .before .before .before in
+    let given-t1 = at-start .args .t1 in
+    let at-loop = c .before .before .before .before .loop in
+    let size-is : length (given-t1.tokens) ≡ 128 = search (needs, places) in
+    omega (
+      arith,
+      room-next given-t1.tokens given-t1.len at-loop.i at-loop.at (length (at-start .args .room .now)) (omega arith) (omega arith) (at-start .pre .1)
+          (at-loop.inv .1 .next) (c .before .if1 .left),
+      at-loop.inv .1 .size,
+    )
 
 put-token-requires-2 : tie.Need-put-token-requires-2 Inv-loop μ-loop
 put-token-requires-2 c κs =
-    let s = c .before .before .before .before .before .before .before .before .before .before .args .t1 in
-    let l = c .before .before .before .before .before .before .before .before .loop in
-    let m : length (s.tokens) ≡ 128 = search (needs, places) in
-    omega (arith, room-next s.tokens s.len l.i l.at (length (c .before .before .before .before .before .before .before .before .before .before .args .room .now)) (omega arith) (omega arith) (c .before .before .before .before .before .before .before .before .before .before .pre .1) (l.inv .1 .next) (c .before .before .before .before .before .if1 .left), l.inv .1 .size, c .before .before .before .put .ensures .next, c .before .before .before .put .ensures .size)
+    let at-start = c .before .before .before .before .before .before .before .before .before .before in
+    let given-t1 = at-start .args .t1 in
+    let at-loop = c .before .before .before .before .before .before .before .before .loop in
+    let size-is : length (given-t1.tokens) ≡ 128 = search (needs, places) in
+    omega (
+      arith,
+      room-next given-t1.tokens given-t1.len at-loop.i at-loop.at (length (at-start .args .room .now)) (omega arith) (omega arith) (at-start .pre .1)
+          (at-loop.inv .1 .next) (c .before .before .before .before .before .if1 .left),
+      at-loop.inv .1 .size,
+      c .before .before .before .put .ensures .next,
+      c .before .before .before .put .ensures .size,
+    )
 
 -- any other
 loop-again-2 : tie.Need-loop-again-2 Inv-loop μ-loop
 loop-again-2 c =
-    let s = c .before .before .before .before .before .before .before .before .before .before .before .before .before .args .t1 in
-    let l = c .before .before .before .before .before .before .before .before .before .before .before .loop in
-    let m : length (s.tokens) ≡ 128 = search (needs, places) in
-    (omega arith, put-next s.tokens l.i (omega arith) (l.inv .1) (c .before .before .before .before .before .before .before .before .if1 .left) (c .before .before .before .before .before .before .put .ensures) (c .before .before .put-token2 .ensures))
+    let at-put = c .before .before .before .before .before .before in
+    let at-if1 = at-put .before .before in
+    let given-t1 = c .before .before .before .before .before .before .before .before .before .before .before .before .before .args .t1 in
+    let at-loop = c .before .before .before .before .before .before .before .before .before .before .before .loop in
+    let size-is : length (given-t1.tokens) ≡ 128 = search (needs, places) in (
+      omega arith,
+      put-next given-t1.tokens at-loop.i (omega arith) (at-loop.inv .1) (at-if1 .if1 .left) (at-put .put .ensures) (c .before .before .put-token2 .ensures),
+    )
 
 returns : tie.Need-returns Inv-loop μ-loop
 returns c =
-    let l = c .before .loop in
-    let e : l.i ≡ c .before .before .before .args .t1 .len = omega arith in
-    rw (← e) (l.inv .1)
+    let at-loop = c .before .loop in
+    let i-is : at-loop.i ≡ c .before .before .before .args .t1 .len = omega arith in
+    rw (← i-is) (at-loop.inv .1)
 
 pub put-list-spec : {M : Type 1} → statement M
 put-list-spec =

@@ -11,17 +11,17 @@ returns c = write-8 (c .before .before .before .args .spec) (c .before .before .
 
 returns-2 : tie.Need-returns-2
 returns-2 c =
-    let s = c .before .before .before .before .before .args in
-    write-14 s.spec s.room.now (c .before .before .if1 .left) (omega (arith, c .before .list-size .ensures))
+    let given = c .before .before .before .before .before .args in
+    write-14 given.spec given.room.now (c .before .before .if1 .left) (omega (arith, c .before .list-size .ensures))
 
 put-list-requires : tie.Need-put-list-requires
 put-list-requires c κs = (c .before .before .before .if1 .left, omega (arith, c .before .before .list-size .ensures))
 
 returns-3 : tie.Need-returns-3
 returns-3 c =
-    let s = c .before .before .before .before .before .before .before .before .before .args in
+    let given = c .before .before .before .before .before .before .before .before .before .args in
     let at-check = c .before .before .before .before in
-    write-made s.spec s.room.now _ _ (at-check .before .before .if1 .left) (omega (arith, at-check .before .list-size .ensures))
+    write-made given.spec given.room.now _ _ (at-check .before .before .if1 .left) (omega (arith, at-check .before .list-size .ensures))
     (c .before .before .put-list .ensures)
 
 pub write-spec : {M : Type 1} → statement M

@@ -9,20 +9,22 @@ use Rattle.visible_rows.proofs.rows.delta_of.Tie as tie
 
 negated-requires : tie.Need-negated-requires
 negated-requires c κs =
-    let n = c .before in
-    neg-asked (n .signed .result) (n .before .most .result) (omega arith) (n .signed .ensures)
+    let at-signed = c .before in
+    neg-asked (at-signed .signed .result) (at-signed .before .most .result) (omega arith) (at-signed .signed .ensures)
 
 returns : tie.Need-returns
 returns c =
-    let n = c .before in
-    rw (c .if1 .taken) (read-pos (n .signed .result) (n .before .most .result) (omega arith) (n .signed .ensures) ∙ ap pos (n .before .most .ensures))
+    let at-signed = c .before in
+    rw (c .if1 .taken)
+    (read-pos (at-signed .signed .result) (at-signed .before .most .result) (omega arith) (at-signed .signed .ensures)
+    ∙ ap pos (at-signed .before .most .ensures))
 
 returns-2 : tie.Need-returns-2
 returns-2 c =
-    let n = c .before .before in
+    let at-signed = c .before .before in
     rw (c .before .if1 .left)
-    (read-neg (n .signed .result) (n .before .most .result) (omega arith) (n .signed .ensures) _ (c .negated .ensures) ∙
-    ap (λ x. negℤ (pos x)) (n .before .most .ensures))
+    (read-neg (at-signed .signed .result) (at-signed .before .most .result) (omega arith) (at-signed .signed .ensures) _ (c .negated .ensures) ∙
+    ap (λ x. negℤ (pos x)) (at-signed .before .most .ensures))
 
 pub delta-of-spec : {M : Type 1} → statement M
 delta-of-spec = tie.close (tie.spec (λ c κs. search needs) (λ c κs. search needs) negated-requires returns returns-2)

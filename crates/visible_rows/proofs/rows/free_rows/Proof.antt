@@ -20,8 +20,8 @@ loop-holds c = (record { within = omega (arith, c .rows-beyond .ensures); shown 
 
 loop-again : tie.Need-loop-again Inv-loop μ-loop
 loop-again c =
-    let l = c .before .before .before .before in
-    (free-step (l .before .loop .inv .0) (l .loop-test .taken) (c .clear-of .ensures), omega arith)
+    let at-loop-test = c .before .before .before .before in
+    (free-step (at-loop-test .before .loop .inv .0) (at-loop-test .loop-test .taken) (c .clear-of .ensures), omega arith)
 
 returns : tie.Need-returns Inv-loop μ-loop
 returns c = free-end (c .before .loop .inv .0) (omega arith)

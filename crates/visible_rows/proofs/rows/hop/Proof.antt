@@ -10,9 +10,10 @@ returns c = hop-free (c .before .before .before .pre .3) _ (c .shifted .ensures)
 
 free-rows-requires : tie.Need-free-rows-requires
 free-rows-requires c κs =
-    let v = c .before .before .before in
-    let s = v .before .before .before in
-    toward-within (s .args .folds .now) (s .args .rows) (s .args .down) (s .args .row) _ (s .pre .1) (sym (v .visible-row .ensures) ∙ c .before .x .given .1)
+    let at-visible-row = c .before .before .before in
+    let at-start = at-visible-row .before .before .before in
+    toward-within (at-start .args .folds .now) (at-start .args .rows) (at-start .args .down) (at-start .args .row) _ (at-start .pre .1)
+    (sym (at-visible-row .visible-row .ensures) ∙ c .before .x .given .1)
 
 returns-2 : tie.Need-returns-2
 returns-2 c = hop-past _ (sym (c .before .before .before .before .visible-row .ensures) ∙ c .before .before .x .given .1) (c .free-rows .ensures)

@@ -23,78 +23,90 @@ loop-holds c = (refl, c .before .pre .1)
 -- the rows that no fold hides are the text's
 shifted-requires : tie.Need-shifted-requires Inv-loop μ-loop
 shifted-requires c κs =
-    let f = c .before in
-    let l = f .before .before in
-    let s = l .before .before in
+    let at-free-rows = c .before in
+    let at-loop = at-free-rows .before .before in
+    let at-start = at-loop .before .before in
     omega (
       arith,
-      shift-small (s .args .down) (s .args .rows) (l .loop .r) (f .free-rows .result) (l .loop .inv .1) (f .free-rows .ensures .within),
+      shift-small (at-start .args .down) (at-start .args .rows) (at-loop .loop .r) (at-free-rows .free-rows .result) (at-loop .loop .inv .1)
+          (at-free-rows .free-rows .ensures .within),
       c .if1 .taken,
-      s .pre .2,
+      at-start .pre .2,
     )
 
 returns : tie.Need-returns Inv-loop μ-loop
 returns c =
-    let f = c .before .before in
-    let l = f .before .before in
-    let s = l .before .before in (
-      c .shifted .ensures ∙ sym (l .loop .inv .0 ∙ free-rounds (f .free-rows .ensures) (l .loop .left) (c .before .if1 .taken)),
-      rw (c .shifted .ensures) (shift-within (s .args .down) (s .args .rows) (l .loop .r) (l .loop .left) (l .loop .inv .1)
-          (omega (arith, c .before .if1 .taken, f .free-rows .ensures .within))),
+    let at-free-rows = c .before .before in
+    let at-loop = at-free-rows .before .before in
+    let at-start = at-loop .before .before in (
+      c .shifted .ensures ∙ sym (at-loop .loop .inv .0 ∙ free-rounds (at-free-rows .free-rows .ensures) (at-loop .loop .left) (c .before .if1 .taken)),
+      rw (c .shifted .ensures) (shift-within (at-start .args .down) (at-start .args .rows) (at-loop .loop .r) (at-loop .loop .left) (at-loop .loop .inv .1)
+          (omega (arith, c .before .if1 .taken, at-free-rows .free-rows .ensures .within))),
     )
 
 shifted-requires-2 : tie.Need-shifted-requires-2 Inv-loop μ-loop
 shifted-requires-2 c κs =
-    let f = c .before in
-    let l = f .before .before in
-    let s = l .before .before in
-    omega (arith, shift-small (s .args .down) (s .args .rows) (l .loop .r) (f .free-rows .result) (l .loop .inv .1) (f .free-rows .ensures .within), s .pre .2)
+    let at-free-rows = c .before in
+    let at-loop = at-free-rows .before .before in
+    let at-start = at-loop .before .before in
+    omega (
+      arith,
+      shift-small (at-start .args .down) (at-start .args .rows) (at-loop .loop .r) (at-free-rows .free-rows .result) (at-loop .loop .inv .1)
+          (at-free-rows .free-rows .ensures .within),
+      at-start .pre .2,
+    )
 
 visible-row-requires : tie.Need-visible-row-requires Inv-loop μ-loop
 visible-row-requires c κs =
-    let f = c .before .before in
-    let l = f .before .before in
-    let s = l .before .before in (
-      s .pre .0,
-      rw (c .shifted2 .ensures) (shift-within (s .args .down) (s .args .rows) (l .loop .r) (f .free-rows .result) (l .loop .inv .1)
-          (f .free-rows .ensures .within)),
+    let at-free-rows = c .before .before in
+    let at-loop = at-free-rows .before .before in
+    let at-start = at-loop .before .before in (
+      at-start .pre .0,
+      rw (c .shifted2 .ensures)
+          (shift-within (at-start .args .down) (at-start .args .rows) (at-loop .loop .r) (at-free-rows .free-rows .result) (at-loop .loop .inv .1)
+          (at-free-rows .free-rows .ensures .within)),
     )
 
 -- a visible row comes next
 loop-again : tie.Need-loop-again Inv-loop μ-loop
 loop-again c =
-    let v = c .before .before .before in
-    let f = v .before .before .before in
-    let l = f .before .before in
-    let s = l .before .before in
-    let a = s .args in
-    let found = ap (toward (a .folds .now) (a .rows) (a .down)) (sym (v .before .shifted2 .ensures)) ∙ sym (v .visible-row .ensures) ∙
+    let at-visible-row = c .before .before .before in
+    let at-free-rows = at-visible-row .before .before .before in
+    let at-loop = at-free-rows .before .before in
+    let at-start = at-loop .before .before in
+    let given = at-start .args in
+    let found = ap (toward (given .folds .now) (given .rows) (given .down)) (sym (at-visible-row .before .shifted2 .ensures))
+    ∙ sym (at-visible-row .visible-row .ensures) ∙
     c .before .x .given .1 in (
-      l .loop .inv .0 ∙ free-hop (f .free-rows .ensures) (l .loop .left) (omega (arith, v .before .before .if1 .left)) _ found,
-      toward-within (a .folds .now) (a .rows) (a .down) _ _ (shift-within (a .down) (a .rows) (l .loop .r) (f .free-rows .result) (l .loop .inv .1)
-          (f .free-rows .ensures .within)) found,
+      at-loop .loop .inv .0
+          ∙ free-hop (at-free-rows .free-rows .ensures) (at-loop .loop .left) (omega (arith, at-visible-row .before .before .if1 .left)) _ found,
+      toward-within (given .folds .now) (given .rows) (given .down) _ _
+          (shift-within (given .down) (given .rows) (at-loop .loop .r) (at-free-rows .free-rows .result) (at-loop .loop .inv .1)
+          (at-free-rows .free-rows .ensures .within)) found,
     )
 
 -- none does
 returns-2 : tie.Need-returns-2 Inv-loop μ-loop
 returns-2 c =
-    let v = c .before .before in
-    let f = v .before .before .before in
-    let l = f .before .before in
-    let s = l .before .before in
-    let a = s .args in
-    let none = ap (toward (a .folds .now) (a .rows) (a .down)) (sym (v .before .shifted2 .ensures)) ∙ sym (v .visible-row .ensures) ∙
+    let at-visible-row = c .before .before in
+    let at-free-rows = at-visible-row .before .before .before in
+    let at-loop = at-free-rows .before .before in
+    let at-start = at-loop .before .before in
+    let given = at-start .args in
+    let none = ap (toward (given .folds .now) (given .rows) (given .down)) (sym (at-visible-row .before .shifted2 .ensures))
+    ∙ sym (at-visible-row .visible-row .ensures) ∙
     c .enum-told .given .1 in (
-      v .before .shifted2 .ensures ∙ sym (l .loop .inv .0 ∙ free-edge (f .free-rows .ensures) (l .loop .left)
-          (omega (arith, v .before .before .if1 .left)) none),
-      rw (v .before .shifted2 .ensures) (shift-within (a .down) (a .rows) (l .loop .r) (f .free-rows .result) (l .loop .inv .1)
-          (f .free-rows .ensures .within)),
+      at-visible-row .before .shifted2 .ensures ∙ sym (at-loop .loop .inv .0 ∙ free-edge (at-free-rows .free-rows .ensures) (at-loop .loop .left)
+          (omega (arith, at-visible-row .before .before .if1 .left)) none),
+      rw (at-visible-row .before .shifted2 .ensures)
+          (shift-within (given .down) (given .rows) (at-loop .loop .r) (at-free-rows .free-rows .result) (at-loop .loop .inv .1)
+          (at-free-rows .free-rows .ensures .within)),
     )
 
 returns-3 : tie.Need-returns-3 Inv-loop μ-loop
 returns-3 c =
-    let l = c .before .loop in
-    (sym (l .inv .0 ∙ rounds-none _ (l .left) (l .r) (omega (arith, c .loop-test .left))), l .inv .1)
+    let at-loop = c .before .loop in
+    (sym (at-loop .inv .0 ∙ rounds-none _ (at-loop .left) (at-loop .r) (omega (arith, c .loop-test .left))), at-loop .inv .1)
 
 pub rows-on-spec : {M : Type 1} → statement M
 rows-on-spec =

@@ -15,23 +15,23 @@ returns c = (rw (sym (c .before .is-row-hidden .ensures) ∙ not-true _ (c .if1 
 -- one does, and its first row is found
 returns-2 : tie.Need-returns-2
 returns-2 c =
-    let v = c .before .before .before in
-    let h = v .before .before in
-    let s = h .before .before in
-    let a = s .args in
-    let found = sym (v .visible-row .ensures) ∙ c .before .first .given .1 in (
-      rw (sym (h .is-row-hidden .ensures) ∙ not-false _ (v .before .if1 .left)) (sym (ap (rowOr (a .row)) found)),
-      toward-within (a .folds .now) (a .rows) false (a .row) _ (s .pre .1) found,
+    let at-visible-row = c .before .before .before in
+    let at-is-row-hidden = at-visible-row .before .before in
+    let at-start = at-is-row-hidden .before .before in
+    let given = at-start .args in
+    let found = sym (at-visible-row .visible-row .ensures) ∙ c .before .first .given .1 in (
+      rw (sym (at-is-row-hidden .is-row-hidden .ensures) ∙ not-false _ (at-visible-row .before .if1 .left)) (sym (ap (rowOr (given .row)) found)),
+      toward-within (given .folds .now) (given .rows) false (given .row) _ (at-start .pre .1) found,
     )
 
 returns-3 : tie.Need-returns-3
 returns-3 c =
-    let v = c .before .before in
-    let h = v .before .before in
-    let s = h .before .before in (
-      rw (sym (h .is-row-hidden .ensures) ∙ not-false _ (v .before .if1 .left))
-          (sym (ap (rowOr (s .args .row)) (sym (v .visible-row .ensures) ∙ c .enum-told .given .1))),
-      s .pre .1,
+    let at-visible-row = c .before .before in
+    let at-is-row-hidden = at-visible-row .before .before in
+    let at-start = at-is-row-hidden .before .before in (
+      rw (sym (at-is-row-hidden .is-row-hidden .ensures) ∙ not-false _ (at-visible-row .before .if1 .left))
+          (sym (ap (rowOr (at-start .args .row)) (sym (at-visible-row .visible-row .ensures) ∙ c .enum-told .given .1))),
+      at-start .pre .1,
     )
 
 pub shown-row-spec : {M : Type 1} → statement M

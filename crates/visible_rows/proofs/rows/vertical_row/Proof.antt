@@ -10,30 +10,34 @@ use Rattle.visible_rows.proofs.rows.vertical_row.Tie as tie
 
 unsigned-requires : tie.Need-unsigned-requires
 unsigned-requires c κs =
-    let i = c .before .before in
-    let s = i .before .before in
-    let a = s .args in
-    counts-up (a .folds .now) (a .rows) (a .row) (a .delta) (s .fits .delta) (s .pre .3) (i .if1 .taken) _ (c .negated .ensures)
+    let at-if1 = c .before .before in
+    let at-start = at-if1 .before .before in
+    let given = at-start .args in
+    counts-up (given .folds .now) (given .rows) (given .row) (given .delta) (at-start .fits .delta) (at-start .pre .3) (at-if1 .if1 .taken) _
+    (c .negated .ensures)
 
 returns : tie.Need-returns
 returns c =
-    let u = c .before in
-    let n = u .before in
-    let i = n .before .before in
-    let s = i .before .before in
-    let a = s .args in (
+    let at-unsigned = c .before in
+    let at-negated = at-unsigned .before in
+    let at-if1 = at-negated .before .before in
+    let at-start = at-if1 .before .before in
+    let given = at-start .args in (
       c .rows-on .ensures .0 ∙
-          ap (rounds (stepRow (a .folds .now) (a .rows) false) (u .unsigned .result)) (n .before .shown-row .ensures .0) ∙
-          goes-up (a .folds .now) (a .rows) (a .row) (a .delta) (s .fits .delta) (s .pre .3) (i .if1 .taken) _ (n .negated .ensures) _ (u .unsigned .ensures),
+          ap (rounds (stepRow (given .folds .now) (given .rows) false) (at-unsigned .unsigned .result)) (at-negated .before .shown-row .ensures .0) ∙
+          goes-up (given .folds .now) (given .rows) (given .row) (given .delta) (at-start .fits .delta) (at-start .pre .3) (at-if1 .if1 .taken) _
+          (at-negated .negated .ensures) _ (at-unsigned .unsigned .ensures),
       c .rows-on .ensures .1,
     )
 
 returns-2 : tie.Need-returns-2
 returns-2 c =
-    let i = c .before .before in
-    let s = i .before .before in
-    let a = s .args in (
-      c .rows-on2 .ensures .0 ∙ goes-down (a .folds .now) (a .rows) (a .row) (a .delta) (s .fits .delta) (i .if1 .left) _ (c .before .unsigned2 .ensures),
+    let at-if1 = c .before .before in
+    let at-start = at-if1 .before .before in
+    let given = at-start .args in (
+      c .rows-on2 .ensures .0
+          ∙ goes-down (given .folds .now) (given .rows) (given .row) (given .delta) (at-start .fits .delta) (at-if1 .if1 .left) _
+          (c .before .unsigned2 .ensures),
       c .rows-on2 .ensures .1,
     )
 

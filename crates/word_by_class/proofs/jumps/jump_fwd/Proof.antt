@@ -9,8 +9,8 @@ use Rattle.word_by_class.proofs.jumps.jump_fwd.Tie as tie
 closed-fold-at-requires : tie.Need-closed-fold-at-requires
 closed-fold-at-requires c κs =
     let start = c .before .before in
-    let s = ready-row (start .pre) in
-    (start .pre .good, s .0, s .1)
+    let by-ready-row = ready-row (start .pre) in
+    (start .pre .good, by-ready-row .0, by-ready-row .1)
 
 row-last-requires : tie.Need-row-last-requires
 row-last-requires c κs =

@@ -37,8 +37,8 @@ returns c =
     let at-round = at-j .before .before in
     let at-loop = at-round .before .before .before in
     let given = at-loop .before .before .before .before .args in
-    let e = sym (at-round .round-near .ensures) ∙ at-j .j .given .1 ∙ ap On (c .if1 .taken) in
-    c .if1 .taken ∙ sym (at-loop .loop .inv .1 ∙ counted-still (roundOf (given .c .now) (given .folds .now) (given .big) (given .m) false) _ _ e)
+    let round-near-is = sym (at-round .round-near .ensures) ∙ at-j .j .given .1 ∙ ap On (c .if1 .taken) in
+    c .if1 .taken ∙ sym (at-loop .loop .inv .1 ∙ counted-still (roundOf (given .c .now) (given .folds .now) (given .big) (given .m) false) _ _ round-near-is)
 
 moved-requires : tie.Need-moved-requires Inv-loop μ-loop
 moved-requires c κs =
@@ -55,10 +55,10 @@ loop-again c =
     let at-loop = in-loop .before in
     let given = at-loop .before .before .before .before .args in
     let inv = at-loop .loop .inv in
-    let e = sym (at-round .round-near .ensures) ∙ at-j .j .given .1 in
-    let high = on-in (inv .0 .classes) _ _ (inv .0 .inside) _ _ _ _ e in (
+    let round-near-is = sym (at-round .round-near .ensures) ∙ at-j .j .given .1 in
+    let high = on-in (inv .0 .classes) _ _ (inv .0 .inside) _ _ _ _ round-near-is in (
       ready-at (inv .0) (c .moved .result) (c .moved .ensures .1) (omega (arith, high, c .moved .ensures .0)),
-      inv .1 ∙ counted-on (roundOf (given .c .now) (given .folds .now) (given .big) (given .m) false) _ _ _ (in-loop .loop-test .taken) e
+      inv .1 ∙ counted-on (roundOf (given .c .now) (given .folds .now) (given .big) (given .m) false) _ _ _ (in-loop .loop-test .taken) round-near-is
           ∙ ap (counted (roundOf (given .c .now) (given .folds .now) (given .big) (given .m) false) _) (sym (c .moved .ensures .0)),
       at-round .before .near .ensures,
     )

@@ -23,18 +23,18 @@ loop-again c =
     let in-loop = c .before .before in
     let at-loop = in-loop .before in
     let start = at-loop .before .before in
-    let e = row-end-next (start .args .c .now) (at-loop .loop .i) (omega (arith, in-loop .loop-test .taken, start .pre .1))
+    let by-row-end-next = row-end-next (start .args .c .now) (at-loop .loop .i) (omega (arith, in-loop .loop-test .taken, start .pre .1))
     (sym (c .before .is-end .ensures) ∙ c .if1 .taken) in
-    (omega (arith, in-loop .loop-test .taken), omega (arith, at-loop .loop .inv .1), omega (arith, e, at-loop .loop .inv .2))
+    (omega (arith, in-loop .loop-test .taken), omega (arith, at-loop .loop .inv .1), omega (arith, by-row-end-next, at-loop .loop .inv .2))
 
 loop-again-2 : tie.Need-loop-again-2 Inv-loop μ-loop
 loop-again-2 c =
     let in-loop = c .before .before in
     let at-loop = in-loop .before in
     let start = at-loop .before .before in
-    let e = row-char-next (start .args .c .now) (at-loop .loop .i) (omega (arith, in-loop .loop-test .taken, start .pre .1))
+    let by-row-char-next = row-char-next (start .args .c .now) (at-loop .loop .i) (omega (arith, in-loop .loop-test .taken, start .pre .1))
     (sym (c .before .is-end .ensures) ∙ c .if1 .left) in
-    (omega (arith, in-loop .loop-test .taken), omega (arith, at-loop .loop .inv .1), omega (arith, e, at-loop .loop .inv .2))
+    (omega (arith, in-loop .loop-test .taken), omega (arith, at-loop .loop .inv .1), omega (arith, by-row-char-next, at-loop .loop .inv .2))
 
 returns : tie.Need-returns Inv-loop μ-loop
 returns c =

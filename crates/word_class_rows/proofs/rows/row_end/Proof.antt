@@ -17,7 +17,7 @@ abbrev μ-loop : tie.MeasureT-loop
 μ-loop c row r₀ i₀ r i = length c - i
 
 loop-holds : tie.Need-loop-holds Inv-loop μ-loop
-loop-holds c = let p = c .before .pre in (p .0 .within, p .0 .row-is, p .1)
+loop-holds c = let required = c .before .pre in (required .0 .within, required .0 .row-is, required .1)
 
 -- the end of the row
 returns : tie.Need-returns Inv-loop μ-loop
@@ -50,8 +50,8 @@ loop-again c =
     let start = at-loop .before .before in
     let inv = at-loop .loop .inv in
     let on = row-there (start .args .c .now) (at-loop .loop .i) (start .args .row) (inv .0) (omega (arith, inv .1, inv .2)) (start .pre .2) in
-    let e = row-end-next (start .args .c .now) (at-loop .loop .i) on (sym (c .before .before .is-end .ensures) ∙ c .before .if1 .taken) in
-    (omega (arith, on), omega (arith, e, inv .1), omega (arith, c .if2 .left, inv .2))
+    let by-row-end-next = row-end-next (start .args .c .now) (at-loop .loop .i) on (sym (c .before .before .is-end .ensures) ∙ c .before .if1 .taken) in
+    (omega (arith, on), omega (arith, by-row-end-next, inv .1), omega (arith, c .if2 .left, inv .2))
 
 -- a character
 add-i-2 : tie.Need-add-i-2 Inv-loop μ-loop
@@ -74,8 +74,8 @@ loop-again-2 c =
     let start = at-loop .before .before in
     let inv = at-loop .loop .inv in
     let on = row-there (start .args .c .now) (at-loop .loop .i) (start .args .row) (inv .0) (omega (arith, inv .1, inv .2)) (start .pre .2) in
-    let e = row-char-next (start .args .c .now) (at-loop .loop .i) on (sym (c .before .is-end .ensures) ∙ c .if1 .left) in
-    (omega (arith, on), omega (arith, e, inv .1), inv .2)
+    let by-row-char-next = row-char-next (start .args .c .now) (at-loop .loop .i) on (sym (c .before .is-end .ensures) ∙ c .if1 .left) in
+    (omega (arith, on), omega (arith, by-row-char-next, inv .1), inv .2)
 
 pub row-end-spec : {M : Type 1} → statement M
 row-end-spec =

@@ -17,7 +17,7 @@ abbrev μ-loop : tie.MeasureT-loop
 μ-loop c row r₀ i₀ r i = i
 
 loop-holds : tie.Need-loop-holds Inv-loop μ-loop
-loop-holds c = let p = c .before .pre in (p .0 .within, p .0 .row-is, p .1)
+loop-holds c = let required = c .before .pre in (required .0 .within, required .0 .row-is, required .1)
 
 -- the end of the row before
 returns : tie.Need-returns Inv-loop μ-loop
@@ -38,9 +38,9 @@ loop-again c =
     let at-loop = in-loop .before in
     let start = at-loop .before .before in
     let inv = at-loop .loop .inv in
-    let e = row-end-prev (start .args .c .now) (at-loop .loop .i) (in-loop .loop-test .taken) (inv .0)
+    let by-row-end-prev = row-end-prev (start .args .c .now) (at-loop .loop .i) (in-loop .loop-test .taken) (inv .0)
     (sym (c .before .before .is-end .ensures) ∙ c .before .if1 .taken) in
-    (omega (arith, inv .0), omega (arith, e, inv .1), omega (arith, c .if2 .left, inv .2))
+    (omega (arith, inv .0), omega (arith, by-row-end-prev, inv .1), omega (arith, c .if2 .left, inv .2))
 
 -- a character
 loop-again-2 : tie.Need-loop-again-2 Inv-loop μ-loop
@@ -49,9 +49,9 @@ loop-again-2 c =
     let at-loop = in-loop .before in
     let start = at-loop .before .before in
     let inv = at-loop .loop .inv in
-    let e = row-char-prev (start .args .c .now) (at-loop .loop .i) (in-loop .loop-test .taken) (inv .0)
+    let by-row-char-prev = row-char-prev (start .args .c .now) (at-loop .loop .i) (in-loop .loop-test .taken) (inv .0)
     (sym (c .before .is-end .ensures) ∙ c .if1 .left) in
-    (omega (arith, inv .0), omega (arith, e, inv .1), inv .2)
+    (omega (arith, inv .0), omega (arith, by-row-char-prev, inv .1), inv .2)
 
 -- the text's first place, which is in row 0
 returns-2 : tie.Need-returns-2 Inv-loop μ-loop
@@ -59,9 +59,9 @@ returns-2 c =
     let at-loop = c .before in
     let start = at-loop .before .before in
     let inv = at-loop .loop .inv in
-    let z : at-loop .loop .i ≡ 0 = omega (arith, c .loop-test .left) in
-    let first : rowOf (start .args .c .now) (at-loop .loop .i) ≡ 0 = rw z (row-first (start .args .c .now)) in
-    start-first (start .args .c .now) (start .args .row) (at-loop .loop .i) z (omega (arith, first, inv .1, inv .2))
+    let i-is : at-loop .loop .i ≡ 0 = omega (arith, c .loop-test .left) in
+    let first : rowOf (start .args .c .now) (at-loop .loop .i) ≡ 0 = rw i-is (row-first (start .args .c .now)) in
+    start-first (start .args .c .now) (start .args .row) (at-loop .loop .i) i-is (omega (arith, first, inv .1, inv .2))
 
 pub row-start-spec : {M : Type 1} → statement M
 row-start-spec =

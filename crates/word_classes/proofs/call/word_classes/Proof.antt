@@ -17,9 +17,9 @@ returns : tie.Need-returns
 returns c =
     let at-text = c .before in
     let given = at-text .before .before .before .before .args in
-    let e = at-text .text-refusal .ensures in
-    let q = e ∙ by-text (given .t .now) (given .list .now) (given .classes .now) (λ z. c .if1 .taken (e ∙ z)) in
-    (count-refused q _ (c .if1 .taken), slice-kept q (given .t .now) (given .list .now) (given .classes .now) (c .if1 .taken))
+    let text-refusal-told = at-text .text-refusal .ensures in
+    let text-told = text-refusal-told ∙ by-text (given .t .now) (given .list .now) (given .classes .now) (λ z. c .if1 .taken (text-refusal-told ∙ z)) in
+    (count-refused text-told _ (c .if1 .taken), slice-kept text-told (given .t .now) (given .list .now) (given .classes .now) (c .if1 .taken))
 
 -- the list
 returns-2 : tie.Need-returns-2
@@ -28,10 +28,11 @@ returns-2 c =
     let at-test = at-parse .before in
     let at-text = at-test .before in
     let given = at-text .before .before .before .before .args in
-    let p = ap (λ (x : Parsed). x .refusal) (at-parse .parse .ensures) in
-    let q = p ∙ by-list (given .t .now) (given .list .now) (given .classes .now) (sym (at-text .text-refusal .ensures) ∙ at-test .if1 .left)
-    (λ z. c .if2 .taken (p ∙ z)) in
-    (count-refused q _ (c .if2 .taken), slice-kept q (given .t .now) (given .list .now) (given .classes .now) (c .if2 .taken))
+    let same-refusal = ap (λ (x : Parsed). x .refusal) (at-parse .parse .ensures) in
+    let text-refusal-is = same-refusal
+    ∙ by-list (given .t .now) (given .list .now) (given .classes .now) (sym (at-text .text-refusal .ensures) ∙ at-test .if1 .left)
+    (λ z. c .if2 .taken (same-refusal ∙ z)) in
+    (count-refused text-refusal-is _ (c .if2 .taken), slice-kept text-refusal-is (given .t .now) (given .list .now) (given .classes .now) (c .if2 .taken))
 
 -- the places
 returns-3 : tie.Need-returns-3
@@ -42,10 +43,10 @@ returns-3 c =
     let at-test = at-parse .before in
     let at-text = at-test .before in
     let given = at-text .before .before .before .before .args in
-    let p = ap (λ (x : Parsed). x .refusal) (at-parse .parse .ensures) in
-    let q = at-places .places-refusal .ensures ∙ by-places (given .t .now) (given .list .now) (given .classes .now)
-    (sym (at-text .text-refusal .ensures) ∙ at-test .if1 .left) (sym p ∙ at-list .if2 .left) in
-    (count-refused q _ (c .if3 .taken), slice-kept q (given .t .now) (given .list .now) (given .classes .now) (c .if3 .taken))
+    let same-refusal = ap (λ (x : Parsed). x .refusal) (at-parse .parse .ensures) in
+    let places-refusal-is = at-places .places-refusal .ensures ∙ by-places (given .t .now) (given .list .now) (given .classes .now)
+    (sym (at-text .text-refusal .ensures) ∙ at-test .if1 .left) (sym same-refusal ∙ at-list .if2 .left) in
+    (count-refused places-refusal-is _ (c .if3 .taken), slice-kept places-refusal-is (given .t .now) (given .list .now) (given .classes .now) (c .if3 .taken))
 
 write-classes-requires : tie.Need-write-classes-requires
 write-classes-requires c κs =
@@ -71,12 +72,12 @@ returns-4 c =
     let at-test = at-parse .before in
     let at-text = at-test .before in
     let given = at-text .before .before .before .before .args in
-    let p = ap (λ (x : Parsed). x .refusal) (at-parse .parse .ensures) in
-    let q = at-places .places-refusal .ensures ∙ by-places (given .t .now) (given .list .now) (given .classes .now)
-    (sym (at-text .text-refusal .ensures) ∙ at-test .if1 .left) (sym p ∙ at-list .if2 .left) in
+    let same-refusal = ap (λ (x : Parsed). x .refusal) (at-parse .parse .ensures) in
+    let places-refusal-is = at-places .places-refusal .ensures ∙ by-places (given .t .now) (given .list .now) (given .classes .now)
+    (sym (at-text .text-refusal .ensures) ∙ at-test .if1 .left) (sym same-refusal ∙ at-list .if2 .left) in
     let kept-is = parse-kept (given .list .now) (at-parse .parse .result) (at-parse .parse .ensures) (at-list .if2 .left) in (
-      count-made q _ (at-last .if3 .left),
-      slice-written q (given .t .now) (given .list .now) (given .classes .now) _ (at-last .if3 .left)
+      count-made places-refusal-is _ (at-last .if3 .left),
+      slice-written places-refusal-is (given .t .now) (given .list .now) (given .classes .now) _ (at-last .if3 .left)
           (at-write .write-classes .ensures ∙ ap (λ (ts : List Token). holding (classesOf (anyToken ts) (given .t .now)) (given .classes .now)) kept-is),
     )
 

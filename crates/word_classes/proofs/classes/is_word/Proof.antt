@@ -26,7 +26,7 @@ returns-2 : tie.Need-returns-2
 returns-2 c =
     let at-call = c .before .before .before in
     let start = at-call .before in
-    let z : _≡_ {A = ℕ} 0 1 =
+    let never : _≡_ {A = ℕ} 0 1 =
     cc (sym (c .before .f .given .1) ∙ at-call .matches .ensures ∙ answered (start .args .spec) (start .args .x) (start .pre .0) (start .pre .1)) in
     absurd (omega arith)
 

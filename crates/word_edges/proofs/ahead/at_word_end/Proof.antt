@@ -13,19 +13,26 @@ returns c = rw (← c .before .cls .ensures, eq-eqb _ _ (c .if1 .taken))
 
 cls-requires-2 : tie.Need-cls-requires-2
 cls-requires-2 c κs =
-    let b6 = c .before .before .before .before .before .before in
-    let w = b6 .pre in
-    let h = class-there (b6 .args .t .now) (b6 .args .p) (w .spot) _ (λ z. c .before .if1 .left (c .before .before .cls .ensures ∙ z)) in
-    (w .lent, char-spot (b6 .args .t .now) (b6 .args .p) (w .spot) (h .0) (h .1))
+    let at-start = c .before .before .before .before .before .before in
+    let required = at-start .pre in
+    let by-class-there = class-there (at-start .args .t .now) (at-start .args .p) (required .spot) _
+    (λ z. c .before .if1 .left (c .before .before .cls .ensures ∙ z)) in
+    (required .lent, char-spot (at-start .args .t .now) (at-start .args .p) (required .spot) (by-class-there .0) (by-class-there .1))
 
 returns-2 : tie.Need-returns-2
 unfolding atWordEnd
 returns-2 c =
-    let b3 = c .before .before .before in
-    let b7 = b3 .before .before .before .before in
-    let w = b7 .pre in
-    let h = class-there (b7 .args .t .now) (b7 .args .p) (w .spot) _ (λ z. c .before .before .if1 .left (b3 .cls .ensures ∙ z)) in
-    rw (← b3 .cls .ensures, ne-eqb _ _ (c .before .before .if1 .left), ← char-col (b7 .args .t .now) (b7 .args .p) (w .spot) (h .0) (h .1), ← c .cls2 .ensures)
+    let at-cls = c .before .before .before in
+    let at-start = at-cls .before .before .before .before in
+    let required = at-start .pre in
+    let by-class-there = class-there (at-start .args .t .now) (at-start .args .p) (required .spot) _
+    (λ z. c .before .before .if1 .left (at-cls .cls .ensures ∙ z)) in
+    rw (
+      ← at-cls .cls .ensures,
+      ne-eqb _ _ (c .before .before .if1 .left),
+      ← char-col (at-start .args .t .now) (at-start .args .p) (required .spot) (by-class-there .0) (by-class-there .1),
+      ← c .cls2 .ensures,
+    )
 
 pub at-word-end-spec : {M : Type 1} → statement M
 at-word-end-spec =

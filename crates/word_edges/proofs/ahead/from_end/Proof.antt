@@ -11,40 +11,43 @@ use Rattle.word_edges.proofs.ahead.from_end.Tie as tie
 
 returns : tie.Need-returns
 returns c =
-    let s = c .before .before .before .before .before .before in (
+    let at-start = c .before .before .before .before .before .before in (
       c .over-space .ensures .0 ∙ sym
-          (from-end-small s.args.t.now (kindBy s.args.bounds.now s.args.s) s.args.s.big (placeOf s.args.t.now s.args.p)
+          (from-end-small at-start.args.t.now (kindBy at-start.args.bounds.now at-start.args.s) at-start.args.s.big
+          (placeOf at-start.args.t.now at-start.args.p)
           (not-true _ (c .before .if1 .taken))),
       c .over-space .ensures .1,
     )
 
 over-space-requires-2 : tie.Need-over-space-requires-2
 over-space-requires-2 c κs =
-    let b3 = c .before .before .before in
-    let s = b3 .before .before .before .before .before .before in
-    let q = c .before .q .given in
-    ready-at s.pre _ (done-in s.args.t.now (q .0 .0) (q .1) (b3 .skip .ensures .1))
+    let at-skip = c .before .before .before in
+    let at-start = at-skip .before .before .before .before .before .before in
+    let found = c .before .q .given in
+    ready-at at-start.pre _ (done-in at-start.args.t.now (found .0 .0) (found .1) (at-skip .skip .ensures .1))
 
 returns-2 : tie.Need-returns-2
 returns-2 c =
-    let b4 = c .before .before .before .before in
-    let b5 = b4 .before in
-    let s = b5 .before .before .before .before .before in
-    let q = c .before .before .q .given in (
+    let at-skip = c .before .before .before .before in
+    let at-if1 = at-skip .before in
+    let at-start = at-if1 .before .before .before .before .before in
+    let found = c .before .before .q .given in (
       c .over-space2 .ensures .0 ∙ sym
-          (from-end-onto s.args.t.now (kindBy s.args.bounds.now s.args.s) s.args.s.big (placeOf s.args.t.now s.args.p) _
-          (not-false _ (b5 .if1 .left)) (halt-done s.args.t.now (q .0 .0) (q .1) (b4 .skip .ensures .0))),
+          (from-end-onto at-start.args.t.now (kindBy at-start.args.bounds.now at-start.args.s) at-start.args.s.big
+          (placeOf at-start.args.t.now at-start.args.p) _
+          (not-false _ (at-if1 .if1 .left)) (halt-done at-start.args.t.now (found .0 .0) (found .1) (at-skip .skip .ensures .0))),
       c .over-space2 .ensures .1,
     )
 
 returns-3 : tie.Need-returns-3
 returns-3 c =
-    let b3 = c .before .before .before in
-    let b4 = b3 .before in
-    let s = b4 .before .before .before .before .before in
-    let q2 = c .before .q2 .given in (
-      sym (from-end-stuck s.args.t.now (kindBy s.args.bounds.now s.args.s) s.args.s.big (placeOf s.args.t.now s.args.p) _
-          (not-false _ (b4 .if1 .left)) (halt-stood s.args.t.now (q2 .0 .0) (q2 .1) (b3 .skip .ensures .0))),
+    let at-skip = c .before .before .before in
+    let at-if1 = at-skip .before in
+    let at-start = at-if1 .before .before .before .before .before in
+    let q2-given = c .before .q2 .given in (
+      sym (from-end-stuck at-start.args.t.now (kindBy at-start.args.bounds.now at-start.args.s) at-start.args.s.big
+          (placeOf at-start.args.t.now at-start.args.p) _
+          (not-false _ (at-if1 .if1 .left)) (halt-stood at-start.args.t.now (q2-given .0 .0) (q2-given .1) (at-skip .skip .ensures .0))),
       tt,
     )
 

@@ -8,24 +8,24 @@ use Rattle.word_edges.proofs.ahead.next_word_end.Tie as tie
 
 run-from-requires : tie.Need-run-from-requires
 run-from-requires c κs =
-    let b3 = c .before .before .before in
-    let s = b3 .before .before .before .before in
-    let q = c .before .q .given in
-    ready-at s.pre _ (step-in s.args.t.now (q .0 .0) (q .1) (b3 .step-forward .ensures .1) .0)
+    let at-step-forward = c .before .before .before in
+    let at-start = at-step-forward .before .before .before .before in
+    let found = c .before .q .given in
+    ready-at at-start.pre _ (step-in at-start.args.t.now (found .0 .0) (found .1) (at-step-forward .step-forward .ensures .1) .0)
 
 returns : tie.Need-returns
 unfolding nextWordEnd
 returns c =
-    let b4 = c .before .before .before .before in
-    let s = b4 .before .before .before .before in
-    let q = c .before .before .q .given in
-    (rw (went-to s.args.t.now (q .0 .0) (q .1) (b4 .step-forward .ensures .0)) (c .run-from .ensures .0), c .run-from .ensures .1)
+    let at-step-forward = c .before .before .before .before in
+    let at-start = at-step-forward .before .before .before .before in
+    let found = c .before .before .q .given in
+    (rw (went-to at-start.args.t.now (found .0 .0) (found .1) (at-step-forward .step-forward .ensures .0)) (c .run-from .ensures .0), c .run-from .ensures .1)
 
 returns-2 : tie.Need-returns-2
 unfolding nextWordEnd
 returns-2 c =
-    let s = c .before .before .before .before .before .before in
-    (rw (went-nowhere s.args.t.now (c .enum-told .given .1) (c .before .before .step-forward .ensures .0)), tt)
+    let at-start = c .before .before .before .before .before .before in
+    (rw (went-nowhere at-start.args.t.now (c .enum-told .given .1) (c .before .before .step-forward .ensures .0)), tt)
 
 pub next-word-end-spec : {M : Type 1} → statement M
 next-word-end-spec =

@@ -11,20 +11,24 @@ use Rattle.word_edges.proofs.ahead.next_word_start.Tie as tie
 
 from-end-requires : tie.Need-from-end-requires
 from-end-requires c κs =
-    let b3 = c .before .before .before in
-    let s = b3 .before .before .before .before .before .before in
-    let q = c .before .q .given in
-    ready-at s.pre _ (step-in s.args.t.now (q .0 .0) (q .1) (b3 .step-forward .ensures .1) .0)
+    let at-step-forward = c .before .before .before in
+    let at-start = at-step-forward .before .before .before .before .before .before in
+    let found = c .before .q .given in
+    ready-at at-start.pre _ (step-in at-start.args.t.now (found .0 .0) (found .1) (at-step-forward .step-forward .ensures .1) .0)
 
 returns : tie.Need-returns
 unfolding nextWordStart
 returns c =
-    let b4 = c .before .before .before .before in
-    let b5 = b4 .before in
-    let b6 = b5 .before in
-    let s = b6 .before .before .before .before in
-    let q = c .before .before .q .given in (
-      rw (← b6 .kind-at .ensures, eq-eqb _ _ (b5 .if1 .taken), went-to s.args.t.now (q .0 .0) (q .1) (b4 .step-forward .ensures .0))
+    let at-step-forward = c .before .before .before .before in
+    let at-if1 = at-step-forward .before in
+    let at-kind-at = at-if1 .before in
+    let at-start = at-kind-at .before .before .before .before in
+    let found = c .before .before .q .given in (
+      rw (
+        ← at-kind-at .kind-at .ensures,
+        eq-eqb _ _ (at-if1 .if1 .taken),
+        went-to at-start.args.t.now (found .0 .0) (found .1) (at-step-forward .step-forward .ensures .0),
+      )
           (c .from-end .ensures .0),
       c .from-end .ensures .1,
     )
@@ -32,13 +36,13 @@ returns c =
 returns-2 : tie.Need-returns-2
 unfolding nextWordStart
 returns-2 c =
-    let b3 = c .before .before .before in
-    let b4 = b3 .before in
-    let s = b4 .before .before .before .before in (
+    let at-if1 = c .before .before .before in
+    let at-kind-at = at-if1 .before in
+    let at-start = at-kind-at .before .before .before .before in (
       rw (
-        ← b4 .kind-at .ensures,
-        eq-eqb _ _ (b3 .if1 .taken),
-        went-nowhere s.args.t.now (c .enum-told .given .1)
+        ← at-kind-at .kind-at .ensures,
+        eq-eqb _ _ (at-if1 .if1 .taken),
+        went-nowhere at-start.args.t.now (c .enum-told .given .1)
             (c .before .before .step-forward .ensures .0),
       ),
       tt,
@@ -46,20 +50,24 @@ returns-2 c =
 
 over-space-requires : tie.Need-over-space-requires
 over-space-requires c κs =
-    let b3 = c .before .before .before in
-    let s = b3 .before .before .before .before .before .before in
-    let q2 = c .before .q2 .given in
-    ready-at s.pre _ (done-in s.args.t.now (q2 .0 .0) (q2 .1) (b3 .leave .ensures .1))
+    let at-leave = c .before .before .before in
+    let at-start = at-leave .before .before .before .before .before .before in
+    let q2-given = c .before .q2 .given in
+    ready-at at-start.pre _ (done-in at-start.args.t.now (q2-given .0 .0) (q2-given .1) (at-leave .leave .ensures .1))
 
 returns-3 : tie.Need-returns-3
 unfolding nextWordStart
 returns-3 c =
-    let b4 = c .before .before .before .before in
-    let b5 = b4 .before in
-    let b6 = b5 .before in
-    let s = b6 .before .before .before .before in
-    let q2 = c .before .before .q2 .given in (
-      rw (← b6 .kind-at .ensures, ne-eqb _ _ (b5 .if1 .left), halt-done s.args.t.now (q2 .0 .0) (q2 .1) (b4 .leave .ensures .0))
+    let at-leave = c .before .before .before .before in
+    let at-if1 = at-leave .before in
+    let at-kind-at = at-if1 .before in
+    let at-start = at-kind-at .before .before .before .before in
+    let q2-given = c .before .before .q2 .given in (
+      rw (
+        ← at-kind-at .kind-at .ensures,
+        ne-eqb _ _ (at-if1 .if1 .left),
+        halt-done at-start.args.t.now (q2-given .0 .0) (q2-given .1) (at-leave .leave .ensures .0),
+      )
           (c .over-space .ensures .0),
       c .over-space .ensures .1,
     )
@@ -67,12 +75,16 @@ returns-3 c =
 returns-4 : tie.Need-returns-4
 unfolding nextWordStart
 returns-4 c =
-    let b4 = c .before .before .before .before in
-    let b5 = b4 .before in
-    let b6 = b5 .before in
-    let s = b6 .before .before .before .before in
-    let q3 = c .before .before .q3 .given in (
-      rw (← b6 .kind-at .ensures, ne-eqb _ _ (b5 .if1 .left), halt-stood s.args.t.now (q3 .0 .0) (q3 .1) (b4 .leave .ensures .0))
+    let at-leave = c .before .before .before .before in
+    let at-if1 = at-leave .before in
+    let at-kind-at = at-if1 .before in
+    let at-start = at-kind-at .before .before .before .before in
+    let q3-given = c .before .before .q3 .given in (
+      rw (
+        ← at-kind-at .kind-at .ensures,
+        ne-eqb _ _ (at-if1 .if1 .left),
+        halt-stood at-start.args.t.now (q3-given .0 .0) (q3-given .1) (at-leave .leave .ensures .0),
+      )
           (ap To (c .end-of-buffer .ensures .0)),
       c .end-of-buffer .ensures .1,
     )

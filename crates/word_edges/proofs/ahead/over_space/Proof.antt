@@ -8,17 +8,21 @@ use Rattle.word_edges.proofs.ahead.over_space.Tie as tie
 
 returns : tie.Need-returns
 returns c =
-    let b3 = c .before .before .before in
-    let s = b3 .before .before .before .before in
-    let q = c .before .q .given in
-    (rw (halt-done s.args.t.now (q .0 .0) (q .1) (b3 .skip .ensures .0)), done-in s.args.t.now (q .0 .0) (q .1) (b3 .skip .ensures .1))
+    let at-skip = c .before .before .before in
+    let at-start = at-skip .before .before .before .before in
+    let found = c .before .q .given in (
+      rw (halt-done at-start.args.t.now (found .0 .0) (found .1) (at-skip .skip .ensures .0)),
+      done-in at-start.args.t.now (found .0 .0) (found .1) (at-skip .skip .ensures .1),
+    )
 
 returns-2 : tie.Need-returns-2
 returns-2 c =
-    let b4 = c .before .before .before .before in
-    let s = b4 .before .before .before .before in
-    let q2 = c .before .before .q2 .given in
-    (rw (halt-stood s.args.t.now (q2 .0 .0) (q2 .1) (b4 .skip .ensures .0)) (ap To (c .end-of-buffer .ensures .0)), c .end-of-buffer .ensures .1)
+    let at-skip = c .before .before .before .before in
+    let at-start = at-skip .before .before .before .before in
+    let q2-given = c .before .before .q2 .given in (
+      rw (halt-stood at-start.args.t.now (q2-given .0 .0) (q2-given .1) (at-skip .skip .ensures .0)) (ap To (c .end-of-buffer .ensures .0)),
+      c .end-of-buffer .ensures .1,
+    )
 
 pub over-space-spec : {M : Type 1} → statement M
 over-space-spec =

@@ -6,21 +6,23 @@ use Rattle.word_edges.proofs.ahead.run_end.Tie as tie
 
 returns : tie.Need-returns
 returns c =
-    let b3 = c .before .before .before in
-    let b4 = b3 .before in
-    let s = b4 .before .before .before .before in
-    let q = c .before .q .given in
-    (rw (← b4 .kind-at .ensures, halt-done s.args.t.now (q .0 .0) (q .1) (b3 .run .ensures .0)), done-in s.args.t.now (q .0 .0) (q .1) (b3 .run .ensures .1))
+    let at-run = c .before .before .before in
+    let at-kind-at = at-run .before in
+    let at-start = at-kind-at .before .before .before .before in
+    let found = c .before .q .given in (
+      rw (← at-kind-at .kind-at .ensures, halt-done at-start.args.t.now (found .0 .0) (found .1) (at-run .run .ensures .0)),
+      done-in at-start.args.t.now (found .0 .0) (found .1) (at-run .run .ensures .1),
+    )
 
 returns-2 : tie.Need-returns-2
 returns-2 c =
-    let b3 = c .before .before .before in
-    let b4 = b3 .before in
-    let s = b4 .before .before .before .before in
-    let q2 = c .before .q2 .given in (
-      rw (← b4 .kind-at .ensures, halt-stood s.args.t.now (q2 .0 .0) (q2 .1) (b3 .run .ensures .0)),
-      stood-in s.args.t.now (q2 .0 .0) (q2 .1)
-          (b3 .run .ensures .1),
+    let at-run = c .before .before .before in
+    let at-kind-at = at-run .before in
+    let at-start = at-kind-at .before .before .before .before in
+    let q2-given = c .before .q2 .given in (
+      rw (← at-kind-at .kind-at .ensures, halt-stood at-start.args.t.now (q2-given .0 .0) (q2-given .1) (at-run .run .ensures .0)),
+      stood-in at-start.args.t.now (q2-given .0 .0) (q2-given .1)
+          (at-run .run .ensures .1),
     )
 
 pub run-end-spec : {M : Type 1} → statement M

@@ -9,40 +9,40 @@ use Rattle.word_edges.proofs.behind.prev_word_end.Tie as tie
 
 back-over-space-requires : tie.Need-back-over-space-requires
 back-over-space-requires c κs =
-    let b4 = c .before .before .before .before in
-    let s = b4 .before .before .before .before .before in
-    let q = c .before .before .q .given in
-    ready-at s.pre _ (step-in s.args.t.now (q .0 .0) (q .1) (b4 .dec .ensures .1) .0)
+    let at-dec = c .before .before .before .before in
+    let at-start = at-dec .before .before .before .before .before in
+    let found = c .before .before .q .given in
+    ready-at at-start.pre _ (step-in at-start.args.t.now (found .0 .0) (found .1) (at-dec .dec .ensures .1) .0)
 
 returns : tie.Need-returns
 unfolding prevWordEnd
 returns c =
-    let b3 = c .before .before .before in
-    let b5 = b3 .before .before in
-    let b6 = b5 .before in
-    let s = b6 .before .before .before .before in
-    let q = b3 .q .given in (
-      rw (went-to s.args.t.now (q .0 .0) (q .1) (b5 .dec .ensures .0), ← b6 .cls .ensures, eq-eqb _ _ (c .before .if1 .taken))
+    let at-q = c .before .before .before in
+    let at-dec = at-q .before .before in
+    let at-cls = at-dec .before in
+    let at-start = at-cls .before .before .before .before in
+    let found = at-q .q .given in (
+      rw (went-to at-start.args.t.now (found .0 .0) (found .1) (at-dec .dec .ensures .0), ← at-cls .cls .ensures, eq-eqb _ _ (c .before .if1 .taken))
           (c .back-over-space .ensures .0),
       c .back-over-space .ensures .1,
     )
 
 end-from-requires : tie.Need-end-from-requires
 end-from-requires c κs =
-    let b4 = c .before .before .before .before in
-    let s = b4 .before .before .before .before .before in
-    let q = c .before .before .q .given in
-    ready-at s.pre _ (step-in s.args.t.now (q .0 .0) (q .1) (b4 .dec .ensures .1) .0)
+    let at-dec = c .before .before .before .before in
+    let at-start = at-dec .before .before .before .before .before in
+    let found = c .before .before .q .given in
+    ready-at at-start.pre _ (step-in at-start.args.t.now (found .0 .0) (found .1) (at-dec .dec .ensures .1) .0)
 
 returns-2 : tie.Need-returns-2
 unfolding prevWordEnd
 returns-2 c =
-    let b3 = c .before .before .before in
-    let b5 = b3 .before .before in
-    let b6 = b5 .before in
-    let s = b6 .before .before .before .before in
-    let q = b3 .q .given in (
-      rw (went-to s.args.t.now (q .0 .0) (q .1) (b5 .dec .ensures .0), ← b6 .cls .ensures, ne-eqb _ _ (c .before .if1 .left))
+    let at-q = c .before .before .before in
+    let at-dec = at-q .before .before in
+    let at-cls = at-dec .before in
+    let at-start = at-cls .before .before .before .before in
+    let found = at-q .q .given in (
+      rw (went-to at-start.args.t.now (found .0 .0) (found .1) (at-dec .dec .ensures .0), ← at-cls .cls .ensures, ne-eqb _ _ (c .before .if1 .left))
           (c .end-from .ensures .0),
       c .end-from .ensures .1,
     )
@@ -50,8 +50,8 @@ returns-2 c =
 returns-3 : tie.Need-returns-3
 unfolding prevWordEnd
 returns-3 c =
-    let s = c .before .before .before .before .before .before .before in
-    (rw (went-nowhere s.args.t.now (c .enum-told .given .1) (c .before .before .dec .ensures .0)), tt)
+    let at-start = c .before .before .before .before .before .before .before in
+    (rw (went-nowhere at-start.args.t.now (c .enum-told .given .1) (c .before .before .dec .ensures .0)), tt)
 
 pub prev-word-end-spec : {M : Type 1} → statement M
 prev-word-end-spec =

@@ -16,16 +16,16 @@ returns-2 c = rw (sym (c .before .before .is-white .ensures) ∙ c .before .if1 
 returns-3 : tie.Need-returns-3
 unfolding kindOf
 returns-3 c =
-    let b3 = c .before .before .before in
-    let b4 = b3 .before in
-    rw (sym (b4 .is-white .ensures) ∙ b3 .if1 .left, c .before .before .if2 .left, sym (c .before .is-word .ensures) ∙ c .if3 .taken)
+    let at-if1 = c .before .before .before in
+    let at-is-white = at-if1 .before in
+    rw (sym (at-is-white .is-white .ensures) ∙ at-if1 .if1 .left, c .before .before .if2 .left, sym (c .before .is-word .ensures) ∙ c .if3 .taken)
 
 returns-4 : tie.Need-returns-4
 unfolding kindOf
 returns-4 c =
-    let b3 = c .before .before .before in
-    let b4 = b3 .before in
-    rw (sym (b4 .is-white .ensures) ∙ b3 .if1 .left, c .before .before .if2 .left, sym (c .before .is-word .ensures) ∙ c .if3 .left)
+    let at-if1 = c .before .before .before in
+    let at-is-white = at-if1 .before in
+    rw (sym (at-is-white .is-white .ensures) ∙ at-if1 .if1 .left, c .before .before .if2 .left, sym (c .before .is-word .ensures) ∙ c .if3 .left)
 
 pub char-kind-spec : {M : Type 1} → statement M
 char-kind-spec =

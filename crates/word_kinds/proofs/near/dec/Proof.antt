@@ -7,26 +7,26 @@ use Rattle.word_kinds.proofs.near.dec.Tie as tie
 
 returns : tie.Need-returns
 returns c =
-    let s = c .before in
-    (back-none s.args.t.now s.args.p s.pre (c .if1 .taken), tt)
+    let at-start = c .before in
+    (back-none at-start.args.t.now at-start.args.p at-start.pre (c .if1 .taken), tt)
 
 -- a separator before the place: its row is not the first
 sub-t10 : tie.Need-sub-t10
 sub-t10 c =
-    let s = c .before .before .before in
-    back-row s.args.t.now s.args.p s.pre (omega (arith, c .before .before .if1 .left)) (c .if2 .taken) .0
+    let at-start = c .before .before .before in
+    back-row at-start.args.t.now at-start.args.p at-start.pre (omega (arith, c .before .before .if1 .left)) (c .if2 .taken) .0
 
 returns-2 : tie.Need-returns-2
 returns-2 c =
-    let s = c .before .before .before in
-    let b = back-row s.args.t.now s.args.p s.pre (omega (arith, c .before .before .if1 .left)) (c .if2 .taken) in
-    (b .1, (b .2, omega arith, omega (arith, c .before .before .if1 .left)))
+    let at-start = c .before .before .before in
+    let by-back-row = back-row at-start.args.t.now at-start.args.p at-start.pre (omega (arith, c .before .before .if1 .left)) (c .if2 .taken) in
+    (by-back-row .1, (by-back-row .2, omega arith, omega (arith, c .before .before .if1 .left)))
 
 returns-3 : tie.Need-returns-3
 returns-3 c =
-    let s = c .before .before .before in
-    let b = back-char s.args.t.now s.args.p s.pre (omega (arith, c .before .before .if1 .left)) (c .if2 .left) in
-    (b .0, (b .1, omega arith, omega (arith, c .before .before .if1 .left)))
+    let at-start = c .before .before .before in
+    let by-back-char = back-char at-start.args.t.now at-start.args.p at-start.pre (omega (arith, c .before .before .if1 .left)) (c .if2 .left) in
+    (by-back-char .0, (by-back-char .1, omega arith, omega (arith, c .before .before .if1 .left)))
 
 pub dec-spec : {M : Type 1} → statement M
 dec-spec =

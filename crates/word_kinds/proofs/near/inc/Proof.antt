@@ -8,23 +8,23 @@ use Rattle.word_kinds.proofs.near.inc.Tie as tie
 
 returns : tie.Need-returns
 returns c =
-    let s = c .before .before in
-    (end-inc s.args.t.now s.args.p s.pre (c .if1 .taken), tt)
+    let at-start = c .before .before in
+    (end-inc at-start.args.t.now at-start.args.p at-start.pre (c .if1 .taken), tt)
 
 returns-2 : tie.Need-returns-2
 returns-2 c =
-    let b3 = c .before .before .before in
-    let b5 = b3 .before .before in
-    let s = b5 in
-    (c .next-row .ensures .0 ∙ nl-inc s.args.t.now s.args.p s.pre (omega (arith, b3 .if1 .left)) (c .before .if2 .taken), c .next-row .ensures .1)
+    let at-if1 = c .before .before .before in
+    let at-start = at-if1 .before .before in (
+      c .next-row .ensures .0 ∙ nl-inc at-start.args.t.now at-start.args.p at-start.pre (omega (arith, at-if1 .if1 .left)) (c .before .if2 .taken),
+      c .next-row .ensures .1,
+    )
 
 returns-3 : tie.Need-returns-3
 returns-3 c =
-    let b4 = c .before .before .before .before in
-    let s = b4 in
-    let h = c .before .before .if1 .left in (
-      char-inc s.args.t.now s.args.p s.pre (omega (arith, h)) (c .if2 .left),
-      (char-spot s.args.t.now s.args.p s.pre (omega (arith, h)) (c .if2 .left), omega arith, omega (arith, h)),
+    let at-start = c .before .before .before .before in
+    let left = c .before .before .if1 .left in (
+      char-inc at-start.args.t.now at-start.args.p at-start.pre (omega (arith, left)) (c .if2 .left),
+      (char-spot at-start.args.t.now at-start.args.p at-start.pre (omega (arith, left)) (c .if2 .left), omega arith, omega (arith, left)),
     )
 
 pub inc-spec : {M : Type 1} → statement M

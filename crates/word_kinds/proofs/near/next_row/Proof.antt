@@ -7,14 +7,14 @@ use Rattle.word_kinds.proofs.near.next_row.Tie as tie
 
 returns : tie.Need-returns
 returns c =
-    let s = c .before in
-    let n = next-yes s.args.t.now s.args.row s.args.end s.pre (c .if1 .taken) in
-    (n .0, (n .1, omega arith, omega arith))
+    let at-start = c .before in
+    let by-next-yes = next-yes at-start.args.t.now at-start.args.row at-start.args.end at-start.pre (c .if1 .taken) in
+    (by-next-yes .0, (by-next-yes .1, omega arith, omega arith))
 
 returns-2 : tie.Need-returns-2
 returns-2 c =
-    let s = c .before in
-    (next-no s.args.t.now s.args.row s.args.end s.pre (c .if1 .left), tt)
+    let at-start = c .before in
+    (next-no at-start.args.t.now at-start.args.row at-start.args.end at-start.pre (c .if1 .left), tt)
 
 pub next-row-spec : {M : Type 1} → statement M
 next-row-spec =

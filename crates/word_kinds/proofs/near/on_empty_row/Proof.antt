@@ -14,15 +14,16 @@ returns c = rw (sym (c .before .starts-row .ensures) ∙ not-true _ (c .if1 .tak
 
 returns-2 : tie.Need-returns-2
 returns-2 c =
-    let s = c .before .before .before .before in
-    end-empty s.args.t.now s.args.p s.pre (c .if2 .taken) (eqb-true _ _ (sym (c .before .before .starts-row .ensures) ∙ not-false _ (c .before .if1 .left)))
+    let at-start = c .before .before .before .before in
+    end-empty at-start.args.t.now at-start.args.p at-start.pre (c .if2 .taken)
+    (eqb-true _ _ (sym (c .before .before .starts-row .ensures) ∙ not-false _ (c .before .if1 .left)))
 
 returns-3 : tie.Need-returns-3
 returns-3 c =
-    let b3 = c .before .before .before in
-    let b5 = b3 .before .before in
-    let s = b5 in
-    empty-row s.args.t.now s.args.p s.pre _ (eqb-true _ _ (sym (b3 .starts-row .ensures) ∙ not-false _ (c .before .before .if1 .left)))
+    let at-starts-row = c .before .before .before in
+    let at-start = at-starts-row .before .before in
+    empty-row at-start.args.t.now at-start.args.p at-start.pre _
+    (eqb-true _ _ (sym (at-starts-row .starts-row .ensures) ∙ not-false _ (c .before .before .if1 .left)))
     (omega (arith, c .before .if2 .left)) refl
 
 pub on-empty-row-spec : {M : Type 1} → statement M

@@ -8,13 +8,13 @@ use Rattle.word_kinds.proofs.near.starts_row.Tie as tie
 
 returns : tie.Need-returns
 returns c =
-    let s = c .before in
-    starts-first s.args.t.now s.args.p s.pre (c .if1 .taken)
+    let at-start = c .before in
+    starts-first at-start.args.t.now at-start.args.p at-start.pre (c .if1 .taken)
 
 returns-2 : tie.Need-returns-2
 returns-2 c =
-    let s = c .before .before in
-    starts-by s.args.t.now s.args.p s.pre _ (omega (arith, c .before .if1 .left)) refl
+    let at-start = c .before .before in
+    starts-by at-start.args.t.now at-start.args.p at-start.pre _ (omega (arith, c .before .if1 .left)) refl
 
 pub starts-row-spec : {M : Type 1} → statement M
 starts-row-spec =

@@ -11,58 +11,62 @@ use Rattle.word_kinds.proofs.near.step_forward.Tie as tie
 
 returns : tie.Need-returns
 returns c =
-    let s = c .before .before in
-    (end-forward s.args.t.now s.args.p s.pre (c .if1 .taken), tt)
+    let at-start = c .before .before in
+    (end-forward at-start.args.t.now at-start.args.p at-start.pre (c .if1 .taken), tt)
 
 returns-2 : tie.Need-returns-2
 returns-2 c =
-    let b3 = c .before .before .before in
-    let b5 = b3 .before .before in
-    let s = b5 in
-    (c .next-row .ensures .0 ∙ nl-forward s.args.t.now s.args.p s.pre (omega (arith, b3 .if1 .left)) (c .before .if2 .taken), c .next-row .ensures .1)
+    let at-if1 = c .before .before .before in
+    let at-start = at-if1 .before .before in (
+      c .next-row .ensures .0 ∙ nl-forward at-start.args.t.now at-start.args.p at-start.pre (omega (arith, at-if1 .if1 .left)) (c .before .if2 .taken),
+      c .next-row .ensures .1,
+    )
 
 returns-3 : tie.Need-returns-3
 returns-3 c =
-    let b3 = c .before .before .before in
-    let b5 = b3 .before .before in
-    let s = b5 in
-    (last-forward s.args.t.now s.args.p s.pre (omega (arith, b3 .if1 .left)) (c .before .if2 .left) (c .if3 .taken), tt)
+    let at-if1 = c .before .before .before in
+    let at-start = at-if1 .before .before in
+    (last-forward at-start.args.t.now at-start.args.p at-start.pre (omega (arith, at-if1 .if1 .left)) (c .before .if2 .left) (c .if3 .taken), tt)
 
 -- the separator behind the character ends the row
 next-row-requires-2 : tie.Need-next-row-requires-2
 next-row-requires-2 c κs =
-    let b3 = c .before .before .before in
-    let b5 = b3 .before .before in
-    let b7 = b5 .before .before in
-    let s = b7 in
+    let at-if2 = c .before .before .before in
+    let at-if1 = at-if2 .before .before in
+    let at-start = at-if1 .before .before in
     record {
-      stands = char-spot s.args.t.now s.args.p s.pre (omega (arith, b5 .if1 .left)) (b3 .if2 .left);
+      stands = char-spot at-start.args.t.now at-start.args.p at-start.pre (omega (arith, at-if1 .if1 .left)) (at-if2 .if2 .left);
       within = omega (arith, c .before .before .if3 .left);
       nl = c .if4 .taken;
     }
 
 returns-4 : tie.Need-returns-4
 returns-4 c =
-    let b3 = c .before .before .before in
-    let b4 = b3 .before in
-    let b6 = b4 .before .before in
-    let b8 = b6 .before .before in
-    let s = b8 in (
+    let at-if3 = c .before .before .before in
+    let at-if2 = at-if3 .before in
+    let at-if1 = at-if2 .before .before in
+    let at-start = at-if1 .before .before in (
       c .next-row2 .ensures .0 ∙
-          row-forward s.args.t.now s.args.p s.pre (omega (arith, b6 .if1 .left)) (b4 .if2 .left) (omega (arith, b3 .if3 .left)) (c .before .if4 .taken),
-      step-low s.args.t.now (s .args .p .at + 1 + 1) (s .args .p .at + 1) (length s.args.t.now + 1) (c .next-row2 .result) (c .next-row2 .ensures .1)
+          row-forward at-start.args.t.now at-start.args.p at-start.pre (omega (arith, at-if1 .if1 .left)) (at-if2 .if2 .left)
+          (omega (arith, at-if3 .if3 .left)) (c .before .if4 .taken),
+      step-low at-start.args.t.now (at-start .args .p .at + 1 + 1) (at-start .args .p .at + 1) (length at-start.args.t.now + 1) (c .next-row2 .result)
+          (c .next-row2 .ensures .1)
           (omega arith),
     )
 
 returns-5 : tie.Need-returns-5
 returns-5 c =
-    let b3 = c .before .before .before in
-    let b5 = b3 .before .before in
-    let b7 = b5 .before .before in
-    let s = b7 in
-    let h = b5 .if1 .left in (
-      char-forward s.args.t.now s.args.p s.pre (omega (arith, h)) (b3 .if2 .left) (omega (arith, c .before .before .if3 .left)) (c .if4 .left),
-      (char-spot s.args.t.now s.args.p s.pre (omega (arith, h)) (b3 .if2 .left), omega arith, omega (arith, c .before .before .if3 .left)),
+    let at-if2 = c .before .before .before in
+    let at-if1 = at-if2 .before .before in
+    let at-start = at-if1 .before .before in
+    let left = at-if1 .if1 .left in (
+      char-forward at-start.args.t.now at-start.args.p at-start.pre (omega (arith, left)) (at-if2 .if2 .left)
+          (omega (arith, c .before .before .if3 .left)) (c .if4 .left),
+      (
+        char-spot at-start.args.t.now at-start.args.p at-start.pre (omega (arith, left)) (at-if2 .if2 .left),
+        omega arith,
+        omega (arith, c .before .before .if3 .left),
+      ),
     )
 
 pub step-forward-spec : {M : Type 1} → statement M

@@ -24,48 +24,48 @@ abbrev μ-loop : tie.MeasureT-loop
 
 loop-holds : tie.Need-loop-holds Inv-loop μ-loop
 loop-holds c =
-    let s = c .before .before .before in
-    (s .pre .1, walking-start _ _ _ _ _ (omega (arith, s .pre .1 .within)))
+    let at-start = c .before .before .before in
+    (at-start .pre .1, walking-start _ _ _ _ _ (omega (arith, at-start .pre .1 .within)))
 
 -- the place is of another class, or on an empty row
 returns : tie.Need-returns Inv-loop μ-loop
 returns c =
-    let b3 = c .before .before .before in
-    let l = b3 .loop in
-    (walking-off (l .inv .1) (rw (← c .before .before .cls .ensures, ← c .before .on-empty-row .ensures) (not-true _ (c .if1 .taken))), l .inv .0)
+    let at-loop = c .before .before .before in
+    let in-loop = at-loop .loop in
+    (walking-off (in-loop .inv .1) (rw (← c .before .before .cls .ensures, ← c .before .on-empty-row .ensures) (not-true _ (c .if1 .taken))), in-loop .inv .0)
 
 loop-less : tie.Need-loop-less Inv-loop μ-loop
 loop-less c =
-    let b3 = c .before .before .before in
-    let s = b3 .before .before .before .before .before .before .before .before in
-    step-in s.args.t.now (c .before .q .given .0 .0) (c .before .q .given .1) (b3 .dec .ensures .1) .2
+    let at-dec = c .before .before .before in
+    let at-start = at-dec .before .before .before .before .before .before .before .before in
+    step-in at-start.args.t.now (c .before .q .given .0 .0) (c .before .q .given .1) (at-dec .dec .ensures .1) .2
 
 loop-again : tie.Need-loop-again Inv-loop μ-loop
 loop-again c =
-    let b3 = c .before .before .before in
-    let b4 = b3 .before in
-    let b5 = b4 .before in
-    let b6 = b5 .before in
-    let b7 = b6 .before in
-    let s = b7 .before .before .before .before in
-    let l = b7 .loop in
-    let i = step-in s.args.t.now (c .before .q .given .0 .0) (c .before .q .given .1) (b3 .dec .ensures .1) in (
-      i .0,
-      walking-on (l .inv .1) _ _ (rw (← b6 .cls .ensures, ← b5 .on-empty-row .ensures) (not-false _ (b4 .if1 .left)))
-          (went-to s.args.t.now (c .before .q .given .0 .0) (c .before .q .given .1) (b3 .dec .ensures .0)) (i .2),
+    let at-dec = c .before .before .before in
+    let at-if1 = at-dec .before in
+    let at-on-empty-row = at-if1 .before in
+    let at-cls = at-on-empty-row .before in
+    let at-loop = at-cls .before in
+    let at-start = at-loop .before .before .before .before in
+    let in-loop = at-loop .loop in
+    let by-step-in = step-in at-start.args.t.now (c .before .q .given .0 .0) (c .before .q .given .1) (at-dec .dec .ensures .1) in (
+      by-step-in .0,
+      walking-on (in-loop .inv .1) _ _ (rw (← at-cls .cls .ensures, ← at-on-empty-row .on-empty-row .ensures) (not-false _ (at-if1 .if1 .left)))
+          (went-to at-start.args.t.now (c .before .q .given .0 .0) (c .before .q .given .1) (at-dec .dec .ensures .0)) (by-step-in .2),
     )
 
 returns-2 : tie.Need-returns-2 Inv-loop μ-loop
 returns-2 c =
-    let b3 = c .before .before .before in
-    let b4 = b3 .before in
-    let b5 = b4 .before in
-    let b6 = b5 .before in
-    let s = b6 .before .before .before .before in
-    let l = b6 .loop in (
-      walking-stuck (l .inv .1) (rw (← b5 .cls .ensures, ← b4 .on-empty-row .ensures) (not-false _ (b3 .if1 .left)))
-          (went-nowhere s.args.t.now (c .enum-told .given .1) (c .before .before .dec .ensures .0)),
-      l .inv .0,
+    let at-if1 = c .before .before .before in
+    let at-on-empty-row = at-if1 .before in
+    let at-cls = at-on-empty-row .before in
+    let at-loop = at-cls .before in
+    let at-start = at-loop .before .before .before .before in
+    let in-loop = at-loop .loop in (
+      walking-stuck (in-loop .inv .1) (rw (← at-cls .cls .ensures, ← at-on-empty-row .on-empty-row .ensures) (not-false _ (at-if1 .if1 .left)))
+          (went-nowhere at-start.args.t.now (c .enum-told .given .1) (c .before .before .dec .ensures .0)),
+      in-loop .inv .0,
     )
 
 pub back-spec : {M : Type 1} → statement M

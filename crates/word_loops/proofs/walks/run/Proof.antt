@@ -22,57 +22,60 @@ abbrev μ-loop : tie.MeasureT-loop
 
 loop-holds : tie.Need-loop-holds Inv-loop μ-loop
 loop-holds c =
-    let s = c .before .before .before in
-    (s .pre .1, walking-start _ _ _ _ _ (omega arith))
+    let at-start = c .before .before .before in
+    (at-start .pre .1, walking-start _ _ _ _ _ (omega arith))
 
 kind-at-requires : tie.Need-kind-at-requires Inv-loop μ-loop
 kind-at-requires c κs =
-    let b3 = c .before .before .before in
-    let s = b3 .before .before .before .before .before in
-    (s .pre .0, step-in s.args.t.now (c .before .q .given .0 .0) (c .before .q .given .1) (b3 .step-forward .ensures .1) .0)
+    let at-step-forward = c .before .before .before in
+    let at-start = at-step-forward .before .before .before .before .before in
+    (at-start .pre .0, step-in at-start.args.t.now (c .before .q .given .0 .0) (c .before .q .given .1) (at-step-forward .step-forward .ensures .1) .0)
 
 -- the next place is in the next row, or of another kind
 returns : tie.Need-returns Inv-loop μ-loop
 unfolding goesOn
 returns c =
-    let b3 = c .before .before .before in
-    let b5 = b3 .before .before in
-    let b7 = b5 .before .before in
-    let b8 = b7 .before in
-    let s = b8 .before .before .before .before in
-    let l = b8 .loop in
-    let n = went-to s.args.t.now (b5 .q .given .0 .0) (b5 .q .given .1) (b7 .step-forward .ensures .0) in
-    (walking-off (l .inv .1) (rw (n, ← b3 .kind-at .ensures) (not-true _ (c .if1 .taken))), l .inv .0)
+    let at-kind-at = c .before .before .before in
+    let at-q = at-kind-at .before .before in
+    let at-step-forward = at-q .before .before in
+    let at-loop = at-step-forward .before in
+    let at-start = at-loop .before .before .before .before in
+    let in-loop = at-loop .loop in
+    let by-went-to = went-to at-start.args.t.now (at-q .q .given .0 .0) (at-q .q .given .1) (at-step-forward .step-forward .ensures .0) in
+    (walking-off (in-loop .inv .1) (rw (by-went-to, ← at-kind-at .kind-at .ensures) (not-true _ (c .if1 .taken))), in-loop .inv .0)
 
 loop-less : tie.Need-loop-less Inv-loop μ-loop
 loop-less c =
-    let b5 = c .before .before .before .before .before in
-    let b7 = b5 .before .before in
-    let s = b7 .before .before .before .before .before in
-    let i = step-in s.args.t.now (b5 .q .given .0 .0) (b5 .q .given .1) (b7 .step-forward .ensures .1) in
-    omega (arith, i .1, i .2)
+    let at-q = c .before .before .before .before .before in
+    let at-step-forward = at-q .before .before in
+    let at-start = at-step-forward .before .before .before .before .before in
+    let by-step-in = step-in at-start.args.t.now (at-q .q .given .0 .0) (at-q .q .given .1) (at-step-forward .step-forward .ensures .1) in
+    omega (arith, by-step-in .1, by-step-in .2)
 
 loop-again : tie.Need-loop-again Inv-loop μ-loop
 unfolding goesOn
 loop-again c =
-    let b3 = c .before .before .before in
-    let b5 = b3 .before .before in
-    let b7 = b5 .before .before in
-    let b8 = b7 .before in
-    let s = b8 .before .before .before .before in
-    let l = b8 .loop in
-    let n = went-to s.args.t.now (b5 .q .given .0 .0) (b5 .q .given .1) (b7 .step-forward .ensures .0) in
-    let i = step-in s.args.t.now (b5 .q .given .0 .0) (b5 .q .given .1) (b7 .step-forward .ensures .1) in
-    (i .0, walking-on (l .inv .1) _ _ (rw (n, ← b3 .kind-at .ensures) (not-false _ (c .if1 .left))) n (omega (arith, i .1, i .2)))
+    let at-kind-at = c .before .before .before in
+    let at-q = at-kind-at .before .before in
+    let at-step-forward = at-q .before .before in
+    let at-loop = at-step-forward .before in
+    let at-start = at-loop .before .before .before .before in
+    let in-loop = at-loop .loop in
+    let by-went-to = went-to at-start.args.t.now (at-q .q .given .0 .0) (at-q .q .given .1) (at-step-forward .step-forward .ensures .0) in
+    let by-step-in = step-in at-start.args.t.now (at-q .q .given .0 .0) (at-q .q .given .1) (at-step-forward .step-forward .ensures .1) in (
+      by-step-in .0,
+      walking-on (in-loop .inv .1) _ _ (rw (by-went-to, ← at-kind-at .kind-at .ensures) (not-false _ (c .if1 .left))) by-went-to
+          (omega (arith, by-step-in .1, by-step-in .2)),
+    )
 
 returns-2 : tie.Need-returns-2 Inv-loop μ-loop
 unfolding goesOn
 returns-2 c =
-    let b3 = c .before .before .before in
-    let s = b3 .before .before .before .before in
-    let l = b3 .loop in
-    let n = went-nowhere s.args.t.now (c .enum-told .given .1) (c .before .before .step-forward .ensures .0) in
-    (walking-off (l .inv .1) (rw n), l .inv .0)
+    let at-loop = c .before .before .before in
+    let at-start = at-loop .before .before .before .before in
+    let in-loop = at-loop .loop in
+    let by-went-nowhere = went-nowhere at-start.args.t.now (c .enum-told .given .1) (c .before .before .step-forward .ensures .0) in
+    (walking-off (in-loop .inv .1) (rw by-went-nowhere), in-loop .inv .0)
 
 pub run-spec : {M : Type 1} → statement M
 run-spec =

@@ -14,16 +14,16 @@ returns-2 c =
     let at-test = c .before in
     let at-next = at-test .before in
     let at-here = at-next .before in
-    let e = rw (at-here .is-end .ensures, at-next .is-end2 .ensures) at (at-test .if2 .taken) in
-    c .before2 .ensures ∙ rw (at-here .before .before .text-end .ensures) (sym (forward-over _ _ e))
+    let here = rw (at-here .is-end .ensures, at-next .is-end2 .ensures) at (at-test .if2 .taken) in
+    c .before2 .ensures ∙ rw (at-here .before .before .text-end .ensures) (sym (forward-over _ _ here))
 
 returns-3 : tie.Need-returns-3
 returns-3 c =
     let at-test = c .before in
     let at-next = at-test .before in
     let at-here = at-next .before in
-    let e = rw (at-here .is-end .ensures, at-next .is-end2 .ensures) at (at-test .if2 .left) in
-    c .before3 .ensures ∙ rw (at-here .before .before .text-end .ensures) (sym (forward-next _ _ e))
+    let here = rw (at-here .is-end .ensures, at-next .is-end2 .ensures) at (at-test .if2 .left) in
+    c .before3 .ensures ∙ rw (at-here .before .before .text-end .ensures) (sym (forward-next _ _ here))
 
 pub forward-spec : {M : Type 1} → statement M
 forward-spec = tie.close (

@@ -11,32 +11,38 @@ use Rattle.word_rounds.proofs.out_of_folds.fold_jump_fwd.Tie as tie
 
 closed-fold-at-requires : tie.Need-closed-fold-at-requires
 closed-fold-at-requires c κs =
-    let w = c .before .before .pre in
-    (w .good, omega (arith, w .all-rows, w .spot .in-row), omega (arith, w .content-rows, content-near (c .before .before .args .t .now)))
+    let required = c .before .before .pre in (
+      required .good,
+      omega (arith, required .all-rows, required .spot .in-row),
+      omega (arith, required .content-rows, content-near (c .before .before .args .t .now)),
+    )
 
 row-last-requires : tie.Need-row-last-requires
 row-last-requires c κs =
-    let b3 = c .before .before .before in
-    let s = b3 .before .before .before in (
-      s .pre .spot,
-      span-rows s.args.t.now s.args.folds.now s.args.rows s.args.content s.args.p s.pre (b3 .closed-fold-at .ensures) _ _
+    let at-closed-fold-at = c .before .before .before in
+    let at-start = at-closed-fold-at .before .before .before in (
+      at-start .pre .spot,
+      span-rows at-start.args.t.now at-start.args.folds.now at-start.args.rows at-start.args.content at-start.args.p at-start.pre
+          (at-closed-fold-at .closed-fold-at .ensures) _ _
           (c .before .first .given .1) .1,
     )
 
 returns : tie.Need-returns
 returns c =
-    let b4 = c .before .before .before .before in
-    let s = b4 .before .before .before in
-    let j = jump-fwd s.args.t.now s.args.folds.now s.args.rows s.args.content s.args.p s.pre (b4 .closed-fold-at .ensures)
-    (ap (toLast s.args.t.now (placeOf s.args.t.now s.args.p)) (c .before .before .first .given .1)) in
-    (c .row-last .ensures .0 ∙ j, c .row-last .ensures .1)
+    let at-closed-fold-at = c .before .before .before .before in
+    let at-start = at-closed-fold-at .before .before .before in
+    let by-jump-fwd = jump-fwd at-start.args.t.now at-start.args.folds.now at-start.args.rows at-start.args.content at-start.args.p at-start.pre
+    (at-closed-fold-at .closed-fold-at .ensures)
+    (ap (toLast at-start.args.t.now (placeOf at-start.args.t.now at-start.args.p)) (c .before .before .first .given .1)) in
+    (c .row-last .ensures .0 ∙ by-jump-fwd, c .row-last .ensures .1)
 
 returns-2 : tie.Need-returns-2
 returns-2 c =
-    let s = c .before .before .before .before .before in
-    let j = jump-fwd s.args.t.now s.args.folds.now s.args.rows s.args.content s.args.p s.pre (c .before .before .closed-fold-at .ensures)
-    (ap (toLast s.args.t.now (placeOf s.args.t.now s.args.p)) (c .enum-told .given .1)) in
-    (j, s .pre .spot)
+    let at-start = c .before .before .before .before .before in
+    let by-jump-fwd = jump-fwd at-start.args.t.now at-start.args.folds.now at-start.args.rows at-start.args.content at-start.args.p at-start.pre
+    (c .before .before .closed-fold-at .ensures)
+    (ap (toLast at-start.args.t.now (placeOf at-start.args.t.now at-start.args.p)) (c .enum-told .given .1)) in
+    (by-jump-fwd, at-start .pre .spot)
 
 pub fold-jump-fwd-spec : {M : Type 1} → statement M
 fold-jump-fwd-spec =

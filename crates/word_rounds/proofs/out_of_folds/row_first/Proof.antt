@@ -7,8 +7,8 @@ use Rattle.word_rounds.proofs.out_of_folds.row_first.Tie as tie
 
 returns : tie.Need-returns
 returns c =
-    let s = c .before .before in
-    row-place s.args.t.now s.args.row (s .pre .1) (c .line-to .result) (c .line-to .ensures) 0 _ (omega arith) (omega arith)
+    let at-start = c .before .before in
+    row-place at-start.args.t.now at-start.args.row (at-start .pre .1) (c .line-to .result) (c .line-to .ensures) 0 _ (omega arith) (omega arith)
 
 pub row-first-spec : {M : Type 1} → statement M
 row-first-spec =

@@ -10,18 +10,20 @@ use Rattle.word_rounds.proofs.rounds.back_round.Tie as tie
 
 prev-word-start-requires : tie.Need-prev-word-start-requires
 prev-word-start-requires c κs =
-    let s = c .before .before .before .before .before in
-    set-ready s.pre _ (c .fold-jump-back .ensures .1)
+    let at-start = c .before .before .before .before .before in
+    set-ready at-start.pre _ (c .fold-jump-back .ensures .1)
 
 returns : tie.Need-returns
 unfolding roundOf
 returns c =
-    let s = c .before .before .before .before .before .before .before in
-    let j = c .before .before .fold-jump-back in
-    let n = c .before .prev-word-start in (
-      turned-turn s.args.t.now (j .result) (n .result) (c .turned .ensures) ∙ round-from
-          (prevWordStart s.args.t.now (kindBy s.args.bounds.now s.args.s)) (j .ensures .0) (n .ensures .0),
-      turned-in s.args.t.now (j .result) (n .result) (c .turned .ensures) (j .ensures .1) (n .ensures .1),
+    let at-start = c .before .before .before .before .before .before .before in
+    let fold-jump-back-call = c .before .before .fold-jump-back in
+    let prev-word-start-call = c .before .prev-word-start in (
+      turned-turn at-start.args.t.now (fold-jump-back-call .result) (prev-word-start-call .result) (c .turned .ensures) ∙ round-from
+          (prevWordStart at-start.args.t.now (kindBy at-start.args.bounds.now at-start.args.s)) (fold-jump-back-call .ensures .0)
+          (prev-word-start-call .ensures .0),
+      turned-in at-start.args.t.now (fold-jump-back-call .result) (prev-word-start-call .result) (c .turned .ensures) (fold-jump-back-call .ensures .1)
+          (prev-word-start-call .ensures .1),
     )
 
 pub back-round-spec : {M : Type 1} → statement M

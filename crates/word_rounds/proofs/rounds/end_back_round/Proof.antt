@@ -10,17 +10,19 @@ use Rattle.word_rounds.proofs.rounds.end_back_round.Tie as tie
 
 prev-word-end-requires : tie.Need-prev-word-end-requires
 prev-word-end-requires c κs =
-    let s = c .before .before .before .before in
-    set-ready s.pre _ (s .pre .folded .spot)
+    let at-start = c .before .before .before .before in
+    set-ready at-start.pre _ (at-start .pre .folded .spot)
 
 returns : tie.Need-returns
 unfolding roundOf
 returns c =
-    let s = c .before .before .before .before .before .before in
-    let n = c .before .prev-word-end in (
-      turned-turn s.args.t.now s.args.p (n .result) (c .turned .ensures) ∙ round-from (prevWordEnd s.args.t.now (kindBy s.args.bounds.now s.args.s))
-          refl (n .ensures .0),
-      turned-in s.args.t.now s.args.p (n .result) (c .turned .ensures) (s .pre .folded .spot) (n .ensures .1),
+    let at-start = c .before .before .before .before .before .before in
+    let prev-word-end-call = c .before .prev-word-end in (
+      turned-turn at-start.args.t.now at-start.args.p (prev-word-end-call .result) (c .turned .ensures)
+          ∙ round-from (prevWordEnd at-start.args.t.now (kindBy at-start.args.bounds.now at-start.args.s))
+          refl (prev-word-end-call .ensures .0),
+      turned-in at-start.args.t.now at-start.args.p (prev-word-end-call .result) (c .turned .ensures) (at-start .pre .folded .spot)
+          (prev-word-end-call .ensures .1),
     )
 
 pub end-back-round-spec : {M : Type 1} → statement M

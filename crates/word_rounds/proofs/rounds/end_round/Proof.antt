@@ -9,56 +9,60 @@ use Rattle.word_rounds.proofs.rounds.end_round.Tie as tie
 
 at-word-end-requires : tie.Need-at-word-end-requires
 at-word-end-requires c κs =
-    let s = c .before .before .before .before .before .before in
-    set-ready s.pre _ (c .before .fold-jump-fwd .ensures .1)
+    let at-start = c .before .before .before .before .before .before in
+    set-ready at-start.pre _ (c .before .fold-jump-fwd .ensures .1)
 
 returns : tie.Need-returns
 unfolding roundOf
 returns c =
-    let b3 = c .before .before .before in
-    let s = b3 .before .before .before .before .before in
-    let j = b3 .fold-jump-fwd in (
-      end-held s.args.t.now (kindBy s.args.bounds.now s.args.s) s.args.stop (j .ensures .0) (c .before .before .if1 .taken)
+    let at-fold-jump-fwd = c .before .before .before in
+    let at-start = at-fold-jump-fwd .before .before .before .before .before in
+    let fold-jump-fwd-call = at-fold-jump-fwd .fold-jump-fwd in (
+      end-held at-start.args.t.now (kindBy at-start.args.bounds.now at-start.args.s) at-start.args.stop (fold-jump-fwd-call .ensures .0)
+          (c .before .before .if1 .taken)
           (sym (c .before .at-word-end .ensures) ∙ c .if2 .taken),
-      j .ensures .1,
+      fold-jump-fwd-call .ensures .1,
     )
 
 next-word-end-requires : tie.Need-next-word-end-requires
 next-word-end-requires c κs =
-    let b3 = c .before .before .before in
-    let s = b3 .before .before .before .before .before in
-    set-ready s.pre _ (b3 .fold-jump-fwd .ensures .1)
+    let at-fold-jump-fwd = c .before .before .before in
+    let at-start = at-fold-jump-fwd .before .before .before .before .before in
+    set-ready at-start.pre _ (at-fold-jump-fwd .fold-jump-fwd .ensures .1)
 
 returns-2 : tie.Need-returns-2
 unfolding roundOf
 returns-2 c =
-    let b3 = c .before .before .before in
-    let b4 = b3 .before in
-    let b5 = b4 .before in
-    let s = b5 .before .before .before .before .before in
-    let j = b5 .fold-jump-fwd in
-    let n = c .before .next-word-end in (
-      turned-turn s.args.t.now (j .result) (n .result) (c .turned .ensures) ∙
-          end-moved s.args.t.now (kindBy s.args.bounds.now s.args.s) s.args.stop (j .ensures .0)
-          (rw (b4 .if1 .taken) (sym (b3 .at-word-end .ensures) ∙ c .before .before .if2 .left)) (n .ensures .0),
-      turned-in s.args.t.now (j .result) (n .result) (c .turned .ensures) (j .ensures .1) (n .ensures .1),
+    let at-word-end = c .before .before .before in
+    let at-if1 = at-word-end .before in
+    let at-fold-jump-fwd = at-if1 .before in
+    let at-start = at-fold-jump-fwd .before .before .before .before .before in
+    let fold-jump-fwd-call = at-fold-jump-fwd .fold-jump-fwd in
+    let next-word-end-call = c .before .next-word-end in (
+      turned-turn at-start.args.t.now (fold-jump-fwd-call .result) (next-word-end-call .result) (c .turned .ensures) ∙
+          end-moved at-start.args.t.now (kindBy at-start.args.bounds.now at-start.args.s) at-start.args.stop (fold-jump-fwd-call .ensures .0)
+          (rw (at-if1 .if1 .taken) (sym (at-word-end .at-word-end .ensures) ∙ c .before .before .if2 .left)) (next-word-end-call .ensures .0),
+      turned-in at-start.args.t.now (fold-jump-fwd-call .result) (next-word-end-call .result) (c .turned .ensures) (fold-jump-fwd-call .ensures .1)
+          (next-word-end-call .ensures .1),
     )
 
 next-word-end-requires-2 : tie.Need-next-word-end-requires-2
 next-word-end-requires-2 c κs =
-    let s = c .before .before .before .before .before .before in
-    set-ready s.pre _ (c .before .fold-jump-fwd .ensures .1)
+    let at-start = c .before .before .before .before .before .before in
+    set-ready at-start.pre _ (c .before .fold-jump-fwd .ensures .1)
 
 returns-3 : tie.Need-returns-3
 unfolding roundOf
 returns-3 c =
-    let b3 = c .before .before .before in
-    let s = b3 .before .before .before .before .before in
-    let j = b3 .fold-jump-fwd in
-    let n = c .before .next-word-end2 in (
-      turned-turn s.args.t.now (j .result) (n .result) (c .turned2 .ensures) ∙ end-moved s.args.t.now (kindBy s.args.bounds.now s.args.s) s.args.stop
-          (j .ensures .0) (rw (c .before .before .if1 .left)) (n .ensures .0),
-      turned-in s.args.t.now (j .result) (n .result) (c .turned2 .ensures) (j .ensures .1) (n .ensures .1),
+    let at-fold-jump-fwd = c .before .before .before in
+    let at-start = at-fold-jump-fwd .before .before .before .before .before in
+    let fold-jump-fwd-call = at-fold-jump-fwd .fold-jump-fwd in
+    let next-word-end2-call = c .before .next-word-end2 in (
+      turned-turn at-start.args.t.now (fold-jump-fwd-call .result) (next-word-end2-call .result) (c .turned2 .ensures)
+          ∙ end-moved at-start.args.t.now (kindBy at-start.args.bounds.now at-start.args.s) at-start.args.stop
+          (fold-jump-fwd-call .ensures .0) (rw (c .before .before .if1 .left)) (next-word-end2-call .ensures .0),
+      turned-in at-start.args.t.now (fold-jump-fwd-call .result) (next-word-end2-call .result) (c .turned2 .ensures) (fold-jump-fwd-call .ensures .1)
+          (next-word-end2-call .ensures .1),
     )
 
 pub end-round-spec : {M : Type 1} → statement M

@@ -10,18 +10,20 @@ use Rattle.word_rounds.proofs.rounds.fwd_round.Tie as tie
 
 next-word-start-requires : tie.Need-next-word-start-requires
 next-word-start-requires c κs =
-    let s = c .before .before .before .before .before in
-    set-ready s.pre _ (c .fold-jump-fwd .ensures .1)
+    let at-start = c .before .before .before .before .before in
+    set-ready at-start.pre _ (c .fold-jump-fwd .ensures .1)
 
 returns : tie.Need-returns
 unfolding roundOf
 returns c =
-    let s = c .before .before .before .before .before .before .before in
-    let j = c .before .before .fold-jump-fwd in
-    let n = c .before .next-word-start in (
-      turned-turn s.args.t.now (j .result) (n .result) (c .turned .ensures) ∙ round-from
-          (nextWordStart s.args.t.now (kindBy s.args.bounds.now s.args.s) s.args.s.big) (j .ensures .0) (n .ensures .0),
-      turned-in s.args.t.now (j .result) (n .result) (c .turned .ensures) (j .ensures .1) (n .ensures .1),
+    let at-start = c .before .before .before .before .before .before .before in
+    let fold-jump-fwd-call = c .before .before .fold-jump-fwd in
+    let next-word-start-call = c .before .next-word-start in (
+      turned-turn at-start.args.t.now (fold-jump-fwd-call .result) (next-word-start-call .result) (c .turned .ensures) ∙ round-from
+          (nextWordStart at-start.args.t.now (kindBy at-start.args.bounds.now at-start.args.s) at-start.args.s.big) (fold-jump-fwd-call .ensures .0)
+          (next-word-start-call .ensures .0),
+      turned-in at-start.args.t.now (fold-jump-fwd-call .result) (next-word-start-call .result) (c .turned .ensures) (fold-jump-fwd-call .ensures .1)
+          (next-word-start-call .ensures .1),
     )
 
 pub fwd-round-spec : {M : Type 1} → statement M

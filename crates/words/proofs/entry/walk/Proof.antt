@@ -10,32 +10,35 @@ use Rattle.words.proofs.entry.walk.Tie as tie
 
 rounds-requires : tie.Need-rounds-requires
 rounds-requires c κs =
-    let b4 = c .before .before .before .before in
-    let s = b4 .before .before .before .before .before in
-    let q = c .before .before .q .given in
-    set-at s.pre _ (next-in s.args.t.now (q .0 .0) (q .1) (b4 .round .ensures .1))
+    let at-round = c .before .before .before .before in
+    let at-start = at-round .before .before .before .before .before in
+    let found = c .before .before .q .given in
+    set-at at-start.pre _ (next-in at-start.args.t.now (found .0 .0) (found .1) (at-round .round .ensures .1))
 
 returns : tie.Need-returns
 returns c =
-    let b3 = c .before .before .before in
-    let b5 = b3 .before .before in
-    let s = b5 .before .before .before .before .before in
-    let q = b3 .q .given in
-    let e = turn-next s.args.t.now (q .0 .0) (q .1) (b5 .round .ensures .0) in (
-      c .rounds .ensures .0 ∙ motion-on s.args.t.now s.args.folds.now (kindBy s.args.bounds.now s.args.s) s.args.s.big s.args.m s.args.stop
-          s.args.count (placeOf s.args.t.now s.args.p) (c .before .rest .result) e (c .before .rest .ensures),
+    let at-q = c .before .before .before in
+    let at-round = at-q .before .before in
+    let at-start = at-round .before .before .before .before .before in
+    let found = at-q .q .given in
+    let by-turn-next = turn-next at-start.args.t.now (found .0 .0) (found .1) (at-round .round .ensures .0) in (
+      c .rounds .ensures .0
+          ∙ motion-on at-start.args.t.now at-start.args.folds.now
+          (kindBy at-start.args.bounds.now at-start.args.s) at-start.args.s.big at-start.args.m at-start.args.stop
+          at-start.args.count (placeOf at-start.args.t.now at-start.args.p) (c .before .rest .result) by-turn-next (c .before .rest .ensures),
       c .rounds .ensures .1,
     )
 
 returns-2 : tie.Need-returns-2
 returns-2 c =
-    let b3 = c .before .before .before in
-    let s = b3 .before .before .before .before .before in
-    let q2 = c .before .q2 .given in (
-      motion-off s.args.t.now s.args.folds.now (kindBy s.args.bounds.now s.args.s) s.args.s.big s.args.m s.args.stop s.args.count
-          (placeOf s.args.t.now s.args.p) (turn-last s.args.t.now (q2 .0 .0) (q2 .1) (b3 .round .ensures .0)),
-      last-in s.args.t.now (q2 .0 .0) (q2 .1)
-          (b3 .round .ensures .1),
+    let at-round = c .before .before .before in
+    let at-start = at-round .before .before .before .before .before in
+    let q2-given = c .before .q2 .given in (
+      motion-off at-start.args.t.now at-start.args.folds.now
+          (kindBy at-start.args.bounds.now at-start.args.s) at-start.args.s.big at-start.args.m at-start.args.stop at-start.args.count
+          (placeOf at-start.args.t.now at-start.args.p) (turn-last at-start.args.t.now (q2-given .0 .0) (q2-given .1) (at-round .round .ensures .0)),
+      last-in at-start.args.t.now (q2-given .0 .0) (q2-given .1)
+          (at-round .round .ensures .1),
     )
 
 pub walk-spec : {M : Type 1} → statement M

@@ -18,7 +18,7 @@ walk-requires c κs =
     let start = at-high .before .before .before in
     let low = start .pre .1 (at-high .if1 .left) in
     record {
-      lent = record { room = start .pre .0; lent = λ h. let z : _≡_ {A = ℕ} 0 1 = cc (sym h ∙ low) in absurd (omega arith) };
+      lent = record { room = start .pre .0; lent = λ h. let never : _≡_ {A = ℕ} 0 1 = cc (sym h ∙ low) in absurd (omega arith) };
       folded = start .pre .2;
     }
 

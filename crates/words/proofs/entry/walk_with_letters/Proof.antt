@@ -8,8 +8,8 @@ use Rattle.words.proofs.entry.walk_with_letters.Tie as tie
 walk-requires : tie.Need-walk-requires
 unfolding letters
 walk-requires c κs =
-    let s = c .before .before .before .before in
-    record { lent = record { room = s .pre .0; lent = λ h. record { starts-are = refl; lengths-are = refl } }; folded = s .pre .1 }
+    let at-start = c .before .before .before .before in
+    record { lent = record { room = at-start .pre .0; lent = λ h. record { starts-are = refl; lengths-are = refl } }; folded = at-start .pre .1 }
 
 pub walk-with-letters-spec : {M : Type 1} → statement M
 walk-with-letters-spec =

@@ -22,15 +22,15 @@ loop-holds c = (search needs, refl)
 
 loop-again : tie.Need-loop-again Inv-loop μ-loop
 loop-again c =
-    let s = c .before .before .before in
-    let l = c .before .before .loop in
-    (search needs, any-on isHigh s.args.t.now (l .i) (l .high) (c .before .loop-test .taken) (l .inv .1))
+    let at-start = c .before .before .before in
+    let at-loop = c .before .before .loop in
+    (search needs, any-on isHigh at-start.args.t.now (at-loop .i) (at-loop .high) (c .before .loop-test .taken) (at-loop .inv .1))
 
 returns : tie.Need-returns Inv-loop μ-loop
 returns c =
-    let s = c .before .before in
-    let l = c .before .loop in
-    sym (any-end isHigh s.args.t.now (l .i) (l .high) (c .loop-test .left) (l .inv .1))
+    let at-start = c .before .before in
+    let at-loop = c .before .loop in
+    sym (any-end isHigh at-start.args.t.now (at-loop .i) (at-loop .high) (c .loop-test .left) (at-loop .inv .1))
 
 pub has-high-spec : {M : Type 1} → statement M
 has-high-spec =

@@ -11,18 +11,20 @@ use Rattle.words.proofs.once.prepare.Tie as tie
 
 returns : tie.Need-returns
 returns c =
-    let b = c .before .before .bounds-of in
-    let l = c .before .letters-of in
-    let s = c .before .before .before .before in
-    let a = s .args in
-    let m : length (a .spec .tokens) ≡ 128 = search (needs, places) in
+    let bounds-of-call = c .before .before .bounds-of in
+    let letters-of-call = c .before .letters-of in
+    let at-start = c .before .before .before .before in
+    let given = at-start .args in
+    let size-is : length (given .spec .tokens) ≡ 128 = search (needs, places) in
     record {
-      kinds = kinds-by (a .spec) (omega (arith, s .pre)) (a .big) (b .result) (l .result) (b .ensures) (l .ensures);
+      kinds =
+          kinds-by (given .spec) (omega (arith, at-start .pre)) (given .big) (bounds-of-call .result) (letters-of-call .result)
+          (bounds-of-call .ensures) (letters-of-call .ensures);
       room = search needs;
       is-big = refl;
       all-rows = refl;
       content-rows = refl;
-      none-high = λ z. no-letters (a .t .now) (sym (c .needs-letters .ensures) ∙ z);
+      none-high = λ z. no-letters (given .t .now) (sym (c .needs-letters .ensures) ∙ z);
     }
 
 pub prepare-spec : {M : Type 1} → statement M

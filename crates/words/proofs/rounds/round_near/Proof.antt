@@ -10,14 +10,16 @@ use Rattle.words.proofs.rounds.round_near.Tie as tie
 
 round-requires : tie.Need-round-requires
 round-requires c κs =
-    let s = c .before .before .before .before .before .before .before .before .before .before in
-    set-bare (s .pre .0)
+    let at-start = c .before .before .before .before .before .before .before .before .before .before in
+    set-bare (at-start .pre .0)
 
 returns : tie.Need-returns
 returns c =
-    let s = c .before .before .before .before .before .before .before .before .before .before .before in (
-      c .round .ensures .0 ∙ round-bare s.args.t.now s.args.folds.now (s .pre .1) (placeOf s.args.t.now s.args.p) (c .before .before .if1 .taken)
-          (kindBy s.args.bounds.now s.args.s) s.args.s.big s.args.m false,
+    let at-start = c .before .before .before .before .before .before .before .before .before .before .before in (
+      c .round .ensures .0
+          ∙ round-bare at-start.args.t.now at-start.args.folds.now (at-start .pre .1) (placeOf at-start.args.t.now at-start.args.p)
+          (c .before .before .if1 .taken)
+          (kindBy at-start.args.bounds.now at-start.args.s) at-start.args.s.big at-start.args.m false,
       c .round .ensures .1,
     )
 

@@ -42,17 +42,20 @@ returns c =
     let at-match = c .before .before .before .before in
     let at-round = at-match .before .before in
     let at-loop = at-round .before .before .before in
-    let s = at-loop .before .before .before .before .before in
-    let q = at-match .q .given in
-    let l = at-loop .loop in
-    let e = turn-next s.args.t.now (q .0 .0) (q .1) (at-round .round-near .ensures .0) in
-    let i = next-in s.args.t.now (q .0 .0) (q .1) (at-round .round-near .ensures .1) in
-    let k = same-place s.args.t.now (l .cur) (q .0 .0) (l .inv .0) i (c .if1 .taken) in
+    let at-start = at-loop .before .before .before .before .before in
+    let found = at-match .q .given in
+    let in-loop = at-loop .loop in
+    let by-turn-next = turn-next at-start.args.t.now (found .0 .0) (found .1) (at-round .round-near .ensures .0) in
+    let by-next-in = next-in at-start.args.t.now (found .0 .0) (found .1) (at-round .round-near .ensures .1) in
+    let by-same-place = same-place at-start.args.t.now (in-loop .cur) (found .0 .0) (in-loop .inv .0) by-next-in (c .if1 .taken) in
     record {
       place =
-          sym (l .inv .1 ∙ counted-still (roundOf s.args.t.now s.args.folds.now (kindBy s.args.bounds.now s.args.s) s.args.s.big s.args.m false)
-          (l .left) _ (e ∙ ap On k));
-      spot = l .inv .0;
+          sym (in-loop .inv .1
+          ∙ counted-still
+          (roundOf at-start.args.t.now at-start.args.folds.now
+          (kindBy at-start.args.bounds.now at-start.args.s) at-start.args.s.big at-start.args.m false)
+          (in-loop .left) _ (by-turn-next ∙ ap On by-same-place));
+      spot = in-loop .inv .0;
       bare = at-round .before .near .ensures;
     }
 
@@ -62,13 +65,16 @@ loop-again c =
     let at-round = at-match .before .before in
     let at-test = at-round .before .before in
     let at-loop = at-test .before in
-    let s = at-loop .before .before .before .before .before in
-    let q = at-match .q .given in
-    let l = at-loop .loop in
-    let e = turn-next s.args.t.now (q .0 .0) (q .1) (at-round .round-near .ensures .0) in (
-      next-in s.args.t.now (q .0 .0) (q .1) (at-round .round-near .ensures .1),
-      l .inv .1 ∙ counted-on (roundOf s.args.t.now s.args.folds.now (kindBy s.args.bounds.now s.args.s) s.args.s.big s.args.m false) (l .left) _ _
-          (omega (arith, at-test .loop-test .taken)) e,
+    let at-start = at-loop .before .before .before .before .before in
+    let found = at-match .q .given in
+    let in-loop = at-loop .loop in
+    let by-turn-next = turn-next at-start.args.t.now (found .0 .0) (found .1) (at-round .round-near .ensures .0) in (
+      next-in at-start.args.t.now (found .0 .0) (found .1) (at-round .round-near .ensures .1),
+      in-loop .inv .1
+          ∙ counted-on
+          (roundOf at-start.args.t.now at-start.args.folds.now
+          (kindBy at-start.args.bounds.now at-start.args.s) at-start.args.s.big at-start.args.m false) (in-loop .left) _ _
+          (omega (arith, at-test .loop-test .taken)) by-turn-next,
       at-round .before .near .ensures,
     )
 
@@ -77,29 +83,35 @@ returns-2 c =
     let at-round = c .before .before .before in
     let at-test = at-round .before .before in
     let at-loop = at-test .before in
-    let s = at-loop .before .before .before .before .before in
-    let q2 = c .before .q2 .given in
-    let l = at-loop .loop in
-    let e = turn-last s.args.t.now (q2 .0 .0) (q2 .1) (at-round .round-near .ensures .0) in
+    let at-start = at-loop .before .before .before .before .before in
+    let q2-given = c .before .q2 .given in
+    let in-loop = at-loop .loop in
+    let by-turn-last = turn-last at-start.args.t.now (q2-given .0 .0) (q2-given .1) (at-round .round-near .ensures .0) in
     record {
       place =
-          sym (l .inv .1 ∙ counted-off (roundOf s.args.t.now s.args.folds.now (kindBy s.args.bounds.now s.args.s) s.args.s.big s.args.m false)
-          (l .left) _ _ (omega (arith, at-test .loop-test .taken)) e);
-      spot = last-in s.args.t.now (q2 .0 .0) (q2 .1) (at-round .round-near .ensures .1);
+          sym (in-loop .inv .1
+          ∙ counted-off
+          (roundOf at-start.args.t.now at-start.args.folds.now
+          (kindBy at-start.args.bounds.now at-start.args.s) at-start.args.s.big at-start.args.m false)
+          (in-loop .left) _ _ (omega (arith, at-test .loop-test .taken)) by-turn-last);
+      spot = last-in at-start.args.t.now (q2-given .0 .0) (q2-given .1) (at-round .round-near .ensures .1);
       bare = at-round .before .near .ensures;
     }
 
 returns-3 : tie.Need-returns-3 Inv-loop μ-loop
 returns-3 c =
     let at-loop = c .before in
-    let s = at-loop .before .before .before .before .before in
-    let l = at-loop .loop in
+    let at-start = at-loop .before .before .before .before .before in
+    let in-loop = at-loop .loop in
     record {
       place =
-          sym (l .inv .1 ∙ counted-none (roundOf s.args.t.now s.args.folds.now (kindBy s.args.bounds.now s.args.s) s.args.s.big s.args.m false)
-          (l .left) _ (omega (arith, c .loop-test .left)));
-      spot = l .inv .0;
-      bare = l .inv .2;
+          sym (in-loop .inv .1
+          ∙ counted-none
+          (roundOf at-start.args.t.now at-start.args.folds.now
+          (kindBy at-start.args.bounds.now at-start.args.s) at-start.args.s.big at-start.args.m false)
+          (in-loop .left) _ (omega (arith, c .loop-test .left)));
+      spot = in-loop .inv .0;
+      bare = in-loop .inv .2;
     }
 
 pub rounds-from-spec : {M : Type 1} → statement M
