@@ -90,8 +90,8 @@ fn with_room(
     )
 }
 
-// The list of a case is how many places the table has, how many numbers the jumps have, those of the
-// table, those of the jumps, and the keyword list.
+// The list of a case is how many places the table has, how many numbers the jumps have, those of
+// the table, those of the jumps, and the keyword list.
 pub fn jumped(k: Head, text: &[u32], folds: &[u32], list: &[u32], stored: &[u32]) -> Verdict
     ensures { λ r. ⌜ r ≡ jumpVerdict k (now (text .entry)) (now (folds .entry))
         (now (list .entry)) (now (stored .entry)) ⌝ }

@@ -21,7 +21,8 @@ fn compared_all(
     table: &[u32],
     stored: &[u32],
 ) -> Verdict
-    requires { ⌜ (length (now text) ≤ 64) × (length (now folds) ≤ 64) × (length (now table) ≤ 64) ⌝ }
+    requires { ⌜ (length (now text) ≤ 64) × (length (now folds) ≤ 64)
+        × (length (now table) ≤ 64) ⌝ }
     ensures { λ r. ⌜ r ≡ Answers·compared (number ∷ ((((now (caret .entry) ++ now (sizes .entry))
         ++ now (text .entry)) ++ now (folds .entry)) ++ now (table .entry)))
         (now (stored .entry)) ⌝ }
@@ -65,7 +66,8 @@ fn edit_into(
     table: &mut [u32],
     stored: &[u32],
 ) -> Verdict
-    requires { ⌜ (length (now text) ≤ 64) × (length (now folds) ≤ 64) × (length (now table) ≤ 64) ⌝ }
+    requires { ⌜ (length (now text) ≤ 64) × (length (now folds) ≤ 64)
+        × (length (now table) ≤ 64) ⌝ }
     ensures { λ r. ⌜ r ≡ Answers·compared (keptInto k (now (points .entry)) content
         (now (text .entry)) (now (folds .entry)) (now (table .entry))) (now (stored .entry)) ⌝ }
 {

@@ -75,8 +75,8 @@ pub(crate) fn word(
     list: &[u32],
     stored: &[u32],
 ) -> Verdict
-    ensures { λ r. ⌜ r ≡ Answers·compared (wordOf op k (now (text .entry)) (now (folds .entry)) content
-        (now (starts .entry)) (now (list .entry))) (now (stored .entry)) ⌝ }
+    ensures { λ r. ⌜ r ≡ Answers·compared (wordOf op k (now (text .entry)) (now (folds .entry))
+        content (now (starts .entry)) (now (list .entry))) (now (stored .entry)) ⌝ }
 {
     let mut out = [FILLER; 4];
     let n = call_motion_rows::word_rows(

@@ -1,9 +1,9 @@
 // The verdict of a case on row starts, by its operation: 0 fills, 1 inserts, 2 deletes; from 100 on
 // the motions, from 200 on the word motions, from 300 on up, down and the screen, from 600 on the
-// viewport, from 700 on the searches and from 800 on the screen moves that remember, each by its own
-// numbers. The list of a fill is its table; of any other case the number of rows with content, how
-// many places the table has, those, and what the call takes beside them: what is put in, a keyword
-// list, or whether an offset is kept, and that.
+// viewport, from 700 on the searches and from 800 on the screen moves that remember, each by its
+// own numbers. The list of a fill is its table; of any other case the number of rows with content,
+// how many places the table has, those, and what the call takes beside them: what is put in, a
+// keyword list, or whether an offset is kept, and that.
 use crate::editing::edit;
 use crate::filling::fill;
 use crate::moving::kept;

@@ -13,19 +13,19 @@ lent c =
     let at-put-all2 = c .before .before in
     let at-put-all = at-put-all2 .before .before .before in
     let entry = at-put-all .before .before .before .before .before in
-    let put-all-told = at-put-all .put-all .ensures in
-    let put-all2-told = at-put-all2 .put-all2 .ensures in
-    sym (length-take-le _ _ (omega (arith, put-all-told .next, put-all-told .size, put-all2-told .next, put-all2-told .size, entry .pre)))
+    let caret-put = at-put-all .put-all .ensures in
+    let answers-put = at-put-all2 .put-all2 .ensures in
+    sym (length-take-le _ _ (omega (arith, caret-put .next, caret-put .size, answers-put .next, answers-put .size, entry .pre)))
 
 returns : tie.Need-returns
 returns c =
     let at-put-all2 = c .before .before .before in
     let at-put-all = at-put-all2 .before .before .before in
     let entry = at-put-all .before .before .before .before .before in
-    let put-all-told = at-put-all .put-all .ensures in
-    let put-all2-told = at-put-all2 .put-all2 .ensures in
-    let all = wrote-then put-all-told put-all2-told in
-    let front = written-front all (omega (arith, all .next, put-all-told .next, put-all2-told .next, entry .pre)) in
+    let caret-put = at-put-all .put-all .ensures in
+    let answers-put = at-put-all2 .put-all2 .ensures in
+    let all = wrote-then caret-put answers-put in
+    let front = written-front all (omega (arith, all .next, caret-put .next, answers-put .next, entry .pre)) in
     rw front at (c .compared .ensures)
 
 pub compared-both-spec : {M : Type 1} → statement M

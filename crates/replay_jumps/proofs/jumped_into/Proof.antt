@@ -8,8 +8,8 @@ use Rattle.replay_jumps.proofs.jumped_into.Tie as tie
 returns : tie.Need-returns
 unfolding jumpedInto
 returns c =
-    let jumps-told = c .before .before .before .before .before .jumps .ensures in
-    jumped-compared _ (jumps-told .0) (jumps-told .1) (c .compared-both .ensures)
+    let left = c .before .before .before .before .before .jumps .ensures in
+    jumped-compared _ (left .0) (left .1) (c .compared-both .ensures)
 
 pub jumped-into-spec : {M : Type 1} → statement M
 jumped-into-spec = tie.close (tie.spec (λ c κs. search needs) (λ c κs. search needs) (λ c. search needs) returns)

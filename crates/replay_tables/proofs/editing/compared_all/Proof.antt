@@ -16,26 +16,26 @@ lent c =
     let at-put-all2 = at-put-all3 .before .before .before in
     let at-put-all = at-put-all2 .before .before .before .before in
     let entry = at-put-all .before .before .before .before .before .before .before in
-    let put-all-told = at-put-all .put-all .ensures in
-    let put-all2-told = at-put-all2 .put-all2 .ensures in
-    let put-all3-told = at-put-all3 .put-all3 .ensures in
-    let put-all4-told = at-put-all4 .put-all4 .ensures in
-    let put-all5-told = at-put-all5 .put-all5 .ensures in
+    let caret-put = at-put-all .put-all .ensures in
+    let sizes-put = at-put-all2 .put-all2 .ensures in
+    let text-put = at-put-all3 .put-all3 .ensures in
+    let folds-put = at-put-all4 .put-all4 .ensures in
+    let table-put = at-put-all5 .put-all5 .ensures in
     let fit = entry .pre in
     sym
     (length-take-le _ _
     (omega (
       arith,
-      put-all-told .next,
-      put-all-told .size,
-      put-all2-told .next,
-      put-all2-told .size,
-      put-all3-told .next,
-      put-all3-told .size,
-      put-all4-told .next,
-      put-all4-told .size,
-      put-all5-told .next,
-      put-all5-told .size,
+      caret-put .next,
+      caret-put .size,
+      sizes-put .next,
+      sizes-put .size,
+      text-put .next,
+      text-put .size,
+      folds-put .next,
+      folds-put .size,
+      table-put .next,
+      table-put .size,
       fit .0,
       fit .1,
       fit .2,
@@ -49,26 +49,16 @@ returns c =
     let at-put-all2 = at-put-all3 .before .before .before in
     let at-put-all = at-put-all2 .before .before .before .before in
     let entry = at-put-all .before .before .before .before .before .before .before in
-    let put-all-told = at-put-all .put-all .ensures in
-    let put-all2-told = at-put-all2 .put-all2 .ensures in
-    let put-all3-told = at-put-all3 .put-all3 .ensures in
-    let put-all4-told = at-put-all4 .put-all4 .ensures in
-    let put-all5-told = at-put-all5 .put-all5 .ensures in
+    let caret-put = at-put-all .put-all .ensures in
+    let sizes-put = at-put-all2 .put-all2 .ensures in
+    let text-put = at-put-all3 .put-all3 .ensures in
+    let folds-put = at-put-all4 .put-all4 .ensures in
+    let table-put = at-put-all5 .put-all5 .ensures in
     let fit = entry .pre in
-    let all = wrote-then (wrote-then (wrote-then (wrote-then put-all-told put-all2-told) put-all3-told) put-all4-told) put-all5-told in
-    let front = written-front all
-    (omega (
-      arith,
-      all .next,
-      put-all-told .next,
-      put-all2-told .next,
-      put-all3-told .next,
-      put-all4-told .next,
-      put-all5-told .next,
-      fit .0,
-      fit .1,
-      fit .2,
-    )) in
+    let all = wrote-then (wrote-then (wrote-then (wrote-then caret-put sizes-put) text-put) folds-put) table-put in
+    let front =
+    written-front all
+    (omega (arith, all .next, caret-put .next, sizes-put .next, text-put .next, folds-put .next, table-put .next, fit .0, fit .1, fit .2)) in
     rw front at (c .compared .ensures)
 
 pub compared-all-spec : {M : Type 1} → statement M

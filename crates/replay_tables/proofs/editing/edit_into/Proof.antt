@@ -10,8 +10,7 @@ returns c =
     let entry = at-edited .before .before .before .before .before .before .before .before .before .before .before in
     let given = entry .args in
     kept-compared (given .k) (given .points .now) given.content (given .text .now) (given .folds .now) (given .table .now) (given .stored .now)
-    (at-edited .edited .ensures)
-    (c .compared-all .ensures)
+    (at-edited .edited .ensures) (c .compared-all .ensures)
 
 pub edit-into-spec : {M : Type 1} → statement M
 edit-into-spec =

@@ -10,8 +10,8 @@ returns c =
     let at-if1 = at-insert .before .before .before .before .before .before in
     let entry = at-if1 .before .before .before .before .before .before in
     let given = entry .args in
-    let taken = at-if1 .if1 .taken in
-    rw (to-insert (given .k) (given .points .now) taken, put-insert (given .k) (given .points .now) taken) (at-insert .insert-rows .ensures)
+    let inserts = at-if1 .if1 .taken in
+    rw (to-insert (given .k) (given .points .now) inserts, put-insert (given .k) (given .points .now) inserts) (at-insert .insert-rows .ensures)
 
 returns-2 : tie.Need-returns-2
 returns-2 c =
@@ -19,8 +19,8 @@ returns-2 c =
     let at-if1 = at-delete .before .before .before .before .before .before in
     let entry = at-if1 .before .before .before .before .before .before in
     let given = entry .args in
-    let left = at-if1 .if1 .left in
-    rw (to-delete (given .k) (given .points .now) left, put-delete (given .k) (given .points .now) left) (at-delete .delete-rows .ensures)
+    let deletes = at-if1 .if1 .left in
+    rw (to-delete (given .k) (given .points .now) deletes, put-delete (given .k) (given .points .now) deletes) (at-delete .delete-rows .ensures)
 
 pub edited-spec : {M : Type 1} → statement M
 edited-spec =

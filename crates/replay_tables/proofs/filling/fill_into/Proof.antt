@@ -12,9 +12,8 @@ unfolding filledInto
 returns c =
     let at-call = c .before .before .before .before in
     let given = at-call .before .before .before .before .before .before .args in
-    let row-starts-told = at-call .row-starts .ensures in
-    rw (← row-starts-told .starts-left)
-    (wrapped-compared (toldRows (fillOf (given .text .now) (given .table .now))) _ _ (row-starts-told .out-left) (c .compared-two .ensures))
+    let filled = at-call .row-starts .ensures in
+    rw (← filled .starts-left) (wrapped-compared (toldRows (fillOf (given .text .now) (given .table .now))) _ _ (filled .out-left) (c .compared-two .ensures))
 
 pub fill-into-spec : {M : Type 1} → statement M
 fill-into-spec =
