@@ -62,7 +62,7 @@ pub fn vim_write(list: &[u32], written: &mut [u32]) -> Result<u32, (u32, u32)> {
 /// use tsivareza::{Caret, Word, Words, word_vim};
 /// let points = |text: &str| text.chars().map(u32::from).collect::<Vec<_>>();
 /// let (text, list) = (points("ISO-8859"), points("@,48-57,^a-z"));
-/// let to = |list| word_vim(Word::Fwd, &text, Caret::at(0, 0), Words { folds: &[], list, big: false }, 1);
+/// let to = |list: &[u32]| word_vim(Word::Fwd, &text, Caret::at(0, 0), Words { folds: &[], list, big: false }, 1);
 /// assert_eq!(to(&list), Ok(Caret::at(0, 3)));
 /// assert_eq!(to(&points("@,-")), Ok(Caret::at(0, 4)));
 /// assert_eq!(to(&points("a,")), Err((17, 2)));
