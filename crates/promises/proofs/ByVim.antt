@@ -14,7 +14,8 @@ use Rattle.word_edges.specs.Words.{nextWordStart, prevWordStart, nextWordEnd, p
 use Rattle.word_rounds.specs.Rounds.{roundOf, counted, wordMotion}
 use Rattle.positions.specs.Positions.{positionRefusal, lowest}
 use Rattle.vim_grammar.specs.Tokens.{decided}
-use Rattle.vim_reader.specs.Machine.{mostOf, firstOf, startOf, behind, numberStep, secondOf, dashStep, secondStep, doneStep, stepOf, signToken, tokenOf, ends, phaseOf}
+use Rattle.vim_reader.specs.Machine.{mostOf, firstOf, startOf, behind, numberStep, secondOf, dashStep, secondStep, doneStep}
+use Rattle.vim_reader.specs.Machine.{stepOf, signToken, tokenOf, ends, phaseOf}
 use Rattle.vim_reader.specs.Reading.{onto, later, reading}
 use Rattle.vim_reader.specs.Table.{answered}
 use Rattle.vim_words.specs.ByVim.{byRead, wordByVim}

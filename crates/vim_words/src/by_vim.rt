@@ -56,9 +56,9 @@ fn to_word(
 }
 
 // A word motion by a Vim list: where it leads to, or why not. By `a-c` `w` leads from column 0 of
-// `abx c` to column 2. The refusals are those of the word motions by a list of the first grammar, but
-// that of the list: 7, then 17 with the place where it goes wrong, then 8. `ge` takes no folds, and
-// `stop` is for `e` that may stay in the first round.
+// `abx c` to column 2. The refusals are those of the word motions by a list of the first grammar,
+// but that of the list: 7, then 17 with the place where it goes wrong, then 8. `ge` takes no folds,
+// and `stop` is for `e` that may stay in the first round.
 pub fn word_by_vim(
     k: Caret,
     t: &[u32],

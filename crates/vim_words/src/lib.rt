@@ -1,6 +1,6 @@
-// The word motions by Vim's own keyword lists: `w`, `b`, `e`, `ge` and their capitals, on carets. The
-// walks are those of `words`; a list's table becomes a flag for each code up to 255, and whether the
-// letters above count. Document 02, #108.
+// The word motions by Vim's own keyword lists: `w`, `b`, `e`, `ge` and their capitals, on carets.
+// The walks are those of `words`; a list's table becomes a flag for each code up to 255, and
+// whether the letters above count. Document 02, #108.
 use motions::Caret;
 
 mod by_vim;

@@ -17,8 +17,9 @@ ghost use Rattle.word_rounds.specs.Turns.{Folded};
 ghost use Rattle.words.specs.Prepared.{Prepares};
 ghost use Rattle.vim_words.specs.Flags.{lowEnds};
 
-// The flags of the table, the setting, and whether the ranges of the letters are to be lent. The rows
-// of the text, and those with content, are handed in. No token that was read has an end above 255.
+// The flags of the table, the setting, and whether the ranges of the letters are to be lent. The
+// rows of the text, and those with content, are handed in. No token that was read has an end above
+// 255.
 pub fn prepare_vim(t: &[u32], spec: VimSpec, big: bool, rows: usize, content: usize) -> Prepared
     requires { ⌜ (spec .len ≤ 128) × (lowEnds (kept spec) ≡ true) ⌝ }
     ensures { λ r. ⌜ Prepares (now (t .entry)) (inVim (kept spec)) big rows content r ⌝ }

@@ -16,7 +16,8 @@ returns : tie.Need-returns
 returns c =
     let prepared = c .before .before .before .before in
     let given = prepared .before .before .before .args in
-    let motion = made-motion (prepared .prepare-vim .ensures) (given .folds .now) (given .m) (given .stop) (given .count) (placeOf (given .t .now) (given .p)) in
+    let from = placeOf (given .t .now) (given .p) in
+    let motion = made-motion (prepared .prepare-vim .ensures) (given .folds .now) (given .m) (given .stop) (given .count) from in
     (c .walk-made .ensures .0 ∙ motion, c .walk-made .ensures .1)
 
 pub vim-motion-spec : {M : Type 1} → statement M
