@@ -140,13 +140,13 @@ const GROUPS = {
             pairs: list.slice(pairs, words), list: list.slice(words), answers: filled(n[6]) };
         return forms("jumps", given, ["text", "folds", "list"], ["out", "answers"]);
     },
+    25: ({ op, n, text, folds, list }) =>
+        forms("word_vim", { op, text, folds, list, ...caret(n), count: n[4], big: n[5] }, ["text", "folds", "list"], ["out"], true),
     102: ({ text }) => {
         counts.set("tsivareza_session", counts.get("tsivareza_session") + 1);
         const { number, out } = engine.call("tsivareza_session", { input: Uint8Array.from(text), out: new Uint8Array(393240) });
         return [Array.from(out.subarray(0, number))];
     },
-    103: ({ op, n, text, folds, list }) =>
-        forms("word_vim", { op, text, folds, list, ...caret(n), count: n[4], big: n[5] }, ["text", "folds", "list"], ["out"], true),
 };
 
 const caret = ([row, col, held, sticky]) => ({ row, col, held, sticky });

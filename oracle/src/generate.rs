@@ -195,7 +195,7 @@ fn by_vim(call: &Call) -> bool {
 }
 
 /// The word motions by a Vim list.
-pub fn words_by_vim(call: &Call) -> bool {
+fn words_by_vim(call: &Call) -> bool {
     call.name.ends_with("_by_vim")
 }
 

@@ -1,7 +1,6 @@
 //! Random cases with their answers as rows of numbers, for a host that runs the library elsewhere than in the program `replay`:
-//! the groups of `replay`, `replay_buffers`, `replay_tables` and `replay_jumps`, sessions, and the word motions by a Vim list. A
-//! session, group 102, has its bytes as the text; the answer is the bytes that it prints. A word motion by a Vim list, group 103,
-//! is as group 10 has it, with the place of 17 behind the number.
+//! the groups of `replay`, `replay_buffers`, `replay_tables` and `replay_jumps`, and sessions. A session, group 102, has its bytes
+//! as the text; the answer is the bytes that it prints.
 
 use crate::case::CALLS;
 use crate::generate::Dice;

@@ -8,8 +8,8 @@
 //! that remembers, group 18, has in its list whether an offset is kept, and that. Edits and fold files, groups 19 and 20:
 //! `replay_buffers`. The second engine of the word motions is group 21: operations 0 to 4 as group 10 has them, 5 the classes; a
 //! place for a class is a number. Row starts are group 22: `replay_tables`. Vim's own lists are group 23: operations 0 and 1 as the
-//! exports have them, 2 a list written. Jumps are group 24: `replay_jumps`. The word motions by a Vim
-//! list, group 103, are not stored: `random_rows`.
+//! exports have them, 2 a list written. Jumps are group 24: `replay_jumps`. The word motions by a Vim list are group 25: as group 10
+//! has them.
 
 use crate::case::{CALLS, Call, Case, FILLER, FILLER_CLASS, Input};
 use crate::generate::{self, Dice};
@@ -63,7 +63,7 @@ pub(crate) fn asked(k: &Case) -> Asked<'_> {
     let (group, op, numbers) = numbers(k);
     let places = match group {
         7 => 3,
-        8 | 10..=12 | 103 => 4,
+        8 | 10..=12 | 25 => 4,
         9 => 5,
         13 => 9,
         18 => 6,
@@ -78,8 +78,8 @@ pub(crate) fn asked(k: &Case) -> Asked<'_> {
         1 | 16 | 17 | 23 => (&[], &[], &k.list),
         2 | 3 | 5 => (&k.line, &[], &[]),
         4 => (&[], &[], &k.segments),
-        10 | 103 if op == 4 => (&k.text, &[], &k.list),
-        10 | 103 => (&k.text, &k.folds, &k.list),
+        10 | 25 if op == 4 => (&k.text, &[], &k.list),
+        10 | 25 => (&k.text, &k.folds, &k.list),
         21 if op >= 4 => (&k.text, &[], &k.list),
         21 => (&k.text, &k.folds, &k.list),
         11 | 18 => (&k.text, &k.folds, &[]),
@@ -109,7 +109,7 @@ fn plain_numbers(k: &Case, name: &str) -> (u32, u32, Vec<u32>) {
     }
     let (x, at, tab) = (k.character, k.column, k.tabstop);
     let word = |op| (10, op, caret(&[count, k.big.into()]));
-    let by_vim = |op| (103, op, caret(&[count, k.big.into()]));
+    let by_vim = |op| (25, op, caret(&[count, k.big.into()]));
     let by_class = |op| (21, op, caret(&[count, k.big.into(), k.room]));
     let (top, height, width, wrap) = (k.view.top, k.view.height.into(), k.view.width.into(), mode(k.view.wrap));
     let upright = |op| (11, op, caret(&[count, tab, wrap, width]));
@@ -205,7 +205,7 @@ pub(crate) fn answer(k: &Case, places: usize, outcome: &Outcome) -> Option<Vec<u
         Outcome::Classed(caret, slice) => [vec![0], held(caret).to_vec(), numbers_of(slice)].concat(),
         Outcome::Outside => return None,
     };
-    if matches!(k.call.name, "enter" | "enter_matches") || matches!(numbers(k).0, 23 | 103) {
+    if matches!(k.call.name, "enter" | "enter_matches") || matches!(numbers(k).0, 23 | 25) {
         all.insert(1, if let Outcome::RefusedAt(_, place) = outcome { *place } else { 0 });
     }
     Some(all)
@@ -322,16 +322,11 @@ pub(crate) fn codings(seed: u64, n: usize) -> (Vec<Row>, Vec<Row>) {
     (there, back)
 }
 
-/// Whether the list has a call.
-pub fn stored(call: &Call) -> bool {
-    !generate::words_by_vim(call)
-}
-
 /// The rows of the list, in its order.
 pub fn list() -> Vec<Row> {
     let buffers = replay_buffers::edits().into_iter().chain(replay_buffers::fold_files());
     let (there, mut back) = codings(SEED, CASES);
     back.push(encoded(&vec![0x61; 1_048_577], 4));
     let later = replay_tables::tables().into_iter().chain(replay_jumps::jumps());
-    CALLS.iter().filter(|call| stored(call)).flat_map(rows).chain(there).chain(back).chain(buffers).chain(later).collect()
+    CALLS.iter().flat_map(rows).chain(there).chain(back).chain(buffers).chain(later).collect()
 }

@@ -15,7 +15,7 @@ use Rattle.replay_edits.specs.Edits.{editVerdict}
 use Rattle.replay_fold_file.specs.FoldFiles.{fileVerdict}
 use Rattle.replay_classes.specs.Classes.{classVerdict}
 use Rattle.replay_tables.specs.Verdicts.{tabledVerdict}
-use Rattle.replay_vim.specs.Vim.{vimVerdict}
+use Rattle.replay_vim.specs.Vim.{vimVerdict, vimWordOf}
 use Rattle.replay_jumps.specs.Jumps.{jumpVerdict}
 use Rattle.replay.specs.Calls.{characterOf, keywordsOf, columnsOf, offsetsOf, segmentForColOf, wrapVerdict}
 use Rattle.replay.specs.Calls.{contentRowCountOf, matchingBracketPosOf, innerPairOf, motionOf, seekOf, wordOf, verticalVerdict, viewportVerdict, keptVerdict}
@@ -48,7 +48,8 @@ byGroup group k text folds list stored =
     (cond (eqb group 22) (tabledVerdict k text folds list stored)
     (cond (eqb group 23) (vimVerdict k list stored)
     (cond (eqb group 24) (jumpVerdict k text folds list stored)
-    Malformed))))))))))))))))))))))))
+    (cond (eqb group 25) (compared (vimWordOf k text folds list) stored)
+    Malformed)))))))))))))))))))))))))
 
 -- the verdict of a case
 unfoldable pub verdictOf : List ℕ → Verdict

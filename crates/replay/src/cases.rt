@@ -44,6 +44,7 @@ fn by_group(
         22 => replay_tables::tabled(k, text, folds, list, stored),
         23 => replay_vim::vim(k, list, stored),
         24 => replay_jumps::jumped(k, text, folds, list, stored),
+        25 => replay_vim::word_vim(k, text, folds, list, stored),
         _ => Verdict::Malformed,
     }
 }

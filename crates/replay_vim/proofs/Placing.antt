@@ -1,4 +1,4 @@
--- Laws of what a call on a Vim list replies: it fills its one place, and is compared by its number, its place and that. Assumes nothing.
+-- Laws of what a call on a Vim list replies: it fills the places lent to it, and is compared by its number, its place and those. Assumes nothing.
 use mathlib.Core.Path.{_≡_, refl, sym, _∙_}
 use mathlib.Core.List.{List, [], _∷_}
 use Prim.Native.Nat.{ℕ, _/_, _%_}
@@ -8,10 +8,15 @@ use Rattle.call_signs.specs.declared.Placed.{Placed}
 use Rattle.call_signs.specs.declared.Placed.the-variants.{Value, Refused}
 use Rattle.call_signs.specs.Entry.{placedReply}
 use Rattle.call_vim.specs.Vim.{vimBy, vimWriting, vimLeft}
+use Rattle.vim_words.specs.declared.VimMoved.{VimMoved}
+use Rattle.vim_words.specs.declared.VimMoved.the-variants.{To, Bad, Refused as VimMoved·Refused}
+use Rattle.call_texts.specs.Carets.{caretOf, moved}
+use Rattle.call_folds.specs.Terms.{isBig}
+use Rattle.call_vim_words.specs.ByTerm.{vimMoved, wordsVim}
 use Rattle.replay_rows.specs.declared.Head.{Head}
 use Rattle.replay_verdicts.specs.declared.Verdict.{Verdict}
 use Rattle.replay_verdicts.specs.Answers.{compared, filler}
-use Rattle.replay_vim.specs.Vim.{vimListOf, vimInto}
+use Rattle.replay_vim.specs.Vim.{vimListOf, vimInto, vimWordOf}
 
 pub placed-sized : (m : Placed) → length (left (placedReply m) (replicate 1 filler)) ≡ 1
 placed-sized (Value n) = refl
@@ -34,3 +39,16 @@ pub written-compared :
     v ≡ compared (r % 4294967296 ∷ r / 4294967296 ∷ getD out 0 0 ∷ vimLeft list written) stored → v ≡ compared (vimInto list written) stored
 unfolding vimInto
 written-compared list written stored p e = e ∙ rw (p .numbered, p .out-left) (sym (rw (placed-single (vimWriting list written)) refl))
+
+pub word-sized : (m : VimMoved) → length (left (vimMoved m) (replicate 4 filler)) ≡ 4
+unfolding vimMoved moved
+word-sized (To k) = refl
+word-sized (Bad p) = refl
+word-sized (VimMoved·Refused f) = refl
+
+pub word-compared :
+    (k : Head) (text folds list stored : List ℕ) {r : ℕ} {out : List ℕ} {v : Verdict} →
+    Replied (wordsVim (k .op) (isBig (k .f)) (k .e) (caretOf (k .a) (k .b) (k .c) (k .d)) text folds list) (replicate 4 filler) r out →
+    v ≡ compared (r % 4294967296 ∷ r / 4294967296 ∷ out) stored → v ≡ compared (vimWordOf k text folds list) stored
+unfolding vimWordOf
+word-compared k text folds list stored p e = e ∙ rw (p .numbered, p .out-left) refl

@@ -8,6 +8,9 @@ use lib.ListN.{replicate}
 use Rattle.call_bytes.specs.Reply.{number, left}
 use Rattle.call_signs.specs.Entry.{placedReply}
 use Rattle.call_vim.specs.Vim.{vimBy, vimWriting, vimLeft}
+use Rattle.call_texts.specs.Carets.{caretOf}
+use Rattle.call_folds.specs.Terms.{isBig}
+use Rattle.call_vim_words.specs.ByTerm.{wordsVim}
 use Rattle.replay_rows.specs.declared.Head.{Head}
 use Rattle.replay_verdicts.specs.declared.Verdict.{Verdict}
 use Rattle.replay_verdicts.specs.declared.Verdict.the-variants.{Malformed}
@@ -32,3 +35,9 @@ vimWriteVerdict k list stored = cond (leb (k .a) 64) (compared (vimInto list (re
 -- the verdict by the operation
 unfoldable pub vimVerdict : Head → List ℕ → List ℕ → Verdict
 vimVerdict k list stored = cond (eqb (k .op) 2) (vimWriteVerdict k list stored) (compared (vimListOf k list) stored)
+
+-- a word motion of the caret a to d by the count e, of big words where f is not 0: the number, the place and the caret
+unfoldable pub vimWordOf : Head → List ℕ → List ℕ → List ℕ → List ℕ
+vimWordOf k text folds list =
+    let m = wordsVim (k .op) (isBig (k .f)) (k .e) (caretOf (k .a) (k .b) (k .c) (k .d)) text folds list in
+    number m % 4294967296 ∷ number m / 4294967296 ∷ left m (replicate 4 filler)

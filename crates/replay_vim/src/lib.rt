@@ -7,6 +7,7 @@ use replay_verdicts::compared_two;
 ghost use mathlib.Core.Path.{_≡_};
 ghost use Rattle.replay_verdicts.specs.Answers.{compared as Answers·compared};
 ghost use Rattle.replay_vim.specs.Vim.{vimListOf, vimInto, vimWriteVerdict, vimVerdict};
+ghost use Rattle.replay_vim.specs.Vim.{vimWordOf};
 
 // The number, the place and the answer.
 fn vim_list(k: Head, list: &[u32], stored: &[u32]) -> Verdict
@@ -58,4 +59,31 @@ pub fn vim(k: Head, list: &[u32], stored: &[u32]) -> Verdict
         return vim_write(k, list, stored);
     }
     vim_list(k, list, stored)
+}
+
+// A word motion by the count e, of big words where f is not 0: the number, the place and the caret.
+pub fn word_vim(k: Head, text: &[u32], folds: &[u32], list: &[u32], stored: &[u32]) -> Verdict
+    ensures { λ r. ⌜ r ≡ Answers·compared (vimWordOf k (now (text .entry)) (now (folds .entry))
+        (now (list .entry))) (now (stored .entry)) ⌝ }
+{
+    let mut out = [FILLER; 4];
+    let told = call_vim_words::word_vim(
+        k.op,
+        text,
+        folds,
+        list,
+        k.a,
+        k.b,
+        k.c,
+        k.d,
+        k.f,
+        k.e,
+        &mut out,
+    );
+    compared_two(
+        (told % 4294967296) as u32,
+        (told / 4294967296) as u32,
+        &out,
+        stored,
+    )
 }

@@ -5,37 +5,40 @@ use Rattle.replay.specs.Cases.{byGroup}
 use Rattle.replay.proofs.cases.by_group.Statement.{statement}
 use Rattle.replay.proofs.cases.by_group.Tie as tie
 
-returns-26 : tie.Need-returns-26
+returns-27 : tie.Need-returns-27
 unfolding byGroup
-returns-26 c =
+returns-27 c =
     let other = c .match .rest in
     rw (
-      ne-eqb _ 0 (other .0 .0 .0 .0 .0 .0 .0 .0 .0 .0 .0 .0 .0 .0 .0 .0 .0 .0 .0 .0 .0 .0 .0 .0 .1),
-      ne-eqb _ 1 (other .0 .0 .0 .0 .0 .0 .0 .0 .0 .0 .0 .0 .0 .0 .0 .0 .0 .0 .0 .0 .0 .0 .0 .1),
-      ne-eqb _ 2 (other .0 .0 .0 .0 .0 .0 .0 .0 .0 .0 .0 .0 .0 .0 .0 .0 .0 .0 .0 .0 .0 .0 .1),
-      ne-eqb _ 3 (other .0 .0 .0 .0 .0 .0 .0 .0 .0 .0 .0 .0 .0 .0 .0 .0 .0 .0 .0 .0 .0 .1),
-      ne-eqb _ 4 (other .0 .0 .0 .0 .0 .0 .0 .0 .0 .0 .0 .0 .0 .0 .0 .0 .0 .0 .0 .0 .1),
-      ne-eqb _ 5 (other .0 .0 .0 .0 .0 .0 .0 .0 .0 .0 .0 .0 .0 .0 .0 .0 .0 .0 .0 .1),
-      ne-eqb _ 6 (other .0 .0 .0 .0 .0 .0 .0 .0 .0 .0 .0 .0 .0 .0 .0 .0 .0 .0 .1),
-      ne-eqb _ 7 (other .0 .0 .0 .0 .0 .0 .0 .0 .0 .0 .0 .0 .0 .0 .0 .0 .0 .1),
-      ne-eqb _ 8 (other .0 .0 .0 .0 .0 .0 .0 .0 .0 .0 .0 .0 .0 .0 .0 .0 .1),
-      ne-eqb _ 9 (other .0 .0 .0 .0 .0 .0 .0 .0 .0 .0 .0 .0 .0 .0 .0 .1),
-      ne-eqb _ 10 (other .0 .0 .0 .0 .0 .0 .0 .0 .0 .0 .0 .0 .0 .0 .1),
-      ne-eqb _ 11 (other .0 .0 .0 .0 .0 .0 .0 .0 .0 .0 .0 .0 .0 .1),
-      ne-eqb _ 12 (other .0 .0 .0 .0 .0 .0 .0 .0 .0 .0 .0 .0 .1),
-      ne-eqb _ 13 (other .0 .0 .0 .0 .0 .0 .0 .0 .0 .0 .0 .1),
-      ne-eqb _ 14 (other .0 .0 .0 .0 .0 .0 .0 .0 .0 .0 .1),
-      ne-eqb _ 15 (other .0 .0 .0 .0 .0 .0 .0 .0 .0 .1),
-      ne-eqb _ 16 (other .0 .0 .0 .0 .0 .0 .0 .0 .1),
-      ne-eqb _ 17 (other .0 .0 .0 .0 .0 .0 .0 .1),
-      ne-eqb _ 18 (other .0 .0 .0 .0 .0 .0 .1),
-      ne-eqb _ 19 (other .0 .0 .0 .0 .0 .1),
-      ne-eqb _ 20 (other .0 .0 .0 .0 .1),
-      ne-eqb _ 21 (other .0 .0 .0 .1),
-      ne-eqb _ 22 (other .0 .0 .1),
-      ne-eqb _ 23 (other .0 .1),
-      ne-eqb _ 24 (other .1),
+      ne-eqb _ 0 (other .0 .0 .0 .0 .0 .0 .0 .0 .0 .0 .0 .0 .0 .0 .0 .0 .0 .0 .0 .0 .0 .0 .0 .0 .0 .1),
+      ne-eqb _ 1 (other .0 .0 .0 .0 .0 .0 .0 .0 .0 .0 .0 .0 .0 .0 .0 .0 .0 .0 .0 .0 .0 .0 .0 .0 .1),
+      ne-eqb _ 2 (other .0 .0 .0 .0 .0 .0 .0 .0 .0 .0 .0 .0 .0 .0 .0 .0 .0 .0 .0 .0 .0 .0 .0 .1),
+      ne-eqb _ 3 (other .0 .0 .0 .0 .0 .0 .0 .0 .0 .0 .0 .0 .0 .0 .0 .0 .0 .0 .0 .0 .0 .0 .1),
+      ne-eqb _ 4 (other .0 .0 .0 .0 .0 .0 .0 .0 .0 .0 .0 .0 .0 .0 .0 .0 .0 .0 .0 .0 .0 .1),
+      ne-eqb _ 5 (other .0 .0 .0 .0 .0 .0 .0 .0 .0 .0 .0 .0 .0 .0 .0 .0 .0 .0 .0 .0 .1),
+      ne-eqb _ 6 (other .0 .0 .0 .0 .0 .0 .0 .0 .0 .0 .0 .0 .0 .0 .0 .0 .0 .0 .0 .1),
+      ne-eqb _ 7 (other .0 .0 .0 .0 .0 .0 .0 .0 .0 .0 .0 .0 .0 .0 .0 .0 .0 .0 .1),
+      ne-eqb _ 8 (other .0 .0 .0 .0 .0 .0 .0 .0 .0 .0 .0 .0 .0 .0 .0 .0 .0 .1),
+      ne-eqb _ 9 (other .0 .0 .0 .0 .0 .0 .0 .0 .0 .0 .0 .0 .0 .0 .0 .0 .1),
+      ne-eqb _ 10 (other .0 .0 .0 .0 .0 .0 .0 .0 .0 .0 .0 .0 .0 .0 .0 .1),
+      ne-eqb _ 11 (other .0 .0 .0 .0 .0 .0 .0 .0 .0 .0 .0 .0 .0 .0 .1),
+      ne-eqb _ 12 (other .0 .0 .0 .0 .0 .0 .0 .0 .0 .0 .0 .0 .0 .1),
     )
+    (rw (
+      ne-eqb _ 13 (other .0 .0 .0 .0 .0 .0 .0 .0 .0 .0 .0 .0 .1),
+      ne-eqb _ 14 (other .0 .0 .0 .0 .0 .0 .0 .0 .0 .0 .0 .1),
+      ne-eqb _ 15 (other .0 .0 .0 .0 .0 .0 .0 .0 .0 .0 .1),
+      ne-eqb _ 16 (other .0 .0 .0 .0 .0 .0 .0 .0 .0 .1),
+      ne-eqb _ 17 (other .0 .0 .0 .0 .0 .0 .0 .0 .1),
+      ne-eqb _ 18 (other .0 .0 .0 .0 .0 .0 .0 .1),
+      ne-eqb _ 19 (other .0 .0 .0 .0 .0 .0 .1),
+      ne-eqb _ 20 (other .0 .0 .0 .0 .0 .1),
+      ne-eqb _ 21 (other .0 .0 .0 .0 .1),
+      ne-eqb _ 22 (other .0 .0 .0 .1),
+      ne-eqb _ 23 (other .0 .0 .1),
+      ne-eqb _ 24 (other .0 .1),
+      ne-eqb _ 25 (other .1),
+    ))
 
 pub by-group-spec : {M : Type 1} → statement M
 unfolding byGroup
@@ -46,7 +49,7 @@ by-group-spec =
     (λ c κs. search needs) (λ c κs. search needs) (λ c κs. search needs) (λ c κs. search needs) (λ c κs. search needs) (λ c κs. search needs)
     (λ c κs. search needs) (λ c κs. search needs) (λ c κs. search needs) (λ c κs. search needs) (λ c κs. search needs) (λ c κs. search needs)
     (λ c κs. search needs) (λ c κs. search needs) (λ c κs. search needs) (λ c κs. search needs) (λ c κs. search needs) (λ c κs. search needs)
-    (λ c κs. search needs)
+    (λ c κs. search needs) (λ c κs. search needs)
     (λ c. rw (c .before .match .keys1) (c .character .ensures))
     (λ c. rw (c .before .match .keys2) (c .keywords .ensures))
     (λ c. rw (c .before .match .keys3) (c .columns .ensures))
@@ -72,4 +75,5 @@ by-group-spec =
     (λ c. rw (c .before .match .keys23) (c .tabled .ensures))
     (λ c. rw (c .before .match .keys24) (c .vim .ensures))
     (λ c. rw (c .before .match .keys25) (c .jumped .ensures))
-    returns-26)
+    (λ c. rw (c .before .match .keys26) (c .word-vim .ensures))
+    returns-27)
