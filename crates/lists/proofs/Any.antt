@@ -1,10 +1,6 @@
 -- Laws of `any`: of a loop that has found b so far, and of a value that is such. Assumes nothing.
-use mathlib.Core.Path.{_≡_, _∙_}
-use mathlib.Core.List.{List, [], _∷_}
-use mathlib.Core.Bool.{Bool, true, false, _||_, or-true}
-use Prim.Native.Nat.{ℕ, zero, suc, _+_, _≤_, _<_}
-use native.Mathlib.Omega.{arith}
-use lib.ListN.{length, getD, drop, drop-of-length-le}
+use Rattle.lists.proofs.Kit.{_≡_, refl, sym, _∙_, List, [], _∷_, Bool, true, false, _||_, or-true, ℕ, zero, suc, _+_, _≤_, _<_, arith, length, getD}
+use Rattle.lists.proofs.Kit.{drop, drop-of-length-le}
 use Rattle.lists.specs.Lists.{any}
 use Rattle.lists.proofs.Lists.{drop-at}
 
@@ -18,6 +14,21 @@ module _ (p : ℕ → Bool) (l : List ℕ) (i : ℕ) where
   unfolding any
   any-end true h e = e
   any-end false h e = e ∙ rw (drop-of-length-le l h)
+
+-- a loop that looks at each place: what was found before i, or will be
+pub record Finds (p : ℕ → Bool) (l : List ℕ) (found : Bool) (i : ℕ) : Type 0 where
+  pub inside : i ≤ length l
+  pub same : any p l ≡ (found || any p (drop i l))
+
+pub finds-start : (p : ℕ → Bool) (l : List ℕ) → Finds p l false 0
+finds-start p l = record { inside = omega arith; same = refl }
+
+module _ {p : ℕ → Bool} {l : List ℕ} {found : Bool} {i : ℕ} (so-far : Finds p l found i) where
+  pub finds-on : i < length l → Finds p l (found || p (getD l i 0)) (i + 1)
+  finds-on h = record { inside = omega arith; same = any-on p l i found h (so-far .same) }
+
+  pub finds-end : length l ≤ i → found ≡ any p l
+  finds-end h = sym (any-end p l i found h (so-far .same))
 
 pub any-there : (p : ℕ → Bool) (l : List ℕ) (i : ℕ) → i < length l → p (getD l i 0) ≡ true → any p l ≡ true
 unfolding any

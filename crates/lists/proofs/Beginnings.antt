@@ -1,11 +1,5 @@
 -- Laws of beginnings: a shorter one begins what a longer one does, and an input goes wrong at one place. Assumes nothing.
-use mathlib.Core.Path.{_≡_, sym, subst, _∙_, ap}
-use mathlib.Core.List.{List, _++_, append-assoc}
-use Prim.Native.Nat.{ℕ, _+_, _-_, _≤_, _<_}
-use native.Mathlib.Decide.{decLt}
-use native.Mathlib.Omega.{arith}
-use lib.ListN.{length, take, drop}
-use lib.Seq.{take-add}
+use Rattle.lists.proofs.Kit.{_≡_, subst, _∙_, ap, List, _++_, append-assoc, ℕ, _+_, _-_, _≤_, _<_, decLt, arith, take, drop, take-add}
 use Rattle.lists.specs.Beginnings.{Begins, Place}
 
 module _ (Accepted : List ℕ → Type 0) (b : List ℕ) where

@@ -1,6 +1,5 @@
 -- Two tests that hold together hold each. Assumes nothing.
-use mathlib.Core.Path.{_≡_, refl, sym}
-use mathlib.Core.Bool.{Bool, true, false, _&&_, true≢false}
+use Rattle.lists.proofs.Kit.{_≡_, refl, sym, Bool, true, false, _&&_, true≢false}
 
 pub both : (a b : Bool) → (a && b) ≡ true → (a ≡ true) × (b ≡ true)
 both true b e = (refl, e)

@@ -1,13 +1,6 @@
 -- Laws of a loop that seeks the first x at or after an index. Assumes nothing.
-use mathlib.Core.Path.{_≡_, sym}
-use mathlib.Core.List.{List, [], _∷_}
-use mathlib.Core.Bool.{Bool, true, false, cond}
-use Prim.Native.Nat.{ℕ, suc, _+_, _≤_, _<_}
-use native.Mathlib.Numerals.{add-one}
-use native.Mathlib.Omega.{arith}
-use lib.Dec.{eqb}
-use lib.ListN.{length, getD, drop, drop-of-length-le}
-use borrow.Author.Tests.{eq-eqb, ne-eqb}
+use Rattle.lists.proofs.Kit.{_≡_, sym, List, [], _∷_, Bool, true, false, cond, ℕ, suc, _+_, _≤_, _<_, add-one, arith, length, getD, drop}
+use Rattle.lists.proofs.Kit.{drop-of-length-le, eqb, eq-eqb, ne-eqb}
 use Rattle.lists.specs.Lists.{upTo}
 use Rattle.lists.proofs.Lists.{drop-at}
 

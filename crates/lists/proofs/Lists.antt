@@ -1,10 +1,5 @@
 -- A law of lists at an index, as every loop reads them. Assumes nothing.
-use mathlib.Core.Path.{_≡_}
-use mathlib.Core.List.{List, _∷_}
-use Prim.Native.Nat.{ℕ, _+_, _<_}
-use native.Mathlib.Numerals.{add-one}
-use lib.ListN.{length, getD, drop}
-use lib.Seq.{drop-cons}
+use Rattle.lists.proofs.Kit.{_≡_, List, _∷_, ℕ, _+_, _<_, add-one, length, getD, drop, drop-cons}
 
 -- what stands at i, and what stands after it
 pub drop-at-of : {X : Type 0} (l : List X) (i : ℕ) (d : X) → i < length l → drop i l ≡ getD l i d ∷ drop (i + 1) l

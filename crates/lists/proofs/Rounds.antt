@@ -1,8 +1,5 @@
 -- Laws of a round that is gone through so many times. Assumes nothing.
-use mathlib.Core.Path.{_≡_, refl, ap, sym, _∙_}
-use Prim.Native.Nat.{ℕ, zero, suc, _+_, _-_, _≤_, _<_}
-use native.Mathlib.Nat.{zero-add}
-use native.Mathlib.Omega.{arith}
+use Rattle.lists.proofs.Kit.{_≡_, refl, ap, sym, _∙_, ℕ, zero, suc, _+_, _-_, _≤_, _<_, zero-add, arith}
 use Rattle.lists.specs.Rounds.{rounds}
 
 module _ {A : Type 0} (f : A → A) where
@@ -50,8 +47,5 @@ module _ {A : Type 0} (f : ℕ → A → A) (more : (n : ℕ) (p : A) → 0 < n 
       ap (λ (x : ℕ). f x p) one ∙ more (suc n) p (omega arith) ∙ counts-rounds (suc n) (f 1 p) (omega arith)
 
   pub counts-add : (m n : ℕ) (p : A) → 0 < m → 0 < n → f (m + n) p ≡ f n (f m p)
-  counts-add m n p h k =
-      counts-rounds (m + n) p (omega arith)
-      ∙ rounds-add (f 1) m n p
-      ∙ ap (rounds (f 1) n) (sym (counts-rounds m p h))
+  counts-add m n p h k = counts-rounds (m + n) p (omega arith) ∙ rounds-add (f 1) m n p ∙ ap (rounds (f 1) n) (sym (counts-rounds m p h))
       ∙ sym (counts-rounds n (f m p) k)

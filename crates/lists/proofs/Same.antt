@@ -1,11 +1,6 @@
 -- Laws of `isSame`: of a loop that goes through both lists in step, and that lists which are the same are equal. Assumes nothing.
-use mathlib.Core.Path.{_≡_, refl, ap, sym}
-use mathlib.Core.List.{List, [], _∷_}
-use mathlib.Core.Bool.{Bool, true, false, _&&_}
-use Prim.Native.Nat.{ℕ, _+_, _≤_, _<_}
-use lib.Dec.{eqb}
-use lib.ListN.{length, getD, drop, drop-of-length-le}
-use borrow.Author.Tests.{eq-eqb, ne-eqb, eqb-true}
+use Rattle.lists.proofs.Kit.{_≡_, refl, ap, sym, List, [], _∷_, Bool, true, false, _&&_, ℕ, _+_, _≤_, _<_, length, getD, drop, drop-of-length-le, eqb}
+use Rattle.lists.proofs.Kit.{eq-eqb, ne-eqb, eqb-true}
 use Rattle.lists.specs.Lists.{isSame}
 use Rattle.lists.proofs.Lists.{drop-at}
 

@@ -1,14 +1,6 @@
 -- The parts of a list between the separators x, one after the other from an index on. Assumes nothing.
-use mathlib.Core.Path.{_≡_, refl, ap, _∙_}
-use mathlib.Core.List.{List, [], _∷_}
-use mathlib.Core.Bool.{Bool, true, false, cond}
-use Prim.Native.Nat.{ℕ, suc, _+_, _≤_, _<_}
-use native.Mathlib.Decide.{decLt}
-use native.Mathlib.Omega.{arith}
-use lib.Dec.{eqb, leb}
-use lib.ListN.{length, take, drop, drop-of-length-le, length-drop}
-use lib.Seq.{drop-drop}
-use borrow.Author.Tests.{le-leb, lt-leb}
+use Rattle.lists.proofs.Kit.{_≡_, refl, ap, _∙_, List, [], _∷_, Bool, true, false, cond, ℕ, suc, _+_, _≤_, _<_, decLt, arith, length, take, drop}
+use Rattle.lists.proofs.Kit.{drop-of-length-le, length-drop, drop-drop, eqb, leb, le-leb, lt-leb}
 use Rattle.lists.specs.Lists.{upTo, onFirst, split}
 use Rattle.lists.proofs.Lists.{drop-at}
 use Rattle.lists.proofs.Finding.{up-to-most}
@@ -23,8 +15,7 @@ unfolding split onFirst upTo after
 split-first x [] = refl
 split-first x (y ∷ l) = go (eqb y x) (split-first x l)
   where
-    go :
-        (b : Bool) → split x l ≡ take (upTo x l) l ∷ after x (drop (upTo x l) l) →
+    go : (b : Bool) → split x l ≡ take (upTo x l) l ∷ after x (drop (upTo x l) l) →
         cond b ([] ∷ split x l) (onFirst y (split x l)) ≡ take (cond b 0 (suc (upTo x l))) (y ∷ l) ∷ after x (drop (cond b 0 (suc (upTo x l))) (y ∷ l))
     go true h = refl
     go false h = ap (onFirst y) h
@@ -53,10 +44,7 @@ module _ (x : ℕ) (l : List ℕ) (i : ℕ) (h : i ≤ length l) where
   -- the first of them ends at the next separator
   pub split-from-step : splitFrom x l i ≡ take (upTo x (drop i l)) (drop i l) ∷ splitFrom x l (i + upTo x (drop i l) + 1)
   unfolding splitFrom
-  split-from-step =
-      rw (le-leb i (length l) h)
-      (split-first x (drop i l)
-      ∙ ap (λ (ps : List (List ℕ)). take (upTo x (drop i l)) (drop i l) ∷ ps)
+  split-from-step = rw (le-leb i (length l) h) (split-first x (drop i l) ∙ ap (λ (ps : List (List ℕ)). take (upTo x (drop i l)) (drop i l) ∷ ps)
       (ap (after x) (drop-drop (upTo x (drop i l)) i l) ∙ after-at x l (i + upTo x (drop i l))))
 
   pub next-most : i + upTo x (drop i l) ≤ length l
