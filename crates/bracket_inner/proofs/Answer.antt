@@ -1,12 +1,6 @@
 -- What `pair_around` makes of the walks: the innermost pair around an offset. Assumes nothing.
-use mathlib.Core.Path.{_≡_, refl, sym, _∙_, ap}
-use mathlib.Core.Bool.{Bool, true, false}
-use mathlib.Core.List.{List}
-use Prim.Native.Nat.{ℕ, _+_, _≤_, _<_}
-use native.Mathlib.Omega.{arith}
-use lib.Dec.{eqb, ltb}
-use lib.ListN.{length, getD}
-use borrow.Author.Tests.{eq-eqb, eqb-true, lt-ltb, ltb-true}
+use Rattle.lists.proofs.Kit.{_≡_, refl, sym, _∙_, ap, List, Bool, true, false, ℕ, _+_, _≤_, _<_, arith, length, getD, eqb, ltb, eq-eqb, eqb-true, lt-ltb}
+use Rattle.lists.proofs.Kit.{ltb-true}
 use Rattle.text.specs.declared.Line.{Line}
 use Rattle.text.proofs.Stands.{step-char}
 use Rattle.row_search.specs.declared.Found.{Found}
@@ -110,13 +104,11 @@ module _ {t : List ℕ} {l : Line} {at : ℕ} {x : Position} {k : Kind} {o c : �
         pub close-answer : {r : Inner} → r ≡ paired y (placed t (closeFrom o c t at 1)) → r ≡ pairFrom t (innerOpen k t at)
         close-answer so =
             let by-placed-there = placed-there t (openBelow o c t at 1) y (sym is ∙ f) in
-            so
-            ∙ rw (a .opens, a .closes, ← by-placed-there .2)
+            so ∙ rw (a .opens, a .closes, ← by-placed-there .2)
             (by-walks k t at within elsewhere (by-placed-there .0) (rw (← a .opens, ← a .closes) (by-placed-there .1)))
 
       pub none-answer : b ≡ Partner·None → None ≡ pairFrom t (innerOpen k t at)
-      none-answer f =
-          by-none k t at within elsewhere (rw (← a .opens, ← a .closes) (placed-nowhere t (openBelow o c t at 1) (sym is ∙ f)))
+      none-answer f = by-none k t at within elsewhere (rw (← a .opens, ← a .closes) (placed-nowhere t (openBelow o c t at 1) (sym is ∙ f)))
 
       pub refused-answer : {f : ℕ} → b ≡ Partner·Refused f → Refused f ≡ pairFrom t (innerOpen k t at)
       refused-answer {f} g = absurd (placed-refuses t (openBelow o c t at 1) f (sym is ∙ g))

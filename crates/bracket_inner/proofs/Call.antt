@@ -1,9 +1,5 @@
 -- What `inner_pair` goes by once it has called `enter`, and what it answers. Assumes nothing.
-use mathlib.Core.Path.{_≡_, sym, _∙_, ap}
-use mathlib.Core.List.{List}
-use Prim.Native.Nat.{ℕ, _+_}
-use native.Mathlib.Omega.{arith}
-use borrow.Author.Tests.{eq-eqb, ne-eqb}
+use Rattle.lists.proofs.Kit.{_≡_, sym, _∙_, ap, List, ℕ, _+_, arith, eq-eqb, ne-eqb}
 use Rattle.text.specs.Text.{position}
 use Rattle.text.specs.Offsets.{rowStart}
 use Rattle.text.proofs.Stands.{stands-row}

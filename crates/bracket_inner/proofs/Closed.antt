@@ -1,9 +1,5 @@
 -- What `closed` makes of the walk on from an offset: the pair of an open and the close that is found. Assumes nothing.
-use mathlib.Core.Path.{_≡_, sym, _∙_, ap}
-use mathlib.Core.List.{List}
-use Prim.Native.Nat.{ℕ, _≤_}
-use native.Mathlib.Omega.{arith}
-use lib.ListN.{length}
+use Rattle.lists.proofs.Kit.{_≡_, sym, _∙_, ap, List, ℕ, _≤_, arith, length}
 use Rattle.row_search.proofs.Told.{first-told, last-told}
 use Rattle.text.specs.declared.Position.{Position}
 use Rattle.bracket_walks.specs.declared.Partner.{Partner}

@@ -1,13 +1,6 @@
 -- Depths around an offset: where the text is less deep than at the offset, a walk from it with depth 1 stops before; and what the place that it stops
 -- at says of the depths. Assumes nothing.
-use mathlib.Core.Path.{_≡_, sym}
-use mathlib.Core.Bool.{true}
-use mathlib.Core.List.{List}
-use Prim.Native.Nat.{ℕ, suc, _+_, _≤_, _<_}
-use native.Mathlib.Omega.{arith}
-use lib.Dec.{eqb}
-use lib.ListN.{length, getD}
-use borrow.Author.Tests.{eqb-true}
+use Rattle.lists.proofs.Kit.{_≡_, sym, List, true, ℕ, suc, _+_, _≤_, _<_, arith, length, getD, eqb, eqb-true}
 use Rattle.row_search.proofs.Nearest.{both}
 use Rattle.bracket_kinds.specs.declared.Kind.{Kind}
 use Rattle.bracket_kinds.specs.Kinds.{openOf, closeOf}
@@ -54,8 +47,7 @@ module _ (k : Kind) (t : List ℕ) (x : ℕ) (h : x ≤ length t) where
       let count-is : count o (upTo t i x) ≡ count c (upTo t i x) + 1 = eqb-true _ _ (by-both .1) in
       (eqb-true _ _ (by-both .0), omega (arith, tally-up-to o t i x l, tally-up-to c t i x l))
 
-  pub close-level : (j : ℕ) → x ≤ j → closesAt o c t x 1 j ≡ true →
-      (getD t j 0 ≡ c) × (tally o t (suc j) + tally c t x + 1 ≡ tally c t (suc j) + tally o t x)
+  pub close-level : (j : ℕ) → x ≤ j → closesAt o c t x 1 j ≡ true → (getD t j 0 ≡ c) × (tally o t (suc j) + tally c t x + 1 ≡ tally c t (suc j) + tally o t x)
   close-level j l e =
       let by-both = both (eqb (getD t j 0) c) (eqb (count o (stretch t x j) + 1) (count c (stretch t x j))) e in
       let count-plus-one : count o (stretch t x j) + 1 ≡ count c (stretch t x j) = eqb-true _ _ (by-both .1) in

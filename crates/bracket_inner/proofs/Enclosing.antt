@@ -1,14 +1,6 @@
 -- Pairs around an offset, by `innerOpen`: the answer is the open of the innermost one, and there is none exactly where no pair is around it.
 -- Assumes nothing.
-use mathlib.Core.Path.{_≡_, refl, sym, _∙_, ap}
-use mathlib.Core.Bool.{Bool, true, false}
-use mathlib.Core.List.{List}
-use Prim.Native.Nat.{ℕ, _+_, _≤_, _<_}
-use native.Mathlib.Decide.{decLt}
-use native.Mathlib.Omega.{arith}
-use lib.Dec.{eqb}
-use lib.ListN.{length, getD}
-use borrow.Author.Tests.{eq-eqb, eqb-true, le-leb, leb-true}
+use Rattle.lists.proofs.Kit.{_≡_, refl, sym, _∙_, ap, List, Bool, true, false, ℕ, _+_, _≤_, _<_, decLt, arith, getD, eqb, eq-eqb, eqb-true, le-leb, leb-true}
 use Rattle.row_search.specs.declared.Found.{Found}
 use Rattle.row_search.specs.declared.Found.the-variants.{At, Nothing}
 use Rattle.row_search.proofs.Nearest.{never, both}
@@ -74,8 +66,7 @@ module _ (k : Kind) (t : List ℕ) where
     inner-none e i j a = never (opens-so a) (last-none (opensAround k t x) (x + 1) e i (omega (arith, a .from)))
 
     pub inner-found : {i j : ℕ} → Around k t x i j → Latest k t x i → innerOpen k t x ≡ At i
-    inner-found {i} a l =
-        last-is (opensAround k t x) (x + 1) i
+    inner-found {i} a l = last-is (opensAround k t x) (x + 1) i
         (record { below = omega (arith, a .from); passes = opens-so a; none = λ m u v. no-later m u v (opensAround k t x m) refl })
       where
         no-later : (m : ℕ) → i < m → m < x + 1 → (b : Bool) → opensAround k t x m ≡ b → b ≡ false

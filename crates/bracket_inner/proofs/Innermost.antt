@@ -1,10 +1,6 @@
 -- The answer of `inner_pair` is the innermost pair of demand 3 around the position, or that there is none: the statement of `specs/Innermost.antt`
 -- holds of every text, kind and position. Assumes nothing.
-use mathlib.Core.Path.{_≡_, sym, _∙_, subst}
-use mathlib.Core.Logic.{_⊎_, inl, inr}
-use mathlib.Core.List.{List}
-use Prim.Native.Nat.{ℕ}
-use native.Mathlib.Omega.{arith}
+use Rattle.lists.proofs.Kit.{_≡_, sym, _∙_, subst, List, _⊎_, inl, inr, ℕ, arith}
 use Rattle.bracket_kinds.specs.declared.Kind.{Kind}
 use Rattle.text.specs.declared.Position.{Position}
 use Rattle.bracket_inner.specs.declared.Ranges.{Ranges}

@@ -1,12 +1,6 @@
 -- Positions and offsets once more: a position may stand at its row's end, the order of two positions is that of their offsets, and a pair by offsets
 -- is one of demand 3. Assumes nothing.
-use mathlib.Core.Path.{_≡_, refl, sym, _∙_, ap}
-use mathlib.Core.Logic.{_⊎_, inl, inr}
-use mathlib.Core.List.{List}
-use Prim.Native.Nat.{ℕ, _+_, _≤_, _<_}
-use native.Mathlib.Decide.{decLt}
-use native.Mathlib.Omega.{arith}
-use lib.ListN.{length, getD}
+use Rattle.lists.proofs.Kit.{_≡_, refl, sym, _∙_, ap, List, inl, inr, ℕ, _≤_, _<_, decLt, arith, length, getD}
 use Rattle.text_check.specs.Accept.{textRefusal}
 use Rattle.text.specs.Offsets.{rowStart}
 use Rattle.text.proofs.Before.{rows-apart}

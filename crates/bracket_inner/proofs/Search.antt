@@ -1,10 +1,5 @@
 -- The last place that passes a test, from what is known of it; and what a place that is told of a walk is. Assumes nothing.
-use mathlib.Core.Path.{_≡_, refl, ap}
-use mathlib.Core.Bool.{Bool, false}
-use mathlib.Core.List.{List}
-use Prim.Native.Nat.{ℕ, _<_}
-use native.Mathlib.Decide.{decLt}
-use native.Mathlib.Omega.{arith}
+use Rattle.lists.proofs.Kit.{_≡_, refl, ap, List, Bool, false, ℕ, _<_, decLt, arith}
 use Rattle.row_search.specs.declared.Found.{Found}
 use Rattle.row_search.specs.declared.Found.the-variants.{At, Nothing}
 use Rattle.row_search.specs.Nearest.{lastBelow}

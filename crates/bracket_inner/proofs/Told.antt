@@ -1,12 +1,6 @@
 -- The answer of `inner_pair` by its offsets: the last open with its close behind the position is that of the innermost pair, for two pairs never cross,
 -- so that every other one is around it. Assumes nothing.
-use mathlib.Core.Path.{_≡_, refl, _∙_}
-use mathlib.Core.Logic.{_⊎_, inl, inr}
-use mathlib.Core.List.{List, [], _∷_}
-use Prim.Native.Nat.{ℕ, _<_}
-use native.Mathlib.Decide.{ℕ-discrete}
-use native.Mathlib.Omega.{arith}
-use borrow.Author.Tests.{eq-eqb, ne-eqb}
+use Rattle.lists.proofs.Kit.{_≡_, refl, _∙_, List, [], _∷_, _⊎_, inl, inr, ℕ, _<_, ℕ-discrete, arith, eq-eqb, ne-eqb}
 use Rattle.text_check.specs.Accept.{textRefusal}
 use Rattle.row_search.specs.declared.Found.{Found}
 use Rattle.row_search.specs.declared.Found.the-variants.{At, Nothing}

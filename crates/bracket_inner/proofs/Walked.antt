@@ -1,12 +1,7 @@
 -- What the two walks from an offset find. Back from it, with depth 1: the open that is one less deep, behind which every other is closed again; on
 -- from it: the close of that one. Where a pair is around the offset, the text comes down to its depth on either side, so that both walks end.
 -- Assumes nothing.
-use mathlib.Core.Path.{_≡_, sym, _∙_, ap}
-use mathlib.Core.List.{List}
-use Prim.Native.Nat.{ℕ, suc, _+_, _≤_, _<_}
-use native.Mathlib.Decide.{decLt, ℕ-discrete}
-use native.Mathlib.Omega.{arith}
-use lib.ListN.{length, getD}
+use Rattle.lists.proofs.Kit.{_≡_, sym, _∙_, ap, List, ℕ, suc, _+_, _≤_, _<_, decLt, ℕ-discrete, arith, length, getD}
 use Rattle.row_search.specs.declared.Found.the-variants.{At, Nothing}
 use Rattle.row_search.proofs.Nearest.{never}
 use Rattle.row_search.proofs.Told.{First, Last, first-told, first-none, last-told, last-none}
@@ -77,8 +72,7 @@ module _ (k : Kind) (t : List ℕ) (x : ℕ) (h : x ≤ length t) where
             let balanced = a .pair .balanced in
             let by-free-close = free-close k t x h (suc j) (omega (arith, a .to)) (balanced .inside)
             (omega (arith, by-starts-before .1, balanced-level balanced)) in
-            never (by-free-close .3)
-            (first-none (closesAt (openOf k) (closeOf k) t x 1) x (length t) s (by-free-close .0) (by-free-close .1)
+            never (by-free-close .3) (first-none (closesAt (openOf k) (closeOf k) t x 1) x (length t) s (by-free-close .0) (by-free-close .1)
             (omega (arith, by-free-close .2, balanced .inside)))
 
     -- the open that the walk back finds, and the close that the walk on finds: they are partners, and every pair around x starts there or before
@@ -109,15 +103,13 @@ module _ (k : Kind) (t : List ℕ) (x : ℕ) (h : x ≤ length t) where
 
           nearest : (m : ℕ) → Balanced k t i m → Dec (m < j) → Dec (m < x) → j ≤ m
           nearest m b (no u) d = omega arith
-          nearest m b (yes u) (yes v) =
-              absurd (no-later (suc m) (omega (arith, b .after)) v (omega (arith, balanced-level b, p .1)))
+          nearest m b (yes u) (yes v) = absurd (no-later (suc m) (omega (arith, b .after)) v (omega (arith, balanced-level b, p .1)))
           nearest m b (yes u) (no v) =
               let by-closes-so = closes-so (openOf k) (closeOf k) t x 1 m (omega arith) (b .closes) (omega (arith, balanced-level b, p .1)) in
               absurd (never by-closes-so (ahead .none m (omega arith) u))
 
       pub pair-found : (partnerOf t i ≡ At j) × (innerOpen k t x ≡ At i)
-      pair-found =
-          (pair-partner k t partners, inner-found k t x (record { pair = partners; from = omega (arith, behind .below); to = ahead .from }) latest)
+      pair-found = (pair-partner k t partners, inner-found k t x (record { pair = partners; from = omega (arith, behind .below); to = ahead .from }) latest)
         where
           latest : Latest k t x i
           latest m e a = let by-starts-before = starts-before a in by (decLt i m) (by-starts-before .0) (by-starts-before .1)

@@ -3,7 +3,6 @@
 use mathlib.Core.Path.{_≡_}
 use mathlib.Core.List.{List}
 use Prim.Native.Nat.{ℕ}
-use Rattle.text.specs.Text.{position}
 use Rattle.bracket_kinds.specs.declared.Kind.{Kind}
 use Rattle.text.specs.declared.Position.{Position}
 use Rattle.bracket_laws.specs.Demand.{Before}

@@ -1,14 +1,6 @@
 -- The nearest place that balances a bracket is its partner, and there is none exactly where the bracket is alone: on offsets.
 -- Assumes nothing.
-use mathlib.Core.Path.{_≡_, refl, sym, _∙_, ap}
-use mathlib.Core.Bool.{true, _&&_}
-use mathlib.Core.List.{List}
-use Prim.Native.Nat.{ℕ, _+_, _≤_, _<_}
-use native.Mathlib.Decide.{decLt}
-use native.Mathlib.Omega.{arith}
-use lib.Dec.{eqb}
-use lib.ListN.{length, getD}
-use borrow.Author.Tests.{eq-eqb, eqb-true}
+use Rattle.lists.proofs.Kit.{_≡_, refl, sym, _∙_, ap, List, true, _&&_, ℕ, _+_, _≤_, _<_, decLt, arith, length, getD, eqb, eq-eqb, eqb-true}
 use Rattle.bracket_kinds.specs.declared.Kind.{Kind}
 use Rattle.bracket_kinds.specs.declared.Side.{Side}
 use Rattle.bracket_kinds.specs.declared.Side.the-variants.{Open, Close, Neither}

@@ -1,13 +1,6 @@
 -- Answers of `matching_bracket_pos`: two that are the same, whether a position is in the text, and when a call is refused.
 -- Assumes nothing.
-use mathlib.Core.Path.{_≡_, sym, _∙_, ap}
-use mathlib.Core.Bool.{Bool, true, false, cond, _&&_}
-use mathlib.Core.List.{List}
-use Prim.Native.Nat.{ℕ, _+_, _<_}
-use native.Mathlib.Decide.{decLt, ℕ-discrete}
-use native.Mathlib.Omega.{arith}
-use lib.Dec.{ltb}
-use borrow.Author.Tests.{eq-eqb}
+use Rattle.lists.proofs.Kit.{_≡_, sym, _∙_, ap, List, Bool, true, false, cond, _&&_, ℕ, _+_, _<_, decLt, ℕ-discrete, arith, ltb, eq-eqb}
 use Rattle.text_check.specs.Accept.{textRefusal}
 use Rattle.text.specs.Text.{rowCount, rowLen}
 use Rattle.text.specs.Offsets.{rowStart}

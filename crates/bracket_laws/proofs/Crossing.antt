@@ -1,12 +1,6 @@
 -- Where the depth of a text passes a level: it grows by one at a time, and so stands on the level before it is over it.
 -- Assumes nothing.
-use mathlib.Core.Path.{_≡_, ap}
-use mathlib.Core.List.{List}
-use Prim.Native.Nat.{ℕ, zero, suc, _+_, _-_, _≤_, _<_}
-use native.Mathlib.Nat.{add-zero}
-use native.Mathlib.Decide.{ℕ-discrete, decLt}
-use native.Mathlib.Omega.{arith}
-use lib.ListN.{length, getD}
+use Rattle.lists.proofs.Kit.{_≡_, ap, List, ℕ, zero, suc, _+_, _-_, _≤_, _<_, add-zero, ℕ-discrete, decLt, arith, length, getD}
 use Rattle.bracket_walks.proofs.Depth.{tally, tally-hit, tally-miss}
 
 tally-grows : (x : ℕ) (t : List ℕ) (k : ℕ) → k < length t → tally x t k ≤ tally x t (suc k)

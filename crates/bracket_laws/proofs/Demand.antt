@@ -1,9 +1,6 @@
 -- Demand 3 of the request: the statements of `specs/Demand.antt` hold of every accepted text, over the answers of `matching_bracket_pos`.
 -- Assumes nothing.
-use mathlib.Core.Path.{_≡_, refl, sym, _∙_, ap, subst}
-use mathlib.Core.List.{List}
-use Prim.Native.Nat.{ℕ, _<_}
-use lib.ListN.{getD}
+use Rattle.lists.proofs.Kit.{_≡_, refl, sym, _∙_, ap, subst, List, ℕ, _<_, getD}
 use Rattle.text_check.specs.Accept.{textRefusal}
 use Rattle.bracket_kinds.specs.declared.Kind.{Kind}
 use Rattle.text.specs.declared.Position.{Position}

@@ -1,11 +1,6 @@
 -- What stands between two partners: each bracket of their kind there has its partner there. For pairs that enclose a place.
 -- Assumes nothing.
-use mathlib.Core.Path.{_≡_, refl, sym, ap}
-use mathlib.Core.List.{List}
-use Prim.Native.Nat.{ℕ, suc, _+_, _≤_, _<_}
-use native.Mathlib.Decide.{ℕ-discrete}
-use native.Mathlib.Omega.{arith}
-use lib.ListN.{length, getD}
+use Rattle.lists.proofs.Kit.{_≡_, refl, sym, ap, List, ℕ, suc, _+_, _≤_, _<_, ℕ-discrete, arith, length, getD}
 use Rattle.bracket_kinds.specs.declared.Kind.{Kind}
 use Rattle.bracket_kinds.specs.declared.Side.the-variants.{Open, Close}
 use Rattle.row_search.specs.declared.Found.{Found}

@@ -1,12 +1,6 @@
 -- The % key: the statements of `specs/Jump.antt` hold of every accepted text.
 -- Assumes nothing.
-use mathlib.Core.Path.{_≡_, refl, sym, _∙_, ap}
-use mathlib.Core.Logic.{_⊎_, inl, inr}
-use mathlib.Core.List.{List}
-use Prim.Native.Nat.{ℕ, _<_}
-use native.Mathlib.Nat.{eq-or-lt-of-le}
-use native.Mathlib.Omega.{arith}
-use lib.ListN.{getD}
+use Rattle.lists.proofs.Kit.{_≡_, refl, sym, _∙_, ap, List, _⊎_, inl, inr, ℕ, _<_, eq-or-lt-of-le, arith, getD}
 use Rattle.text_check.specs.Accept.{textRefusal}
 use Rattle.text.specs.Text.{rowAt}
 use Rattle.row_search.specs.declared.Found.{Found}

@@ -1,13 +1,7 @@
--- What holds of partners, on offsets: the partner's partner is the bracket itself, and two pairs of one kind are the same, or stand
--- apart, or one encloses the other. Both by the arch between partners, which is the same seen from either end.
--- Assumes nothing.
-use mathlib.Core.Path.{_≡_, sym, ap}
-use mathlib.Core.Logic.{_⊎_, inl, inr, ⊎-elim}
-use mathlib.Core.List.{List}
-use Prim.Native.Nat.{ℕ, suc, _+_, _≤_, _<_}
-use native.Mathlib.Decide.{ℕ-discrete, decLt}
-use native.Mathlib.Omega.{arith}
-use lib.ListN.{length, getD}
+-- What holds of partners, on offsets: the partner's partner is the bracket itself, and two pairs of one kind are the same, or stand apart, or one
+-- encloses the other. Both by the arch between partners, which is the same seen from either end. Long, since both laws rest on the arch. Assumes
+-- nothing.
+use Rattle.lists.proofs.Kit.{_≡_, sym, ap, List, _⊎_, inl, inr, ⊎-elim, ℕ, suc, _+_, _≤_, _<_, ℕ-discrete, decLt, arith, length, getD}
 use Rattle.bracket_kinds.specs.declared.Kind.{Kind}
 use Rattle.bracket_kinds.specs.Kinds.{openOf, closeOf}
 use Rattle.bracket_laws.specs.Pairs.{Balanced, Forward, Backward, Stand, same, before, behind, around, within}

@@ -1,12 +1,7 @@
 -- Partners of any kind, on offsets: that a bracket is of one kind, the way back, that a partner is a code point of the text, and the
 -- partner of an open.
 -- Assumes nothing.
-use mathlib.Core.Path.{_≡_, sym, _∙_, ap, subst}
-use mathlib.Core.Logic.{_⊎_, inl, inr}
-use mathlib.Core.List.{List}
-use Prim.Native.Nat.{ℕ, _<_}
-use native.Mathlib.Omega.{arith}
-use lib.ListN.{length, getD}
+use Rattle.lists.proofs.Kit.{_≡_, sym, _∙_, ap, subst, List, _⊎_, inl, inr, ℕ, _<_, arith, length, getD}
 use Rattle.bracket_kinds.specs.declared.Kind.{Kind}
 use Rattle.bracket_kinds.specs.declared.Side.the-variants.{Open, Close}
 use Rattle.bracket_kinds.specs.Kinds.{openOf, closeOf, sideOf}

@@ -1,15 +1,6 @@
 -- Round, square and curly brackets: the test of the % key, and the first of them in a row.
 -- Assumes nothing.
-use mathlib.Core.Path.{_≡_, refl, ap}
-use mathlib.Core.Logic.{_⊎_, inl, inr, ⊎-elim}
-use mathlib.Core.Bool.{Bool, true, false, _||_}
-use mathlib.Core.List.{List}
-use Prim.Native.Nat.{ℕ, _≤_, _<_}
-use native.Mathlib.Decide.{decLt}
-use native.Mathlib.Omega.{arith}
-use lib.Dec.{eqb}
-use lib.ListN.{getD}
-use borrow.Author.Tests.{eqb-true}
+use Rattle.lists.proofs.Kit.{_≡_, refl, ap, List, Bool, true, false, _||_, _⊎_, inl, inr, ⊎-elim, ℕ, _≤_, _<_, decLt, arith, getD, eqb, eqb-true}
 use Rattle.text.specs.Text.{rowAt, rowLen}
 use Rattle.bracket_kinds.specs.declared.Kind.{Kind}
 use Rattle.bracket_kinds.specs.declared.Kind.the-variants.{Round, Square, Curly, Angle}
@@ -32,10 +23,8 @@ or-else false e f g h = h f
 
 pub plain-told : (x : ℕ) → keyBracket x ≡ true → Plain x
 unfolding keyBracket
-plain-told x z =
-    or-else (eqb x 40) refl z (λ e. plain Round (λ v. omega arith) (inl e))
-    (λ y. or-else (eqb x 41) refl y (λ e. plain Round (λ v. omega arith) (inr e))
-    (λ w. or-else (eqb x 91) refl w (λ e. plain Square (λ v. omega arith) (inl e))
+plain-told x z = or-else (eqb x 40) refl z (λ e. plain Round (λ v. omega arith) (inl e))
+    (λ y. or-else (eqb x 41) refl y (λ e. plain Round (λ v. omega arith) (inr e)) (λ w. or-else (eqb x 91) refl w (λ e. plain Square (λ v. omega arith) (inl e))
     (λ q. or-else (eqb x 93) refl q (λ e. plain Square (λ v. omega arith) (inr e))
     (λ p. or-else (eqb x 123) refl p (λ e. plain Curly (λ v. omega arith) (inl e)) (λ o. plain Curly (λ v. omega arith) (inr (eqb-true x 125 o)))))))
 

@@ -1,12 +1,6 @@
 -- Positions and offsets: a code point's position has one offset and an offset one position, in the same order.
 -- Assumes nothing.
-use mathlib.Core.Path.{_≡_, refl, sym, _∙_, ap}
-use mathlib.Core.Logic.{inl, inr}
-use mathlib.Core.List.{List}
-use Prim.Native.Nat.{ℕ, _<_}
-use native.Mathlib.Decide.{decLt}
-use native.Mathlib.Omega.{arith}
-use lib.ListN.{length, getD}
+use Rattle.lists.proofs.Kit.{_≡_, refl, sym, _∙_, ap, List, inl, inr, ℕ, _<_, decLt, arith, length, getD}
 use Rattle.text.specs.Text.{rowAt}
 use Rattle.text.specs.Offsets.{rowStart, At}
 use Rattle.text.proofs.At.{on-char, char-there, point-at}

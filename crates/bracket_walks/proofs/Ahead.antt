@@ -1,12 +1,7 @@
 -- What the walk forward knows: how much deeper the text is where it stands than where it began, and that no place passed closes what was open
 -- there. A depth of at least one says that the place does not; a depth that falls to none, that it does.
 -- Assumes nothing.
-use mathlib.Core.Path.{_≡_, refl, sym, _∙_, ap}
-use mathlib.Core.List.{List}
-use Prim.Native.Nat.{ℕ, suc, _+_, _-_, _≤_, _<_}
-use native.Mathlib.Numerals.{add-one}
-use native.Mathlib.Omega.{arith}
-use lib.ListN.{length, getD}
+use Rattle.lists.proofs.Kit.{_≡_, refl, sym, _∙_, ap, List, ℕ, suc, _+_, _-_, _≤_, _<_, add-one, arith, length, getD}
 use Rattle.row_search.specs.declared.Found.the-variants.{At, Nothing}
 use Rattle.row_search.specs.Nearest.{firstIn}
 use Rattle.bracket_walks.specs.Matching.{closesAt, closeFrom}

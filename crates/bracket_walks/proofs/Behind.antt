@@ -1,10 +1,6 @@
 -- What the walk back knows: how much deeper the text is where it stands than where it began, and that no place passed opens what was closed
 -- there. The depth falls at an open and grows at a close. Assumes nothing.
-use mathlib.Core.Path.{_≡_, refl, sym, _∙_, ap}
-use mathlib.Core.List.{List}
-use Prim.Native.Nat.{ℕ, suc, _+_, _-_, _≤_, _<_}
-use native.Mathlib.Omega.{arith}
-use lib.ListN.{length, getD}
+use Rattle.lists.proofs.Kit.{_≡_, refl, sym, _∙_, ap, List, ℕ, suc, _+_, _-_, _≤_, _<_, arith, length, getD}
 use Rattle.row_search.specs.declared.Found.the-variants.{At, Nothing}
 use Rattle.row_search.specs.Nearest.{lastBelow}
 use Rattle.bracket_walks.specs.Matching.{opensAt, openBelow}

@@ -1,14 +1,6 @@
 -- A walk from any place and depth: when a place closes what is open, by the counts before it; and that depth 1 behind a bracket is the way to
 -- its partner. Assumes nothing.
-use mathlib.Core.Path.{_≡_, refl, sym, ap}
-use mathlib.Core.Bool.{Bool, true, false, and-true}
-use mathlib.Core.List.{List}
-use Prim.Native.Nat.{ℕ, suc, _+_, _≤_, _<_}
-use native.Mathlib.Numerals.{add-one}
-use native.Mathlib.Omega.{arith}
-use lib.Dec.{eqb}
-use lib.ListN.{length, getD}
-use borrow.Author.Tests.{eq-eqb, eqb-true}
+use Rattle.lists.proofs.Kit.{_≡_, refl, sym, ap, List, Bool, true, false, and-true, ℕ, suc, _+_, _≤_, _<_, add-one, arith, length, getD, eqb, eq-eqb, eqb-true}
 use Rattle.row_search.proofs.Nearest.{both, first-same, last-same}
 use Rattle.bracket_walks.specs.Pairs.{count, stretch, upTo}
 use Rattle.bracket_walks.specs.Matching.{balances, forwardOf, backwardOf, closesAt, closeFrom, opensAt, openBelow}

@@ -1,14 +1,7 @@
 -- The depth of a text at a place: the opens before it less the closes. Two depths are compared as sums of counts, so that no number is
 -- negative. A place balances a bracket where the depth is the same before the one and after the other. Assumes nothing.
-use mathlib.Core.Path.{_≡_, refl, sym, _∙_, ap}
-use mathlib.Core.Bool.{Bool, true, false, cond, _&&_}
-use mathlib.Core.List.{List, [], _∷_, _++_}
-use Prim.Native.Nat.{ℕ, suc, _+_, _≤_, _<_}
-use native.Mathlib.Omega.{arith}
-use lib.Dec.{eqb}
-use lib.ListN.{length, getD, take, take-append-drop}
-use lib.Seq.{take-suc, take-take}
-use borrow.Author.Tests.{eq-eqb, ne-eqb, eqb-true}
+use Rattle.lists.proofs.Kit.{_≡_, refl, sym, _∙_, ap, List, [], _∷_, _++_, Bool, true, false, cond, _&&_, ℕ, suc, _+_, _≤_, _<_, arith, length, getD, take}
+use Rattle.lists.proofs.Kit.{take-append-drop, take-suc, take-take, eqb, eq-eqb, ne-eqb, eqb-true}
 use Rattle.bracket_walks.specs.Pairs.{count, stretch, upTo}
 use Rattle.bracket_walks.specs.Matching.{balances}
 use Rattle.row_search.proofs.Nearest.{both}

@@ -4,4 +4,5 @@ pub mod Depth
 pub mod Deep
 pub mod Ahead
 pub mod Behind
+pub mod Walking
 pub mod Placed

@@ -1,9 +1,6 @@
 -- Laws of a place as a row and a column: an offset that a walk has found.
 -- Assumes nothing.
-use mathlib.Core.Path.{_≡_, _∙_, ap}
-use mathlib.Core.List.{List}
-use Prim.Native.Nat.{ℕ, _-_}
-use native.Mathlib.Omega.{arith}
+use Rattle.lists.proofs.Kit.{_≡_, _∙_, ap, List, ℕ, _-_, arith}
 use Rattle.text.specs.Offsets.{rowStart, Stands, lineAt}
 use Rattle.text.specs.declared.Line.{Line}
 use Rattle.text.proofs.Stands.{stands-row, stands-at, at-stands}

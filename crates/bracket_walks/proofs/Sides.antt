@@ -1,13 +1,6 @@
 -- Laws of the eight brackets: what `sideOf` says, that the two of a kind differ, and that none is a separator.
 -- Assumes nothing.
-use mathlib.Core.Path.{_≡_, refl, sym, _∙_, ap, subst}
-use mathlib.Core.Bool.{Bool, true, false, cond}
-use mathlib.Core.List.{List}
-use Prim.Native.Nat.{ℕ, _+_}
-use native.Mathlib.Omega.{arith}
-use lib.Dec.{eqb}
-use lib.ListN.{getD}
-use borrow.Author.Tests.{eqb-true, eqb-false}
+use Rattle.lists.proofs.Kit.{_≡_, refl, sym, _∙_, ap, subst, List, Bool, true, false, cond, ℕ, _+_, arith, getD, eqb, eqb-true, eqb-false}
 use Rattle.bracket_kinds.specs.declared.Kind.{Kind}
 use Rattle.bracket_kinds.specs.declared.Kind.the-variants.{Round, Square, Curly, Angle}
 use Rattle.bracket_kinds.specs.declared.Side.{Side}

@@ -1,13 +1,6 @@
 -- Laws of `matchingBracketPos`: refused, outside the text, and inside it; the row that the call finds; and what the % key makes of it.
 -- Assumes nothing.
-use mathlib.Core.Path.{_≡_, sym, _∙_, ap, subst}
-use mathlib.Core.Bool.{and-false}
-use mathlib.Core.List.{List}
-use Prim.Native.Nat.{ℕ, _+_, _≤_, _<_}
-use native.Mathlib.Decide.{decLt}
-use native.Mathlib.Omega.{arith}
-use lib.ListN.{getD}
-use borrow.Author.Tests.{eq-eqb, ne-eqb, lt-ltb, le-ltb}
+use Rattle.lists.proofs.Kit.{_≡_, sym, _∙_, ap, subst, List, and-false, ℕ, _+_, _≤_, _<_, decLt, arith, getD, eq-eqb, ne-eqb, lt-ltb, le-ltb}
 use Rattle.text_check.specs.Accept.{textRefusal}
 use Rattle.text.specs.Text.{rowCount, rowAt, rowLen}
 use Rattle.text.specs.Offsets.{rowStart, lineAt, IsLine}

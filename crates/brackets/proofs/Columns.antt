@@ -1,13 +1,6 @@
 -- Laws of the offset of a column: what the walk in the row finds, and what it says.
 -- Assumes nothing.
-use mathlib.Core.Path.{_≡_, refl, sym, ap}
-use mathlib.Core.Bool.{Bool, true, false, cond}
-use mathlib.Core.List.{List}
-use Prim.Native.Nat.{ℕ, _+_, _≤_, _<_}
-use native.Mathlib.Omega.{arith}
-use lib.Dec.{ltb}
-use lib.ListN.{length, getD}
-use borrow.Author.Tests.{lt-ltb, le-ltb, ltb-true, ltb-false}
+use Rattle.lists.proofs.Kit.{_≡_, refl, sym, ap, List, Bool, true, false, cond, ℕ, _+_, _≤_, _<_, arith, length, getD, ltb, lt-ltb, le-ltb, ltb-true, ltb-false}
 use Rattle.text.specs.Text.{rowLen}
 use Rattle.text.specs.Offsets.{rowStart, Stands}
 use Rattle.text.proofs.At.{on-char, on-nl, on-end}

@@ -1,5 +1,6 @@
 // The partner of a bracket, and where the % key goes to: `matching_bracket_pos` and `match_bracket`
-// of motions.rs. The text is checked and the row found; the walk to the partner is in `bracket_walks`.
+// of motions.rs. The text is checked and the row found; the walk to the partner is in
+// `bracket_walks`.
 use bracket_kinds::find;
 use bracket_walks::Partner;
 use bracket_walks::walks;

@@ -1,14 +1,6 @@
 -- What the checks of a call on several byte strings show, and what each way out of it leaves. Assumes nothing.
-use mathlib.Core.Path.{_≡_, sym, _∙_}
-use mathlib.Core.List.{List, [], _∷_}
-use mathlib.Core.Bool.{true, false, _&&_, and-true}
-use Prim.Native.Nat.{ℕ, _+_, _-_, _/_, _%_}
-use native.Mathlib.Nat.{add-zero}
-use native.Mathlib.Omega.{arith}
-use lib.Dec.{eqb}
-use lib.ListN.{length, take, drop}
-use lib.Seq.{length-take-le}
-use borrow.Author.Tests.{eq-eqb, ne-eqb}
+use Rattle.lists.proofs.Kit.{_≡_, sym, _∙_, List, [], _∷_, true, false, _&&_, and-true, ℕ, _+_, _-_, _/_, _%_, add-zero, arith, length, take, drop}
+use Rattle.lists.proofs.Kit.{length-take-le, eqb, eq-eqb, ne-eqb}
 use Rattle.call_points.specs.Points.{points}
 use Rattle.call_bytes.specs.Reply.{Reply, Replied, unfit}
 use Rattle.call_bytes.specs.Joined.{wholeAll, countAll, unfitAll, FilledThree, AnsweredAll}

@@ -1,13 +1,6 @@
 -- What the checks of a call on bytes show, and what each way out of it leaves. Assumes nothing.
-use mathlib.Core.Path.{_≡_, refl, ap, sym, subst, _∙_}
-use mathlib.Core.List.{List}
-use mathlib.Core.Bool.{Bool, true, false, cond}
-use Prim.Native.Nat.{ℕ, _/_, _≤_}
-use native.Mathlib.Omega.{arith}
-use lib.Dec.{leb}
-use lib.ListN.{length, take}
-use lib.Seq.{length-take-le}
-use borrow.Author.Tests.{eq-eqb, ne-eqb, leb-true}
+use Rattle.lists.proofs.Kit.{_≡_, refl, ap, sym, subst, _∙_, List, Bool, true, false, cond, ℕ, _/_, _≤_, arith, length, take, length-take-le, leb, eq-eqb}
+use Rattle.lists.proofs.Kit.{ne-eqb, leb-true}
 use Rattle.call_points.specs.Points.{points}
 use Rattle.call_bytes.specs.declared.Told.{Told}
 use Rattle.call_bytes.specs.Reply.{Reply, told, Replied, unfit, unfitOne, Filled, fitting, Answered}
@@ -51,8 +44,7 @@ module _ {s room room′ : List ℕ} {n : ℕ} (h : Filled s room n room′) whe
   front-count z = sym (length-take-le _ _ (h .fit z .within))
 
   -- the answer of a call f on bytes, from its reply on what stands in the room
-  pub answered-one :
-      (f : List ℕ → Reply) → n ≡ 0 → {out out′ : List ℕ} {r : ℕ} → Replied (f (take (length s / 4) room′)) out r out′ →
+  pub answered-one : (f : List ℕ → Reply) → n ≡ 0 → {out out′ : List ℕ} {r : ℕ} → Replied (f (take (length s / 4) room′)) out r out′ →
       Answered s room out (f (points s)) r room′ out′
   answered-one f z {out} {out′} {r} p =
       let unfit-one-is : unfitOne s room ≡ 0 = sym (h .numbered) ∙ z in
@@ -67,7 +59,6 @@ module _ {s room room′ : List ℕ} {n : ℕ} (h : Filled s room n room′) whe
   pub kept-unfit : (n ≡ 0 → ⊥) → (lent after : List ℕ) → lent ≡ fitting (unfitOne s room) after lent
   kept-unfit z lent after = sym (fits-not _ _ _ (λ q. z (h .numbered ∙ q)))
 
-  pub left-fit :
-      (f : List ℕ → List ℕ) → n ≡ 0 → (lent : List ℕ) {lent′ : List ℕ} → lent′ ≡ f (take (length s / 4) room′) →
+  pub left-fit : (f : List ℕ → List ℕ) → n ≡ 0 → (lent : List ℕ) {lent′ : List ℕ} → lent′ ≡ f (take (length s / 4) room′) →
       lent′ ≡ fitting (unfitOne s room) (f (points s)) lent
   left-fit f z lent e = e ∙ ap f (h .fit z .front) ∙ sym (fits _ _ _ (sym (h .numbered) ∙ z))

@@ -1,9 +1,5 @@
 -- A call on two byte strings: one on three, the last of them empty. Assumes nothing.
-use mathlib.Core.Path.{_≡_}
-use mathlib.Core.List.{List, [], _∷_}
-use Prim.Native.Nat.{ℕ, _+_, _-_, _/_}
-use native.Mathlib.Omega.{arith}
-use lib.ListN.{length, take, drop}
+use Rattle.lists.proofs.Kit.{_≡_, List, [], _∷_, ℕ, _+_, _-_, _/_, arith, length, take, drop}
 use Rattle.call_points.specs.Points.{points, filledAll}
 use Rattle.call_bytes.specs.Reply.{Reply, Replied}
 use Rattle.call_bytes.specs.Joined.{wholeAll, countAll, FilledThree, AnsweredAll}

@@ -1,10 +1,5 @@
 -- The second engine's call beside the first's, by the same number: the same answer where the slice has the places. Assumes nothing.
-use mathlib.Core.Path.{_≡_, refl, sym, ap, _∙_}
-use mathlib.Core.List.{List}
-use mathlib.Core.Bool.{Bool, true, false, cond}
-use Prim.Native.Nat.{ℕ, _<_}
-use lib.Dec.{eqb}
-use lib.ListN.{length}
+use Rattle.lists.proofs.Kit.{_≡_, refl, sym, ap, _∙_, List, Bool, true, false, cond, ℕ, _<_, length, eqb}
 use Rattle.word_rounds.specs.declared.Motion.the-variants.{Fwd, Back, End, EndBack}
 use Rattle.motions.specs.declared.Caret.{Caret}
 use Rattle.motions.specs.declared.Move.the-variants.{Word}
@@ -27,8 +22,7 @@ same-number : (op : ℕ) (big : Bool) → wordOf op big ≡ askedOf (termOf op) 
 unfolding wordOf termOf askedOf
 same-number op big = go (eqb op 0) (eqb op 1) (eqb op 2) (eqb op 3) (eqb op 4)
   where
-    go :
-        (a b c d e : Bool) →
+    go : (a b c d e : Bool) →
         cond a (For (Word Fwd big false)) (cond b (For (Word Back big false)) (cond c (For (Word End big false)) (cond d (For (Word End big true))
         (cond e (For (Word EndBack big false)) Asked·Nothing)))) ≡
         askedOf (cond a (Of Fwd false) (cond b (Of Back false) (cond c (Of End false) (cond d (Of End true) (cond e (Of EndBack false) Nothing))))) big

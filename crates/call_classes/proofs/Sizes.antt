@@ -1,12 +1,5 @@
 -- So many classes fit a u32. Assumes nothing.
-use mathlib.Core.Path.{_≡_, refl, ap, sym, _∙_}
-use mathlib.Core.List.{List, [], _∷_}
-use mathlib.Core.Bool.{Bool, true, false, cond}
-use Prim.Native.Nat.{ℕ, _+_, _≤_}
-use native.Mathlib.Omega.{arith}
-use lib.Dec.{eqb}
-use lib.ListN.{length}
-use borrow.Author.Tests.{eqb-true}
+use Rattle.lists.proofs.Kit.{_≡_, refl, ap, List, Bool, true, false, cond, ℕ, _+_, _≤_, arith, length, eqb, eqb-true}
 use Rattle.text_check.specs.Accept.{textRefusal}
 use Rattle.text_check.proofs.Accepted.{accepted-short}
 use Rattle.positions.proofs.Lowest.{lowest-none}
@@ -22,8 +15,6 @@ pub written-size : (t list room : List ℕ) (n : ℕ) → Made n ≡ writtenOf t
 unfolding sizeOf writtenBy
 written-size t list room n e = go (eqb (writeRefusal t list room) 0) refl (ap sizeOf e)
   where
-    go :
-        (b : Bool) → eqb (writeRefusal t list room) 0 ≡ b →
-        n ≡ sizeOf (cond b (Made (length t + 1)) (Refused (writeRefusal t list room))) → n ≤ 1048577
+    go : (b : Bool) → eqb (writeRefusal t list room) 0 ≡ b → n ≡ sizeOf (cond b (Made (length t + 1)) (Refused (writeRefusal t list room))) → n ≤ 1048577
     go true q s = omega (arith, s, accepted-short t (lowest-none (textRefusal t) _ (eqb-true _ 0 q) .0))
     go false q s = omega (arith, s)

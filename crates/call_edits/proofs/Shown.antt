@@ -1,13 +1,6 @@
 -- What an edit leaves fits the numbers of a host, and what the call leaves of what is lent. Assumes nothing.
-use mathlib.Core.Path.{_≡_, refl, sym, ap, _∙_, subst}
-use mathlib.Core.List.{List, [], _∷_}
-use mathlib.Core.Bool.{Bool, true, false, cond, not, _||_}
-use Prim.Native.Nat.{ℕ, _-_, _*_, _/_, _%_, _≤_}
-use native.Mathlib.Decide.{ℕ-discrete}
-use native.Mathlib.Omega.{arith}
-use lib.Dec.{eqb, ltb}
-use lib.ListN.{length, take}
-use borrow.Author.Tests.{eq-eqb, ne-eqb, ltb-false}
+use Rattle.lists.proofs.Kit.{_≡_, refl, _∙_, subst, List, [], _∷_, Bool, true, false, cond, not, _||_, ℕ, _-_, _*_, _/_, _%_, _≤_, ℕ-discrete, arith, length}
+use Rattle.lists.proofs.Kit.{take, eqb, ltb, eq-eqb, ne-eqb, ltb-false}
 use Rattle.text.specs.Text.{rowCount}
 use Rattle.text.specs.declared.Position.{Position}
 use Rattle.folds.specs.Folds.{anyFold, badFold, foldRefusal}
@@ -20,10 +13,9 @@ use Rattle.edit_checks.specs.declared.Sizes.{Sizes}
 use Rattle.edit_checks.specs.Checks.{checkOf}
 use Rattle.edits.specs.declared.Edited.{Edited}
 use Rattle.edits.specs.declared.Edited.the-variants.{Done, Refused}
-use Rattle.edits.specs.Edits.{newText, newFolds, leftOf, editedBy, keptBy, refusalOf, EditsTo}
-use Rattle.edits.proofs.Small.{neither}
+use Rattle.edits.specs.Edits.{leftOf, editedBy, refusalOf, EditsTo}
 use Rattle.edits.proofs.Known.{editable}
-use Rattle.call_edits.specs.Edits.{lenOf, countOf, Fits, caretReply, sizesReply, caretIn, sizesIn, editOf, HostEdits}
+use Rattle.call_edits.specs.Edits.{lenOf, countOf, Fits, caretReply, sizesReply, caretIn, sizesIn, HostEdits}
 
 -- no fold is added
 pub kept-shorter : (f : ℕ → ℕ) (l : List ℕ) → length (keptFolds f l) ≤ length l
@@ -41,8 +33,7 @@ kept-shorter f (s ∷ e ∷ closed ∷ folds) = go (isLost s e (f s) (f e)) (kep
 -- folds that are accepted are 256 at most
 few-folds : (folds : List ℕ) (rows : ℕ) → foldRefusal folds rows ≡ 0 → length folds / 3 ≤ 256
 unfolding foldRefusal
-few-folds folds rows z =
-    go (not (eqb (length folds % 3) 0)) (ltb 256 (length folds / 3)) (anyFold (badFold rows) folds) refl z
+few-folds folds rows z = go (not (eqb (length folds % 3) 0)) (ltb 256 (length folds / 3)) (anyFold (badFold rows) folds) refl z
   where
     go : (a b c : Bool) → ltb 256 (length folds / 3) ≡ b → _≡_ {A = ℕ} (cond (a || (b || c)) 5 0) 0 → length folds / 3 ≤ 256
     go true b c e h = absurd (omega (arith, h))

@@ -49,6 +49,11 @@ pub record Fits (e : Edited) : Type 0 where
   pub len-fits : lenOf e ≤ 4294967295
   pub count-fits : countOf e ≤ 4294967295
 
+-- what of it is shown: r is the call's number, and what the caret and the sizes hold then
+pub record Shown (e : Edited) (caret sizes : List ℕ) (r : ℕ) (caret′ sizes′ : List ℕ) : Type 0 where
+  pub caret-left : Replied (caretReply e) caret r caret′
+  pub sizes-left : Replied (sizesReply e) sizes r sizes′
+
 -- the edit's answer, by what the host lends
 abbrev pub editOf : List ℕ → List ℕ → Position → Position → List ℕ → List ℕ → List ℕ → Edited
 editOf buf folds p q c caret sizes =
@@ -58,6 +63,7 @@ editOf buf folds p q c caret sizes =
 pub record HostEdits (buf fold : List ℕ) (p q : Position) (c caret sizes : List ℕ) (r : ℕ) (buf′ fold′ caret′ sizes′ : List ℕ) : Type 0 where
   pub caret-left : Replied (caretReply (editOf buf fold p q c caret sizes)) caret r caret′
   pub sizes-left : Replied (sizesReply (editOf buf fold p q c caret sizes)) sizes r sizes′
-  pub text-left : buf′ ≡ keptBy (refusalOf buf fold (sizesIn sizes) p q c (caretIn caret)) buf (refilled buf (sizesIn sizes .len) (newText buf (sizesIn sizes) p q c))
+  pub text-left : buf′ ≡ keptBy (refusalOf buf fold (sizesIn sizes) p q c (caretIn caret)) buf (refilled buf (sizesIn sizes .len)
+      (newText buf (sizesIn sizes) p q c))
   pub folds-left : fold′ ≡
       keptBy (refusalOf buf fold (sizesIn sizes) p q c (caretIn caret)) fold (refilled fold (3 * sizesIn sizes .count) (newFolds fold (sizesIn sizes) p q c))

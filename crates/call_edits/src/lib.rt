@@ -1,16 +1,15 @@
 // Calls for hosts that edit a text in a buffer. Document 02, #102. A caret is six numbers: row,
-// column, whether it has a sticky column, and that, whether it keeps an offset within a segment, and
-// that; the last four are 0 after an edit. The sizes are
-// how many code points and how many folds the buffers hold. Both are read, and hold the new numbers
-// where the answer is 0; else nothing has changed.
+// column, whether it has a sticky column, and that, whether it keeps an offset within a segment,
+// and that; the last four are 0 after an edit. The sizes are how many code points and how many
+// folds the buffers hold. Both are read, and hold the new numbers where the answer is 0; else
+// nothing has changed.
 use edit_checks::Sizes;
 use edits::Edited;
 use motions::Caret;
 use text::Position;
 ghost use mathlib.Core.Path.{_≡_};
 ghost use mathlib.Core.List.{[]};
-ghost use Rattle.call_bytes.specs.Reply.{Replied};
-ghost use Rattle.call_edits.specs.Edits.{Fits, caretReply, sizesReply, caretIn, sizesIn, sizesOf};
+ghost use Rattle.call_edits.specs.Edits.{Fits, Shown, caretIn, sizesIn, sizesOf};
 ghost use Rattle.call_edits.specs.Edits.{positionAt, HostEdits};
 
 // The caret and the sizes that are lent.
@@ -20,12 +19,14 @@ fn caret_in(caret: &[u32; 6]) -> Caret
     call_texts::caret_six(caret[0], caret[1], caret[2], caret[3], caret[4], caret[5])
 }
 
+// The two sizes that a host lends, as the edits take them.
 fn sizes_in(sizes: &[u32; 2]) -> Sizes
     ensures { λ r. ⌜ r ≡ sizesIn (now (sizes .entry)) ⌝ }
 {
     sizes_of(sizes[0], sizes[1])
 }
 
+// A text of so many code points, with so many folds.
 fn sizes_of(len: u32, count: u32) -> Sizes
     ensures { λ r. ⌜ r ≡ sizesOf len count ⌝ }
 {
@@ -38,8 +39,8 @@ fn sizes_of(len: u32, count: u32) -> Sizes
 // Puts what an edit leaves into them and answers 0, or answers the refusal's number.
 fn show(e: Edited, caret: &mut [u32; 6], sizes: &mut [u32; 2]) -> u32
     requires { ⌜ Fits e ⌝ }
-    ensures { λ r. ⌜ Replied (caretReply e) (now (caret .entry)) r (now (caret .exit)) ⌝ }
-    ensures { λ r. ⌜ Replied (sizesReply e) (now (sizes .entry)) r (now (sizes .exit)) ⌝ }
+    ensures { λ r. ⌜ Shown e (now (caret .entry)) (now (sizes .entry)) r (now (caret .exit))
+        (now (sizes .exit)) ⌝ }
 {
     match e {
         Edited::Done(l) => {

@@ -9,8 +9,8 @@ ghost use Rattle.fold_writer.specs.Writing.{writtenIn};
 ghost use Rattle.fold_reader.specs.Reading.{loadedIn};
 ghost use Rattle.call_fold_file.specs.FoldFiles.{writes, reads};
 
-// Puts the file of `folds` over `text` at the start of `file`, and how many bytes it has into `out`;
-// 1 to 3, 5 and then 14.
+// Puts the file of `folds` over `text` at the start of `file`, and how many bytes it has into
+// `out`; 1 to 3, 5 and then 14.
 pub fn folds_write(text: &[u32], folds: &[u32], file: &mut [u8], out: &mut [u32; 1]) -> u32
     ensures { λ r. ⌜ Replied (writes (now (text .entry)) (now (folds .entry)) (now (file .entry)))
         (now (out .entry)) r (now (out .exit)) ⌝ }

@@ -1,8 +1,5 @@
 -- The calls number by number: each answers as the method that it stands for. All hold by computation. Assumes nothing.
-use mathlib.Core.Path.{_≡_, refl}
-use mathlib.Core.List.{List, []}
-use mathlib.Core.Bool.{Bool, true, false}
-use Prim.Native.Nat.{ℕ}
+use Rattle.lists.proofs.Kit.{_≡_, refl, List, [], Bool, true, false, ℕ}
 use Rattle.widths.specs.declared.Ambiguous.the-variants.{Narrow, Wide}
 use Rattle.row_wrap.specs.declared.Wrap.{Wrap}
 use Rattle.word_rounds.specs.declared.Motion.the-variants.{Fwd, Back, End, EndBack}

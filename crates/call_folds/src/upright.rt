@@ -50,8 +50,8 @@ fn rows(down: bool, ambiguous: Ambiguous) -> Asked
     })
 }
 
-// The motion that a number stands for under a setting: 0 `move_up`, 1 `move_down`, 2 `move_screen_up`, 3
-// `move_screen_down`.
+// The motion that a number stands for under a setting: 0 `move_up`, 1 `move_down`, 2
+// `move_screen_up`, 3 `move_screen_down`.
 pub fn upright_of(op: u32, ambiguous: Ambiguous, mode: Wrap, width: u16) -> Asked
     ensures { λ r. ⌜ r ≡ uprightOf ambiguous op mode width ⌝ }
 {

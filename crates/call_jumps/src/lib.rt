@@ -9,8 +9,8 @@ ghost use Rattle.call_texts.specs.Carets.{caretSix};
 ghost use Rattle.jumps.specs.Jumps.{placesLeft};
 ghost use Rattle.call_jumps.specs.Jumping.{jumping};
 
-// `jumps` over a text of code points, with its row starts, folds and a keyword list. `pairs` holds a
-// kind and a count for each jump, and `answers` takes a row and a column for each.
+// `jumps` over a text of code points, with its row starts, folds and a keyword list. `pairs` holds
+// a kind and a count for each jump, and `answers` takes a row and a column for each.
 pub fn jumps(
     text: &[u32],
     starts: &[u32],

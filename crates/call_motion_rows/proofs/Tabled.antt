@@ -1,10 +1,6 @@
 -- The calls with a table against those without: whatever a number asks for, the reply is that of the call without one, and then 15, 16.
 -- Assumes nothing.
-use mathlib.Core.Path.{_≡_, refl, ap, _∙_}
-use mathlib.Core.List.{List, []}
-use mathlib.Core.Bool.{Bool, true, false, cond}
-use Prim.Native.Nat.{ℕ}
-use lib.Dec.{eqb, leb}
+use Rattle.lists.proofs.Kit.{_≡_, refl, ap, _∙_, List, [], Bool, true, false, cond, ℕ, eqb, leb}
 use Rattle.text.specs.Text.{rowCount}
 use Rattle.row_table.specs.Table.{tableRefusal}
 use Rattle.motions.specs.declared.Caret.{Caret}
@@ -53,16 +49,14 @@ module _ (t starts : List ℕ) (content : ℕ) (folds list : List ℕ) (tabstop 
   moved-rows : (a : Asked) (k : Caret) →
       moved (landed (rowsAs a n k t starts content folds list tabstop)) ≡ byTable t starts content (moved (moveAs a n k t folds list tabstop))
   unfolding rowsAs moveAs moved repliedBy
-  moved-rows (For m) k =
-      moved-by (tableRefusal (rowCount t) t starts content) (goes t folds list tabstop m n k)
+  moved-rows (For m) k = moved-by (tableRefusal (rowCount t) t starts content) (goes t folds list tabstop m n k)
       ∙ ap (λ (x : Moved). byTable t starts content (moved x)) (landed-goes t folds list tabstop n k m)
   moved-rows Nothing k = refl
 
   six-rows : (a : Asked) (k : Caret) →
       movedSix (landed (rowsAs a n k t starts content folds list tabstop)) ≡ byTable t starts content (movedSix (moveAs a n k t folds list tabstop))
   unfolding rowsAs moveAs movedSix repliedBy
-  six-rows (For m) k =
-      six-by (tableRefusal (rowCount t) t starts content) (goes t folds list tabstop m n k)
+  six-rows (For m) k = six-by (tableRefusal (rowCount t) t starts content) (goes t folds list tabstop m n k)
       ∙ ap (λ (x : Moved). byTable t starts content (movedSix x)) (landed-goes t folds list tabstop n k m)
   six-rows Nothing k = refl
 
@@ -70,14 +64,12 @@ module _ (t starts : List ℕ) (content : ℕ) (folds list : List ℕ) (tabstop 
   module _ {a a′ : Asked} {k k′ : Caret} {s : Sought} {m : Moved} (asked : a ≡ a′) (caret : k ≡ k′)
       (answered : s ≡ rowsAs a n k t starts content folds list tabstop) (lands : m ≡ landed s) where
     pub moves-by-table : moved m ≡ byTable t starts content (moved (moveAs a′ n k′ t folds list tabstop))
-    moves-by-table =
-        ap moved (lands ∙ ap landed answered) ∙ moved-rows a k
+    moves-by-table = ap moved (lands ∙ ap landed answered) ∙ moved-rows a k
         ∙ ap (λ (x : Asked). byTable t starts content (moved (moveAs x n k t folds list tabstop))) asked
         ∙ ap (λ (x : Caret). byTable t starts content (moved (moveAs a′ n x t folds list tabstop))) caret
 
     pub six-by-table : movedSix m ≡ byTable t starts content (movedSix (moveAs a′ n k′ t folds list tabstop))
-    six-by-table =
-        ap movedSix (lands ∙ ap landed answered) ∙ six-rows a k
+    six-by-table = ap movedSix (lands ∙ ap landed answered) ∙ six-rows a k
         ∙ ap (λ (x : Asked). byTable t starts content (movedSix (moveAs x n k t folds list tabstop))) asked
         ∙ ap (λ (x : Caret). byTable t starts content (movedSix (moveAs a′ n x t folds list tabstop))) caret
 
@@ -90,19 +82,15 @@ module _ (t starts : List ℕ) (content : ℕ) where
 
   pub seeks-by-table : {a a′ : Asked} {k k′ : Caret} {s : Sought} → a ≡ a′ → k ≡ k′ → s ≡ rowsAs a 1 k t starts content [] [] 0 →
       sought s ≡ byTable t starts content (sought (seekAs a′ k′ t))
-  seeks-by-table {a} {a′} {k} {k′} asked caret answered =
-      ap sought answered ∙ sought-rows a k
-      ∙ ap (λ (x : Asked). byTable t starts content (sought (seekAs x k t))) asked
-      ∙ ap (λ (x : Caret). byTable t starts content (sought (seekAs a′ x t))) caret
+  seeks-by-table {a} {a′} {k} {k′} asked caret answered = ap sought answered ∙ sought-rows a k
+      ∙ ap (λ (x : Asked). byTable t starts content (sought (seekAs x k t))) asked ∙ ap (λ (x : Caret). byTable t starts content (sought (seekAs a′ x t))) caret
 
 -- a mode by another number than 0 to 2 asks for nothing, and is refused with 100
 module _ (op mode width n tabstop : ℕ) (k : Caret) (t folds : List ℕ) where
   pub vertical-asked : moveAs (uprightBy op mode width) n k t folds [] tabstop ≡ vertical op mode width n tabstop k t folds
   unfolding uprightBy vertical upright moveAs
-  vertical-asked =
-      split (λ (a : Asked). moveAs a n k t folds [] tabstop) (leb mode 2) (uprightOf (settingOf op) (plainOf op) (modeOf mode) width) Nothing
+  vertical-asked = split (λ (a : Asked). moveAs a n k t folds [] tabstop) (leb mode 2) (uprightOf (settingOf op) (plainOf op) (modeOf mode) width) Nothing
 
   pub kept-asked : moveAs (keptBy op mode width) n k t folds [] tabstop ≡ screenKept op mode width n tabstop k t folds
   unfolding keptBy screenKept remembered moveAs
-  kept-asked =
-      split (λ (a : Asked). moveAs a n k t folds [] tabstop) (leb mode 2) (keptOf (settingOf op) (plainOf op) (modeOf mode) width) Nothing
+  kept-asked = split (λ (a : Asked). moveAs a n k t folds [] tabstop) (leb mode 2) (keptOf (settingOf op) (plainOf op) (modeOf mode) width) Nothing

@@ -1,12 +1,9 @@
 -- Laws of the code points of a byte string, for `decode`, `decode_two` and what `exports` says of them.
 -- Assumes nothing.
-use mathlib.Core.Path.{_≡_, refl, ap, sym, _∙_}
-use mathlib.Core.List.{List, [], _∷_, _++_, append-nil}
-use Prim.Native.Nat.{ℕ, zero, suc, _+_, _*_, _/_, _-_, _≤_, _<_}
-use native.Mathlib.Numerals.{add-one}
-use native.Mathlib.Omega.{arith}
-use lib.ListN.{length, getD, take, drop, set, length-take, length-drop, length-append, drop-of-length-le}
-use lib.Seq.{drop-cons, set-at, take-suc, append-snoc, length-take-le, take-at, take-all, drop-drop, drop-at as drop-seam}
+use Rattle.lists.proofs.Kit.{_≡_, refl, ap, sym, _∙_, List, [], _∷_, _++_, append-nil, ℕ, zero, suc, _+_, _*_, _/_, _-_, _≤_, _<_, add-one, arith, length, getD}
+use Rattle.lists.proofs.Kit.{take, drop, set, length-take, length-drop, length-append, drop-of-length-le, drop-cons, set-at, take-suc, append-snoc}
+use Rattle.lists.proofs.Kit.{length-take-le, take-at, take-all, drop-drop}
+use lib.Seq.{drop-at as drop-seam}
 use Rattle.call_points.specs.Points.{points, word, filled, filledTwo, filledAll, Two, Three}
 
 pub length-points : (s : List ℕ) → length (points s) ≡ length s / 4
@@ -24,8 +21,7 @@ skip a b c d s m n e =
     rw m-is
 
 -- the code point at an index
-pub point-at :
-    (s : List ℕ) (i : ℕ) → i < length s / 4 →
+pub point-at : (s : List ℕ) (i : ℕ) → i < length s / 4 →
     getD (points s) i 0 ≡ word (getD s (4 * i) 0) (getD s (4 * i + 1) 0) (getD s (4 * i + 2) 0) (getD s (4 * i + 3) 0)
 unfolding points
 point-at [] i h = absurd (omega arith)
@@ -33,18 +29,15 @@ point-at (a ∷ []) i h = absurd (omega arith)
 point-at (a ∷ b ∷ []) i h = absurd (omega arith)
 point-at (a ∷ b ∷ c ∷ []) i h = absurd (omega arith)
 point-at (a ∷ b ∷ c ∷ d ∷ s) zero h = refl
-point-at (a ∷ b ∷ c ∷ d ∷ s) (suc i) h =
-    rw (
-      skip a b c d s (4 * suc i) (4 * i) (omega arith),
-      skip a b c d s (4 * suc i + 1) (4 * i + 1) (omega arith),
-      skip a b c d s (4 * suc i + 2) (4 * i + 2) (omega arith),
-      skip a b c d s (4 * suc i + 3) (4 * i + 3) (omega arith),
-    )
-    (point-at s i (omega arith))
+point-at (a ∷ b ∷ c ∷ d ∷ s) (suc i) h = rw (
+  skip a b c d s (4 * suc i) (4 * i) (omega arith),
+  skip a b c d s (4 * suc i + 1) (4 * i + 1) (omega arith),
+  skip a b c d s (4 * suc i + 2) (4 * i + 2) (omega arith),
+  skip a b c d s (4 * suc i + 3) (4 * i + 3) (omega arith),
+) (point-at s i (omega arith))
 
 -- storing the next code point
-pub fill-on :
-    (p d room : List ℕ) (i : ℕ) → room ≡ take i p ++ drop i d → i < length p → i < length d →
+pub fill-on : (p d room : List ℕ) (i : ℕ) → room ≡ take i p ++ drop i d → i < length p → i < length d →
     set room i (getD p i 0) ≡ take (i + 1) p ++ drop (i + 1) d
 fill-on p d room i e hp hd =
     let size-is : length (take i p) ≡ i = length-take-le i p (omega arith) in
@@ -118,11 +111,8 @@ three-is s u v room room′ w h =
     let ls = length-drop (length s / 4) room in
     let luv = length-drop (length u / 4 + length v / 4) (drop (length s / 4) room) in
     record {
-      room-left =
-          w ∙ ap (λ (l : List ℕ). points s ++ (points u ++ (points v ++ l))) (sym (drop-drop (length v / 4) (length u / 4) (drop (length s / 4) room)));
-      within =
-          omega
-          (arith, part-length s rest room′ w, part-length u (points v ++ last) rest refl, part-length v last (points v ++ last) refl, ls, luv);
+      room-left = w ∙ ap (λ (l : List ℕ). points s ++ (points u ++ (points v ++ l))) (sym (drop-drop (length v / 4) (length u / 4) (drop (length s / 4) room)));
+      within = omega (arith, part-length s rest room′ w, part-length u (points v ++ last) rest refl, part-length v last (points v ++ last) refl, ls, luv);
       first = part-first s rest room′ w;
       second = rw by-part-rest (part-first u (points v ++ last) rest refl);
       third = rw (sym (drop-drop (length u / 4) (length s / 4) room′), joined-is) (part-first v last (points v ++ last) refl);

@@ -1,11 +1,5 @@
 -- What an edit leaves fits the numbers of a host, and what the calls leave of what is lent. Assumes nothing.
-use mathlib.Core.Path.{_≡_, refl, sym, ap, _∙_, subst}
-use mathlib.Core.List.{List}
-use Prim.Native.Nat.{ℕ, _≤_}
-use native.Mathlib.Decide.{ℕ-discrete}
-use native.Mathlib.Omega.{arith}
-use lib.ListN.{getD}
-use borrow.Author.Tests.{eq-eqb, ne-eqb}
+use Rattle.lists.proofs.Kit.{_≡_, _∙_, subst, List, ℕ, _≤_, ℕ-discrete, arith, getD, eq-eqb, ne-eqb}
 use Rattle.text.specs.declared.Counted.{Counted}
 use Rattle.text.specs.declared.Position.{Position}
 use Rattle.motions.specs.declared.Caret.{Caret}

@@ -51,6 +51,11 @@ pub record Fits (e : EditedRows) : Type 0 where
   pub len-fits : lenOf e ≤ 4294967295
   pub count-fits : countOf e ≤ 4294967295
 
+-- what of it is shown: r is the call's number, and what the caret and the sizes hold then
+pub record Shown (e : EditedRows) (caret sizes : List ℕ) (r : ℕ) (caret′ sizes′ : List ℕ) : Type 0 where
+  pub caret-left : Replied (caretReply e) caret r caret′
+  pub sizes-left : Replied (sizesReply e) sizes r sizes′
+
 -- the number that refuses, and the edit's answer, by what the host lends
 abbrev pub numberOf : List ℕ → List ℕ → List ℕ → Position → Position → List ℕ → List ℕ → List ℕ → ℕ
 numberOf buf folds table p q c caret sizes = refusalWith buf folds table (sizesIn sizes) (getD sizes 2 0) p q c (caretIn caret)

@@ -12,7 +12,7 @@ ghost use mathlib.Core.List.{[]};
 ghost use Rattle.call_bytes.specs.Reply.{told, Replied};
 ghost use Rattle.call_texts.specs.Rows.{toldRows};
 ghost use Rattle.call_edits.specs.Edits.{caretIn, sizesIn, sizesOf, positionAt};
-ghost use Rattle.call_row_table.specs.Tables.{Fits, caretReply, sizesReply, HostFills, HostKeeps};
+ghost use Rattle.call_row_table.specs.Tables.{Fits, Shown, HostFills, HostKeeps};
 
 // Puts what a fill answers into `out` and answers 0, or answers the refusal's number.
 fn show_count(m: Counted, out: &mut [u32; 1]) -> u32
@@ -42,12 +42,14 @@ fn caret_in(caret: &[u32; 6]) -> Caret
     call_texts::caret_six(caret[0], caret[1], caret[2], caret[3], caret[4], caret[5])
 }
 
+// The first two of the three sizes that a host lends, as the edits take them.
 fn sizes_in(sizes: &[u32; 3]) -> Sizes
     ensures { λ r. ⌜ r ≡ sizesIn (now (sizes .entry)) ⌝ }
 {
     sizes_of(sizes[0], sizes[1])
 }
 
+// A text of so many code points, with so many folds.
 fn sizes_of(len: u32, count: u32) -> Sizes
     ensures { λ r. ⌜ r ≡ sizesOf len count ⌝ }
 {
@@ -60,8 +62,8 @@ fn sizes_of(len: u32, count: u32) -> Sizes
 // Puts what an edit leaves into them and answers 0, or answers the refusal's number.
 fn show(e: EditedRows, caret: &mut [u32; 6], sizes: &mut [u32; 3]) -> u32
     requires { ⌜ Fits e ⌝ }
-    ensures { λ r. ⌜ Replied (caretReply e) (now (caret .entry)) r (now (caret .exit)) ⌝ }
-    ensures { λ r. ⌜ Replied (sizesReply e) (now (sizes .entry)) r (now (sizes .exit)) ⌝ }
+    ensures { λ r. ⌜ Shown e (now (caret .entry)) (now (sizes .entry)) r (now (caret .exit))
+        (now (sizes .exit)) ⌝ }
 {
     match e {
         EditedRows::Done(k) => {

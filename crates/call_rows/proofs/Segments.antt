@@ -13,8 +13,7 @@ use Rattle.call_rows.specs.Wraps.{modeOf, segmentedUnder, leftUnder, tol
 
 module _ {a : Ambiguous} {mode width : ℕ} {row segments : List ℕ} where
   -- a mode's own call
-  pub segmented-by :
-      {m : Segments} {r : Told} {segments′ : List ℕ} {by : Wrap} → by ≡ modeOf mode → mode ≤ 2 → Wraps a by width row segments m segments′ →
+  pub segmented-by : {m : Segments} {r : Told} {segments′ : List ℕ} {by : Wrap} → by ≡ modeOf mode → mode ≤ 2 → Wraps a by width row segments m segments′ →
       r ≡ toldSegments m → Segmented a mode width row segments r segments′
   unfolding segmentedUnder leftUnder
   segmented-by {m} {r} {segments′} e h w q =

@@ -10,6 +10,7 @@ ghost use Rattle.call_bytes.specs.Reply.{Replied};
 ghost use Rattle.call_rows.specs.Lists.{toldMatched, tokenCount, byTable, inTable, keyword};
 ghost use Rattle.call_rows.specs.Lists.{keywords as Lists·keywords};
 
+// Whether the list holds the character, 1 or 0, or the number it is refused with.
 fn told_matched(m: Matched) -> Told
     ensures { λ r. ⌜ r ≡ toldMatched m ⌝ }
 {

@@ -9,6 +9,7 @@ ghost use mathlib.Core.Path.{_≡_};
 ghost use Rattle.call_bytes.specs.Reply.{Replied};
 ghost use Rattle.call_rows.specs.Tabs.{toldColumn, tabColumnUnder, tabColumns};
 
+// The column, or the number it is refused with.
 pub fn told_column(m: Column) -> Told
     ensures { λ r. ⌜ r ≡ toldColumn m ⌝ }
 {

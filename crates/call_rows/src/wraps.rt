@@ -14,6 +14,7 @@ ghost use Rattle.call_rows.specs.Wraps.{toldSegment, toldSegments, offse
 ghost use Rattle.call_rows.specs.Wraps.{offsets as Wraps·offsets};
 ghost use Rattle.call_rows.specs.Wraps.{segmented, segmentsLeft, Segmented};
 
+// The segment, or the number it is refused with.
 fn told_segment(m: Segment) -> Told
     ensures { λ r. ⌜ r ≡ toldSegment m ⌝ }
 {
@@ -28,6 +29,7 @@ fn told_segment(m: Segment) -> Told
     }
 }
 
+// How many segments, or the number they are refused with.
 fn told_segments(m: Segments) -> Told
     ensures { λ r. ⌜ r ≡ toldSegments m ⌝ }
 {

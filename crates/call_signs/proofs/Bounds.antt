@@ -1,18 +1,10 @@
 -- What the calls go by: a place and a length fit their numbers, and the answer of `without_plus` in the call's words. Assumes nothing.
-use mathlib.Core.Path.{_≡_, refl, ap, sym, _∙_}
-use mathlib.Core.List.{List, _++_}
-use mathlib.Core.Bool.{Bool, true, false, cond, true≢false}
-use Prim.Native.Nat.{ℕ, _≤_, _<_}
-use native.Mathlib.Omega.{arith}
-use lib.Dec.{eqb, leb, ltb}
-use lib.ListN.{length, drop}
-use borrow.Author.Tests.{eqb-true, ltb-true}
+use Rattle.lists.proofs.Kit.{_≡_, refl, ap, sym, _∙_, List, Bool, true, false, cond, true≢false, ℕ, _≤_, arith, length, eqb, ltb, eqb-true, ltb-true}
 use Rattle.list_parts.specs.Refusals.{listRefusal}
 use Rattle.keywords.specs.Table.{parseOf}
 use Rattle.keywords.proofs.Agree.{parse-length}
 use Rattle.call_bytes.specs.declared.Told.{Told}
 use Rattle.call_bytes.specs.declared.Told.the-variants.{Value, Refused}
-use Rattle.list_signs.specs.declared.Entered.{Entered}
 use Rattle.list_signs.specs.declared.Plain.{Plain}
 use Rattle.list_signs.specs.declared.Plain.the-variants.{Made, Refused as Plain·Refused}
 use Rattle.list_signs.specs.Plain.{firstSign, plain, plainRefusal, refusedAt, enteredBy, entryOf, plainIn}
@@ -24,8 +16,7 @@ use Rattle.call_signs.specs.Plain.{plainTold}
 pub entry-place : (l : List ℕ) → entryOf l .place ≤ 1024
 entry-place l = go (eqb (listRefusal l) 0) refl (ltb (firstSign l) (length l)) refl
   where
-    go :
-        (b : Bool) → eqb (listRefusal l) 0 ≡ b → (s : Bool) → ltb (firstSign l) (length l) ≡ s →
+    go : (b : Bool) → eqb (listRefusal l) 0 ≡ b → (s : Bool) → ltb (firstSign l) (length l) ≡ s →
         (cond b (cond s (refusedAt 21 (firstSign l)) (enteredBy (parseOf l))) (refusedAt 7 0)) .place ≤ 1024
     go false e s f = omega arith
     go true e true f =
@@ -37,8 +28,7 @@ entry-place l = go (eqb (listRefusal l) 0) refl (ltb (firstSign l) (length l)) r
 pub entry-few : (l : List ℕ) → entryOf l .refusal ≡ 0 → entryOf l .spec .len ≤ 128
 entry-few l = go (eqb (listRefusal l) 0) (ltb (firstSign l) (length l))
   where
-    go :
-        (b s : Bool) → (cond b (cond s (refusedAt 21 (firstSign l)) (enteredBy (parseOf l))) (refusedAt 7 0)) .refusal ≡ 0 →
+    go : (b s : Bool) → (cond b (cond s (refusedAt 21 (firstSign l)) (enteredBy (parseOf l))) (refusedAt 7 0)) .refusal ≡ 0 →
         (cond b (cond s (refusedAt 21 (firstSign l)) (enteredBy (parseOf l))) (refusedAt 7 0)) .spec .len ≤ 128
     go false s e = absurd (omega arith)
     go true true e = absurd (omega arith)
@@ -57,8 +47,7 @@ module _ (l room : List ℕ) (m : Plain) (left : List ℕ) (p : PlainMade l room
   unfolding plainTold toldOf
   plain-told t e = (e ∙ ap toldOf (p .0) ∙ go (eqb (plainRefusal l room) 0), p .1)
     where
-      go :
-          (b : Bool) →
+      go : (b : Bool) →
           toldOf (cond b (Made (length (plain l))) (Plain·Refused (plainRefusal l room))) ≡ cond b (Value (length (plain l))) (Refused (plainRefusal l room))
       go true = refl
       go false = refl
@@ -67,8 +56,7 @@ module _ (l room : List ℕ) (m : Plain) (left : List ℕ) (p : PlainMade l room
   unfolding sizeOf
   plain-size n e = go (eqb (plainRefusal l room) 0) refl (eqb (listRefusal l) 0) refl (sym (ap sizeOf e) ∙ ap sizeOf (p .0))
     where
-      go :
-          (b : Bool) → eqb (plainRefusal l room) 0 ≡ b → (c : Bool) → eqb (listRefusal l) 0 ≡ c →
+      go : (b : Bool) → eqb (plainRefusal l room) 0 ≡ b → (c : Bool) → eqb (listRefusal l) 0 ≡ c →
           n ≡ sizeOf (cond (eqb (plainRefusal l room) 0) (Made (length (plain l))) (Plain·Refused (plainRefusal l room))) → n ≤ 1024
       go false b c d s = let n-is : n ≡ 0 = s ∙ rw b in omega arith
       go true b true d s =

@@ -17,6 +17,7 @@ fn placed_at(n: u32, place: usize) -> u64
     place as u64 * 4294967296 + n as u64
 }
 
+// Whether the list holds the character, 1 or 0, or the number it is refused with; no place.
 fn placed_matched(m: Matched) -> Placed
     ensures { λ r. ⌜ r ≡ placedMatched m ⌝ }
 {

@@ -1,8 +1,5 @@
 -- The calls number by number: each answers as the method that it stands for. All hold by computation. Assumes nothing.
-use mathlib.Core.Path.{_≡_, refl}
-use mathlib.Core.List.{List}
-use mathlib.Core.Bool.{true, false}
-use Prim.Native.Nat.{ℕ}
+use Rattle.lists.proofs.Kit.{_≡_, refl, List, true, false, ℕ}
 use Rattle.vertical.specs.declared.Edge.the-variants.{Top, Middle, Bottom}
 use Rattle.motions.specs.declared.Caret.{Caret}
 use Rattle.motions.specs.Columns.{moveLeft, moveRightInLine, moveRightToEnd, moveLineStart, moveFirstNonBlank, moveLineEnd, moveGotoColumn, moveLastNonBlank}

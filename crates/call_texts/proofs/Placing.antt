@@ -1,11 +1,5 @@
 -- A partner, and the ranges of a pair, stand in the text: their rows and columns fit u32s. Assumes nothing.
-use mathlib.Core.Path.{_≡_, refl, sym}
-use mathlib.Core.List.{List}
-use mathlib.Core.Bool.{Bool, true, false, cond}
-use Prim.Native.Nat.{ℕ, _≤_}
-use native.Mathlib.Omega.{arith}
-use lib.Dec.{eqb}
-use lib.ListN.{length}
+use Rattle.lists.proofs.Kit.{_≡_, refl, sym, List, Bool, true, false, cond, ℕ, _≤_, arith, length, eqb}
 use Rattle.text_check.proofs.Accepted.{accepted-short}
 use Rattle.text.specs.Text.{position}
 use Rattle.text.specs.declared.Position.{Position}
@@ -63,8 +57,5 @@ either false x y p q = q
 
 pub inner-by-fits : (kind row col : ℕ) (t : List ℕ) → Fits (innerBy kind row col t)
 unfolding innerBy
-inner-by-fits kind row col t =
-    either (eqb kind 0) _ _ (inner-fits t Round row col)
-    (either (eqb kind 1) _ _ (inner-fits t Square row col)
-    (either (eqb kind 2) _ _ (inner-fits t Curly row col)
-    (either (eqb kind 3) _ _ (inner-fits t Angle row col) tt)))
+inner-by-fits kind row col t = either (eqb kind 0) _ _ (inner-fits t Round row col) (either (eqb kind 1) _ _ (inner-fits t Square row col)
+    (either (eqb kind 2) _ _ (inner-fits t Curly row col) (either (eqb kind 3) _ _ (inner-fits t Angle row col) tt)))

@@ -10,6 +10,7 @@ ghost use mathlib.Core.Path.{_≡_};
 ghost use Rattle.call_bytes.specs.Reply.{Replied};
 ghost use Rattle.call_texts.specs.Carets.{offsetOf, caretSix, keeps, within, movedSix};
 
+// The offset within a segment that a host keeps, where its first number says that it keeps one.
 fn offset_of(kept: u32, offset: u32) -> Offset
     ensures { λ r. ⌜ r ≡ offsetOf kept offset ⌝ }
 {
@@ -28,6 +29,7 @@ pub fn caret_six(row: u32, col: u32, held: u32, sticky: u32, kept: u32, offset: 
     Caret::with(row, col, s, o)
 }
 
+// 1 where an offset within the segment is kept, else 0.
 fn keeps_of(o: Offset) -> u32
     ensures { λ r. ⌜ r ≡ keeps o ⌝ }
 {
@@ -37,6 +39,7 @@ fn keeps_of(o: Offset) -> u32
     }
 }
 
+// The offset that is kept, 0 where there is none.
 fn within_of(o: Offset) -> u32
     ensures { λ r. ⌜ r ≡ within o ⌝ }
 {

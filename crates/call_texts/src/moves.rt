@@ -28,6 +28,7 @@ pub(crate) fn sticky_of(held: u32, sticky: u32) -> Sticky
     Sticky::At(sticky)
 }
 
+// 1 where a column is remembered, else 0.
 pub fn held_of(s: Sticky) -> u32
     ensures { λ r. ⌜ r ≡ held s ⌝ }
 {
@@ -37,6 +38,7 @@ pub fn held_of(s: Sticky) -> u32
     }
 }
 
+// The column that is remembered, 0 where there is none.
 pub fn column_of(s: Sticky) -> u32
     ensures { λ r. ⌜ r ≡ column s ⌝ }
 {

@@ -6,6 +6,7 @@ ghost use mathlib.Core.Path.{_≡_};
 ghost use Rattle.call_texts.specs.Rows.{rowCount, toldRows};
 ghost use Rattle.call_bytes.specs.Reply.{Replied};
 
+// How many rows, or the number the text is refused with.
 fn told_rows(m: Counted) -> Told
     ensures { λ r. ⌜ r ≡ toldRows m ⌝ }
 {

@@ -1,9 +1,5 @@
 -- What the calls on UTF-8 reply, by each answer of the decoder and of the encoder. Assumes nothing.
-use mathlib.Core.Path.{_≡_, refl, _∙_}
-use mathlib.Core.List.{List, [], _∷_}
-use Prim.Native.Nat.{ℕ, _+_, _*_, _≤_, _<_}
-use lib.ListN.{length}
-use borrow.Author.Tests.{lt-ltb, le-ltb}
+use Rattle.lists.proofs.Kit.{_≡_, _∙_, List, [], _∷_, ℕ, _+_, _*_, _≤_, _<_, length, lt-ltb, le-ltb}
 use Rattle.utf8.specs.declared.Decoded.the-variants.{Text, Bad, Refused}
 use Rattle.utf8.specs.declared.Encoded.the-variants.{Bytes, Refused as Encoded·Refused}
 use Rattle.utf8.specs.Decoding.{decoding}
@@ -30,8 +26,7 @@ module _ (b points out : List ℕ) where
         let by-le-ltb = le-ltb 4294967295 (length b) short in
         (record { numbered = rw (by-le-ltb, e); out-left = rw (by-le-ltb, e) }, leaves)
 
-    pub decode-bad :
-        (place : ℕ) → decoded (decoding b) (length points) ≡ Bad place →
+    pub decode-bad : (place : ℕ) → decoded (decoding b) (length points) ≡ Bad place →
         Replied (decodes b points) out (13 + 4294967296 * place) out × (points′ ≡ decodesIn b points)
     unfolding decodes toldDecoded
     decode-bad place e =

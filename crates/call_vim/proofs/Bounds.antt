@@ -1,28 +1,19 @@
 -- What the calls go by: a place and a length fit their numbers. Assumes nothing.
-use mathlib.Core.Path.{_≡_, refl, ap, sym, subst, _∙_}
-use mathlib.Core.List.{List}
-use mathlib.Core.Bool.{Bool, true, false, cond}
-use Prim.Native.Nat.{ℕ, _≤_}
-use native.Mathlib.Omega.{arith}
-use lib.Dec.{eqb, leb}
-use lib.ListN.{length}
-use borrow.Author.Tests.{leb-true, eqb-true, eq-eqb, ne-eqb}
-use Rattle.lists.specs.Lists.{any}
-use Rattle.chars.specs.Scalar.{notScalar}
+use Rattle.lists.proofs.Kit.{_≡_, refl, ap, subst, List, Bool, true, false, cond, ℕ, _≤_, arith, length, eqb, leb, leb-true, eqb-true, eq-eqb, ne-eqb}
 use Rattle.list_parts.specs.Refusals.{charRefusal, listRefusal}
 use Rattle.vim_reader.specs.declared.VimRead.{VimRead}
 use Rattle.vim_reader.specs.declared.VimSpec.{VimSpec}
 use Rattle.vim_reader.specs.declared.VimTested.{VimTested}
 use Rattle.vim_reader.specs.declared.VimTested.the-variants.{Is, Bad, Refused as Tested·Refused}
 use Rattle.vim_reader.specs.Reading.{Reading, read, bad, vimReading}
-use Rattle.vim_reader.specs.Table.{table, kept, answered, refusedAt, readOf, testedBy, testedOf}
+use Rattle.vim_reader.specs.Table.{table, kept, answered, refusedAt, readOf, testedOf}
 use Rattle.vim_writer.specs.declared.VimWritten.{VimWritten}
 use Rattle.vim_writer.specs.declared.VimWritten.the-variants.{Made, Refused as Written·Refused}
 use Rattle.vim_writer.specs.Written.{written, writeRefusal, writtenOf, writtenIn}
 use Rattle.vim_grammar.specs.Tokens.{inVim}
 use Rattle.vim_laws.proofs.Lists.{bad-place}
-use Rattle.vim_laws.proofs.Again.{Taken, taken, again}
-use Rattle.call_signs.specs.declared.Placed.the-variants.{Value, Refused}
+use Rattle.vim_laws.proofs.Again.{taken, again}
+use Rattle.call_signs.specs.declared.Placed.the-variants.{Refused}
 use Rattle.call_signs.specs.Entry.{placed}
 use Rattle.call_vim.specs.Vim.{writtenPlaced, vimWriting, vimLeft}
 
@@ -58,14 +49,9 @@ placeOf (Tested·Refused f) = 0
 
 pub tested-place : (x : ℕ) (l : List ℕ) (n : ℕ) → testedOf x l ≡ Bad n → n ≤ 1024
 unfolding placeOf
-tested-place x l n e =
-    subst (λ (k : ℕ). k ≤ 1024) (ap placeOf e)
-    (go (eqb (charRefusal x) 0) (eqb (readOf l .refusal) 0) (eqb (readOf l .refusal) 17))
+tested-place x l n e = subst (λ (k : ℕ). k ≤ 1024) (ap placeOf e) (go (eqb (charRefusal x) 0) (eqb (readOf l .refusal) 0) (eqb (readOf l .refusal) 17))
   where
-    go :
-        (a b d : Bool) →
-        placeOf
-        (cond a (cond b (Is (inVim (kept (readOf l .spec)) x)) (cond d (Bad (readOf l .place)) (Tested·Refused (readOf l .refusal))))
+    go : (a b d : Bool) → placeOf (cond a (cond b (Is (inVim (kept (readOf l .spec)) x)) (cond d (Bad (readOf l .place)) (Tested·Refused (readOf l .refusal))))
         (Tested·Refused (charRefusal x))) ≤ 1024
     go true true d = omega arith
     go true false true = read-place l
@@ -93,13 +79,11 @@ written-size l room n z e =
 
 -- the answer of a list read and written, by what reading gave
 module _ (l room : List ℕ) (r : VimRead) (w : r ≡ readOf l) where
-  pub writing-refused :
-      (f : ℕ) → f ≡ placed (r .refusal) (r .place) → (r .refusal ≡ 0 → ⊥) → (Refused f ≡ vimWriting l room) × (room ≡ vimLeft l room)
+  pub writing-refused : (f : ℕ) → f ≡ placed (r .refusal) (r .place) → (r .refusal ≡ 0 → ⊥) → (Refused f ≡ vimWriting l room) × (room ≡ vimLeft l room)
   unfolding vimWriting vimLeft
   writing-refused f e n = (rw (← w, ne-eqb (r .refusal) 0 n, e), rw (← w, ne-eqb (r .refusal) 0 n))
 
-  pub writing-told :
-      r .refusal ≡ 0 → (m : VimWritten) (left : List ℕ) → (m ≡ writtenOf (r .spec) room) × (left ≡ writtenIn (r .spec) room) →
+  pub writing-told : r .refusal ≡ 0 → (m : VimWritten) (left : List ℕ) → (m ≡ writtenOf (r .spec) room) × (left ≡ writtenIn (r .spec) room) →
       (writtenPlaced m ≡ vimWriting l room) × (left ≡ vimLeft l room)
   unfolding vimWriting vimLeft
   writing-told z m left k = (rw (← w, eq-eqb (r .refusal) 0 z) (ap writtenPlaced (k .0)), rw (← w, eq-eqb (r .refusal) 0 z) (k .1))

@@ -1,9 +1,5 @@
 -- The place of 17 is one of a list of at most 1,024 code points. Assumes nothing.
-use mathlib.Core.Path.{_≡_}
-use mathlib.Core.List.{List}
-use mathlib.Core.Bool.{Bool, true, false, cond}
-use Prim.Native.Nat.{ℕ}
-use lib.Dec.{eqb}
+use Rattle.lists.proofs.Kit.{List, Bool, true, false, cond, ℕ, eqb}
 use Rattle.positions.specs.Positions.{refusalFolds}
 use Rattle.vim_reader.specs.Table.{readOf}
 use Rattle.word_rounds.specs.declared.Motion.{Motion}

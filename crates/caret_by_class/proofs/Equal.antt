@@ -1,11 +1,5 @@
 -- The second engine's motion is the first engine's: from a position of the text, by the classes that its text has. Assumes nothing.
-use mathlib.Core.Path.{_≡_, refl, ap, sym, subst, _∙_}
-use mathlib.Core.List.{List, _++_}
-use mathlib.Core.Bool.{Bool, true}
-use Prim.Native.Nat.{ℕ, _+_, _-_, _≤_, _<_, _^_}
-use native.Mathlib.Omega.{arith}
-use lib.ListN.{length, take, drop, length-append}
-use lib.Seq.{take-at}
+use Rattle.lists.proofs.Kit.{_≡_, refl, ap, sym, subst, _∙_, List, Bool, true, ℕ, _+_, _-_, _≤_, _<_, _^_, arith, length, take, drop, length-append, take-at}
 use Rattle.text.specs.Text.{rowCount, position}
 use Rattle.text.specs.Offsets
 use Rattle.text.specs.Offsets.{rowStart}
@@ -21,7 +15,7 @@ use Rattle.word_rounds.specs.Rounds.{wordMotion}
 use Rattle.word_classes.specs.Classes.{classesOf, holding}
 use Rattle.word_classes.proofs.Writing.{classes-length}
 use Rattle.word_class_rows.specs.Rows.{rowOf, startOf}
-use Rattle.word_class_laws.specs.Determines.{Classes, Determines, pos}
+use Rattle.word_class_laws.specs.Determines.{Determines, pos}
 use Rattle.word_class_laws.proofs.Law.{determined}
 use Rattle.word_by_class.specs.Rounds.{motion, positionOf, Asked}
 use Rattle.word_by_class.proofs.Jumping.{at-pos, start-place}

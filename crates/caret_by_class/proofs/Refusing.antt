@@ -1,8 +1,5 @@
 -- The refusals of a call by the classes, check by check. Assumes nothing.
-use mathlib.Core.Path.{_≡_, refl, ap, sym, _∙_}
-use mathlib.Core.List.{List, [], _∷_, _++_}
-use Prim.Native.Nat.{ℕ}
-use borrow.Author.Tests.{eq-eqb, ne-eqb}
+use Rattle.lists.proofs.Kit.{_≡_, ap, sym, _∙_, List, [], _∷_, ℕ, eq-eqb, ne-eqb}
 use Rattle.text_check.specs.Accept.{textRefusal}
 use Rattle.text.specs.Text.{rowCount}
 use Rattle.folds.specs.Folds.{foldRefusal}
@@ -56,8 +53,7 @@ module _ {f g : ℕ} (q : f ≡ g) where
 -- the first three, as the checks of a call find them
 pub entered-three : (t own folds : List ℕ) (k : Caret) (e : Entry) → e ≡ entryOf t k → own ≡ folds → {f : ℕ} → f ≡ orFolds e own →
     f ≡ lowest (textRefusal t ∷ caretRefusal t k ∷ foldRefusal folds (rowCount t) ∷ [])
-entered-three t own folds k e is same q =
-    q ∙ folds-number t (here k) e is own ∙
+entered-three t own folds k e is same q = q ∙ folds-number t (here k) e is own ∙
     ap (λ (x : List ℕ). lowest (textRefusal t ∷ caretRefusal t k ∷ foldRefusal x (rowCount t) ∷ [])) same
 
 -- what an accepted call has

@@ -1,6 +1,7 @@
 -- The word motions of the second engine on carets: the first engine's, and one refusal more. Document 02, #113.
 -- Definitions only. Assumes nothing.
 use Prim.Native.Nat.{ℕ}
+use mathlib.Core.Path.{_≡_}
 use mathlib.Core.List.{List, [], _∷_}
 use mathlib.Core.Bool.{Bool}
 use Rattle.text_check.specs.Accept.{textRefusal}
@@ -10,6 +11,7 @@ use Rattle.list_tokens.specs.Tokens.{inList}
 use Rattle.keywords.specs.Table.{parseOf}
 use Rattle.positions.specs.Positions.{lowest}
 use Rattle.word_classes.specs.Call.{placesRefusal}
+use Rattle.word_classes.specs.Classes.{classesOf, holding}
 use Rattle.word_rounds.specs.declared.Motion.{Motion}
 use Rattle.motions.specs.declared.Caret.{Caret}
 use Rattle.motions.specs.declared.Moved.{Moved}
@@ -24,3 +26,9 @@ classRefusal t folds list k room =
 -- the first engine's answer
 abbrev pub moveByClass : List ℕ → List ℕ → List ℕ → Bool → Motion → Bool → ℕ → Caret → List ℕ → Moved
 moveByClass t folds list big m stop count k room = moving (classRefusal t folds list k room) (wordCaret t folds (inList list) big m stop count k)
+
+-- where a motion leads to, of inputs that were accepted: the first engine's caret, and the classes at the front of the slice
+pub record Written (t own : List ℕ) (word : ℕ → Bool) (big : Bool) (m : Motion) (stop : Bool) (count : ℕ) (k : Caret) (room : List ℕ) (r : Caret)
+    (room′ : List ℕ) : Type 0 where
+  pub answer : r ≡ wordCaret t own word big m stop count k
+  pub left : room′ ≡ holding (classesOf word t) room

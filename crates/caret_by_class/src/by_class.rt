@@ -6,17 +6,16 @@ use text::Position;
 use word_rounds::Motion;
 ghost use mathlib.Core.Path.{_≡_};
 ghost use Prim.Native.Nat.{_≤_, _<_, _^_};
-ghost use lib.ListN.{length, take};
+ghost use lib.ListN.{length};
 ghost use Rattle.text_check.specs.Accept.{textRefusal};
 ghost use Rattle.text.specs.Text.{rowCount};
 ghost use Rattle.folds.specs.Folds.{foldRefusal};
 ghost use Rattle.list_tokens.specs.Tokens.{anyToken};
 ghost use Rattle.keywords.specs.Table.{kept};
-ghost use Rattle.word_classes.specs.Classes.{classesOf, holding};
 ghost use Rattle.word_classes.specs.Call.{slicedBy};
 ghost use Rattle.motions.specs.Carets.{Inside, placed};
-ghost use Rattle.motions.specs.WordMoves.{foldsOf, wordCaret};
-ghost use Rattle.caret_by_class.specs.ByClass.{classRefusal, moveByClass};
+ghost use Rattle.motions.specs.WordMoves.{foldsOf};
+ghost use Rattle.caret_by_class.specs.ByClass.{classRefusal, moveByClass, Written};
 
 // The caret at another row and column: its sticky column stays.
 fn placed(k: Caret, p: Position) -> Caret
@@ -43,10 +42,8 @@ fn by_classes(
     requires { ⌜ (textRefusal (now t) ≡ 0) × Inside (now t) k ×
         (foldRefusal (now own) (rowCount (now t)) ≡ 0) × (spec .len ≤ 128) ×
         (length (now t) < length (now classes)) ⌝ }
-    ensures answer { λ r. ⌜ r ≡ wordCaret (now (t .entry)) (now (own .entry))
-        (anyToken (kept spec)) big m stop count k ⌝ }
-    ensures left { λ r. ⌜ now (classes .exit) ≡
-        holding (classesOf (anyToken (kept spec)) (now (t .entry))) (now (classes .entry)) ⌝ }
+    ensures { λ r. ⌜ Written (now (t .entry)) (now (own .entry)) (anyToken (kept spec)) big m stop
+        count k (now (classes .entry)) r (now (classes .exit)) ⌝ }
 {
     word_classes::write_classes(t, spec, classes);
     let n = t.len() + 1;
@@ -57,19 +54,6 @@ fn by_classes(
     };
     let to = word_by_class::word_by_class(&c[..n], own, m, big, stop, count, at);
     placed(k, to)
-}
-
-// How many of the folds' numbers a motion takes: all of them, 6 of two folds, but none for `ge`.
-fn taken(m: Motion, folds: &[u32]) -> usize
-    ensures { λ r. ⌜ (r ≤ length (now (folds .entry))) ×
-        (take r (now (folds .entry)) ≡ foldsOf m (now (folds .entry))) ⌝ }
-{
-    match m {
-        Motion::Fwd => folds.len(),
-        Motion::Back => folds.len(),
-        Motion::End => folds.len(),
-        Motion::EndBack => 0,
-    }
 }
 
 // A word motion by the classes: where it leads to, or the number that the call is refused with. By
@@ -94,7 +78,7 @@ pub fn word_by_class(
         (foldsOf m (now (folds .entry))) (now (list .entry)) k (now (classes .entry)))
         (now (t .entry)) (now (list .entry)) (now (classes .entry)) ⌝ }
 {
-    let n = taken(m, folds);
+    let n = motions::taken(m, folds);
     let own = &folds[..n];
     let e = k.enter(t);
     let f = positions::or_folds(e, own);

@@ -1,12 +1,5 @@
 -- What lies before the first number of a table is in none of its ranges. Assumes nothing.
-use Prim.Native.Nat.{ℕ}
-use mathlib.Core.Path.{_≡_, refl, sym, _∙_}
-use mathlib.Core.Bool.{Bool, true, false, _&&_}
-use mathlib.Core.List.{List, [], _∷_}
-use lib.Dec.{T, ltb}
-use lib.ListN.{length, getD}
-use native.Mathlib.Omega.{arith}
-use borrow.Author.Tests.{ltb-true}
+use Rattle.lists.proofs.Kit.{_≡_, refl, sym, _∙_, List, [], _∷_, Bool, true, false, _&&_, ℕ, arith, length, getD, T, ltb, ltb-true}
 use Rattle.lists.proofs.Both.{both}
 use Rattle.ranges.specs.Ranges.{inTable, ascending}
 use Rattle.ranges.proofs.Bounds.{table-low}

@@ -1,9 +1,5 @@
 -- Facts that other crates cite: no width by any tables is above 4, and the classes of some code points. Assumes nothing.
-use Prim.Native.Nat.{ℕ, _≤_}
-use mathlib.Core.Path.{_≡_, refl}
-use mathlib.Core.List.{List}
-use mathlib.Core.Bool.{Bool, true, false, cond}
-use native.Mathlib.Omega.{arith}
+use Rattle.lists.proofs.Kit.{_≡_, refl, List, Bool, true, false, cond, ℕ, _≤_, arith}
 use Rattle.ranges.specs.Ranges.{inTable}
 use Rattle.chars.specs.White.{whites, isWhite}
 use Rattle.chars.specs.Width.{widthBy}

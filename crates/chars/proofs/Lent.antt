@@ -1,11 +1,5 @@
 -- The generated tables of widths are as the walks require the tables that they are lent, and give the width. Assumes nothing.
-use Prim.Native.Nat.{ℕ, _<_}
-use mathlib.Core.Path.{_≡_, ap, _∙_}
-use mathlib.Core.List.{List}
-use native.Mathlib.Decide.{ℕ-discrete}
-use native.Mathlib.Omega.{arith}
-use lib.Dec.{eqb}
-use borrow.Author.Tests.{ne-eqb, le-leb, le-ltb}
+use Rattle.lists.proofs.Kit.{_≡_, ap, _∙_, List, ℕ, _<_, ℕ-discrete, arith, eqb, ne-eqb, le-leb, le-ltb}
 use Rattle.ranges.specs.Ranges.{inTable}
 use Rattle.chars.specs.Width.{zeroWidths, doubleWidths, widthBy, widthOf, lowWidth, Widths}
 use Rattle.chars.proofs.Tables.{zero-widths-ascend, double-widths-ascend, zero-width-low, double-width-low}

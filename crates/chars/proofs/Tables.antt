@@ -1,10 +1,6 @@
 -- The rule of each table, over the whole table: its bounds ascend, so that no range is empty and no two overlap or touch.
 -- And what a table holds below a bound is what its bounds before that one hold. Assumes nothing.
-use Prim.Native.Nat.{ℕ, _<_}
-use mathlib.Core.Path.{_≡_, refl}
-use mathlib.Core.List.{[], _∷_}
-use lib.Dec.{T}
-use lib.ListN.{drop}
+use Rattle.lists.proofs.Kit.{_≡_, refl, [], _∷_, ℕ, _<_, drop, T}
 use Rattle.ranges.specs.Ranges.{inTable, ascending}
 use Rattle.ranges.proofs.Bounds.{table-low}
 use Rattle.chars.specs.White.{whites, isWhite}
@@ -25,8 +21,7 @@ double-widths-ascend = tt
 module _ (x : ℕ) where
   pub white-low : x < 0x1680 → isWhite x ≡ inTable x (0x9 ∷ 0xe ∷ 0x20 ∷ 0x21 ∷ 0x85 ∷ 0x86 ∷ 0xa0 ∷ 0xa1 ∷ [])
   unfolding isWhite whites
-  white-low h =
-      table-low x (0x9 ∷ 0xe ∷ 0x20 ∷ 0x21 ∷ 0x85 ∷ 0x86 ∷ 0xa0 ∷ 0xa1 ∷ []) 0x1680 (drop 9 whites) whites refl whites-ascend h
+  white-low h = table-low x (0x9 ∷ 0xe ∷ 0x20 ∷ 0x21 ∷ 0x85 ∷ 0x86 ∷ 0xa0 ∷ 0xa1 ∷ []) 0x1680 (drop 9 whites) whites refl whites-ascend h
 
   pub zero-width-low : x < 0x300 → inTable x zeroWidths ≡ inTable x (0 ∷ 1 ∷ [])
   unfolding zeroWidths

@@ -1,10 +1,5 @@
 -- A caret that is corrected goes where its offset goes, and stays a caret. Assumes nothing.
-use mathlib.Core.Path.{_≡_, refl, ap, sym}
-use mathlib.Core.List.{List}
-use mathlib.Core.Bool.{Bool, true, false, cond}
-use Prim.Native.Nat.{ℕ, _+_, _-_, _≤_}
-use native.Mathlib.Omega.{arith}
-use lib.Dec.{eqb}
+use Rattle.lists.proofs.Kit.{_≡_, ap, sym, List, Bool, true, false, cond, ℕ, _+_, _-_, _≤_, arith, eqb}
 use Rattle.text.specs.Text.{position}
 use Rattle.text.specs.declared.Position.{Position}
 use Rattle.motions.specs.declared.Caret.{Caret}
@@ -38,5 +33,4 @@ module _ (k : Caret) (c : Change) (f : Fits k c) (row-k : k .row ≤ 4294967295)
 -- by rows and columns, or by offsets
 pub corrected-after : (t c : List ℕ) (p q : Position) (k : Caret) → Stays t p (offsetOf t p) → Stays t q (offsetOf t q) → offsetOf t p ≤ offsetOf t q →
     Stays t (here k) (offsetOf t (here k)) → correctedBy k (record { from = p; to = q; end = endOf p c }) ≡ caretAfter t p q c k
-corrected-after t c p q k first second order caret =
-    ap clearedAt (sym (pos-of (moved-after t c p q (offsetOf t p) (offsetOf t q) first second order caret)))
+corrected-after t c p q k first second order caret = ap clearedAt (sym (pos-of (moved-after t c p q (offsetOf t p) (offsetOf t q) first second order caret)))

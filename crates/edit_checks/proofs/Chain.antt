@@ -1,18 +1,12 @@
--- The checks of an edit one after the other: what the call is refused with after each, and what is known where it is not. Assumes nothing.
-use mathlib.Core.Path.{_≡_, refl, sym, ap, _∙_}
-use mathlib.Core.List.{List, [], _∷_}
-use Prim.Native.Nat.{ℕ, _+_, _-_, _≤_, _<_}
-use native.Mathlib.Omega.{arith}
-use lib.ListN.{length, take}
-use lib.Seq.{length-take-le}
-use borrow.Author.Tests.{lt-ltb, le-ltb}
+-- The checks of an edit one after the other: what the call is refused with after each, and what is known where it is not. Long by its checks: a step for
+-- each. Assumes nothing.
+use Rattle.lists.proofs.Kit.{_≡_, sym, ap, _∙_, List, [], _∷_, ℕ, _+_, _-_, _^_, _≤_, _<_, arith, length, take, length-take-le, lt-ltb, le-ltb}
 use Rattle.text_check.specs.Accept.{textRefusal}
 use Rattle.text_check.proofs.Accepted.{accepted-short}
 use Rattle.text.specs.Text.{rowCount}
 use Rattle.text.specs.declared.Position.{Position}
 use Rattle.positions.specs.declared.Entry.{Entry}
 use Rattle.positions.specs.Positions.{lowest, positionRefusal, refusalAt, entryOf}
-use Rattle.positions.proofs.Lowest.{lowest-none}
 use Rattle.positions.proofs.Checks.{entry-number, entered}
 use Rattle.edit_places.proofs.Parts.{replaced-length}
 use Rattle.edit_positions.specs.After.{offsetOf, textAfter}
@@ -49,11 +43,11 @@ module _ (buf folds : List ℕ) (s : Sizes) (p q : Position) (c : List ℕ) (k :
   refused-by f r e g n = checked-refused t p q F f r e g n
 
   -- longer than the buffer
-  pub by-length : length buf < s .len → F ≡ 1
+  pub by-length : (r : Checked) → r ≡ refusedBy 1 → length buf < s .len → r ≡ checkOf buf folds s p q c k
   unfolding editRefusal heldRefusal
-  by-length h =
+  by-length r e h =
       let one : A ≡ 1 = rw (lt-ltb (length buf) (s .len) h) (lower-one (textRefusal c)) in
-      lowest-head A (B ∷ C ∷ D ∷ E ∷ []) (λ z. omega (arith, one, z)) ∙ one
+      refused-by 1 r e (lowest-head A (B ∷ C ∷ D ∷ E ∷ []) (λ z. omega (arith, one, z)) ∙ one) (λ z. omega (arith, z))
 
   module _ (fits : s .len ≤ length buf) where
     held : A ≡ lower (textRefusal t) (textRefusal c)
@@ -66,8 +60,7 @@ module _ (buf folds : List ℕ) (s : Sizes) (p q : Position) (c : List ℕ) (k :
     -- text, code points and caret
     module _ (e : Entry) (g f : ℕ) (e-is : e ≡ entryOf t k) (g-is : g ≡ textRefusal c) (f-is : f ≡ lower (e .refusal) g) where
       first-two : lowest (A ∷ B ∷ []) ≡ f
-      first-two =
-          ap (λ (x : ℕ). lowest (x ∷ B ∷ [])) held ∙ sym (texts-caret t c k)
+      first-two = ap (λ (x : ℕ). lowest (x ∷ B ∷ [])) held ∙ sym (texts-caret t c k)
           ∙ sym (f-is ∙ ap (λ (x : ℕ). lower x g) (entry-number t k e e-is) ∙ ap (lower (refusalAt t k)) g-is)
 
       pub by-entry : (f ≡ 0 → ⊥) → F ≡ f
@@ -109,8 +102,7 @@ module _ (buf folds : List ℕ) (s : Sizes) (p q : Position) (c : List ℕ) (k :
             number = checked-number t p q D r r-is
 
             pub by-stretch : (r .refusal ≡ 0 → ⊥) → r ≡ checkOf buf folds s p q c k
-            by-stretch n =
-                r-is ∙ ap (λ (f : ℕ). checkedBy f t p q) (sym (last-two ∙ lowest-head D (E ∷ []) (λ x. n (number ∙ x))))
+            by-stretch n = r-is ∙ ap (λ (f : ℕ). checkedBy f t p q) (sym (last-two ∙ lowest-head D (E ∷ []) (λ x. n (number ∙ x))))
 
             module _ (x : r .refusal ≡ 0) where
               there : Stretches t p q
@@ -125,8 +117,15 @@ module _ (buf folds : List ℕ) (s : Sizes) (p q : Position) (c : List ℕ) (k :
               to-is : r .to ≡ offsetOf t q
               to-is = ap (λ (w : Checked). w .to) at
 
-              pub in-order : (r .from ≤ r .to) × (r .to ≤ s .len)
-              in-order = (omega (arith, from-is, to-is, there .order), omega (arith, to-is, there .within, size))
+              -- there is as much to take out, and not too much to put in
+              pub in-order : r .from ≤ r .to
+              in-order = omega (arith, from-is, to-is, there .order)
+
+              pub in-text : r .to - r .from ≤ s .len
+              in-text = omega (arith, from-is, to-is, there .order, there .within, size)
+
+              pub in-words : s .len - (r .to - r .from) + length c < 2 ^ 64
+              in-words = omega (arith, text-brief, points-brief)
 
               new-size : s .len - (r .to - r .from) + length c ≡ length (textAfter t p q c)
               new-size =

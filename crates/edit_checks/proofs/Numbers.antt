@@ -1,13 +1,6 @@
 -- Laws of the numbers that refuse: of the lower of two, and of the lowest of a list in two parts. Assumes nothing.
-use mathlib.Core.Path.{_≡_, refl, sym, ap, _∙_}
-use mathlib.Core.List.{List, [], _∷_, _++_}
-use mathlib.Core.Bool.{Bool, true, false, cond}
-use Prim.Native.Nat.{ℕ, _≤_, _<_, min}
-use native.Mathlib.Decide.{ℕ-discrete}
-use native.Mathlib.Omega.{arith}
-use lib.Dec.{eqb, ltb}
-use lib.ListN.{length}
-use borrow.Author.Tests.{eq-eqb, ne-eqb}
+use Rattle.lists.proofs.Kit.{_≡_, refl, sym, ap, _∙_, List, [], _∷_, _++_, Bool, true, false, cond, ℕ, _≤_, min, ℕ-discrete, arith, length, eqb, ltb, eq-eqb}
+use Rattle.lists.proofs.Kit.{ne-eqb}
 use Rattle.lists.specs.Lists.{any}
 use Rattle.chars.specs.Scalar.{notScalar}
 use Rattle.text_check.specs.Accept.{isBreak, textRefusal}
@@ -62,8 +55,7 @@ unfolding lowest
 lowest-front [] m n = absurd (n refl)
 lowest-front (f ∷ l) m n = go (eqb f 0) (λ k. lowest-front l m k) n
   where
-    go : (b : Bool) → ((lowest l ≡ 0 → ⊥) → lowest (l ++ m) ≡ lowest l) → (cond b (lowest l) f ≡ 0 → ⊥) →
-        cond b (lowest (l ++ m)) f ≡ cond b (lowest l) f
+    go : (b : Bool) → ((lowest l ≡ 0 → ⊥) → lowest (l ++ m) ≡ lowest l) → (cond b (lowest l) f ≡ 0 → ⊥) → cond b (lowest (l ++ m)) f ≡ cond b (lowest l) f
     go true h n = h n
     go false h n = refl
 
@@ -109,22 +101,16 @@ texts-caret t c k = go (ℕ-discrete (textRefusal t) 0) (ℕ-discrete (textRefus
     go : Dec (textRefusal t ≡ 0) → Dec (textRefusal c ≡ 0) → Dec (positionRefusal t k ≡ 0) →
         lower (lowest (textRefusal t ∷ positionRefusal t k ∷ [])) (textRefusal c) ≡
         lowest (lower (textRefusal t) (textRefusal c) ∷ positionRefusal t k ∷ [])
-    go (no n) d e =
-        ap (λ (x : ℕ). lower x (textRefusal c)) (lowest-head (textRefusal t) (positionRefusal t k ∷ []) n)
+    go (no n) d e = ap (λ (x : ℕ). lower x (textRefusal c)) (lowest-head (textRefusal t) (positionRefusal t k ∷ []) n)
         ∙ sym (lowest-head (lower (textRefusal t) (textRefusal c)) (positionRefusal t k ∷ []) (λ z. n (lower-none _ _ z .0)))
-    go (yes z) (yes y) e =
-        ap (λ (x : ℕ). lower x (textRefusal c)) (lowest-tail (textRefusal t) (positionRefusal t k ∷ []) z)
+    go (yes z) (yes y) e = ap (λ (x : ℕ). lower x (textRefusal c)) (lowest-tail (textRefusal t) (positionRefusal t k ∷ []) z)
         ∙ lower-void (lowest (positionRefusal t k ∷ [])) (textRefusal c) y
         ∙ sym (lowest-tail (lower (textRefusal t) (textRefusal c)) (positionRefusal t k ∷ []) (lower-second _ _ z ∙ y))
     go (yes z) (no m) (yes w) =
         ap (λ (x : ℕ). lower x (textRefusal c)) (lowest-tail (textRefusal t) (positionRefusal t k ∷ []) z ∙ lowest-tail (positionRefusal t k) [] w)
-        ∙ lower-second _ _ lowest-void
-        ∙ sym (lower-second _ _ z)
+        ∙ lower-second _ _ lowest-void ∙ sym (lower-second _ _ z)
         ∙ sym (lowest-head (lower (textRefusal t) (textRefusal c)) (positionRefusal t k ∷ []) (λ v. m (lower-none _ _ v .1)))
-    go (yes z) (no m) (no w) =
-        ap (λ (x : ℕ). lower x (textRefusal c))
+    go (yes z) (no m) (no w) = ap (λ (x : ℕ). lower x (textRefusal c))
         (lowest-tail (textRefusal t) (positionRefusal t k ∷ []) z ∙ lowest-head (positionRefusal t k) [] w ∙ position-four t k w)
-        ∙ lower-both 4 _ (λ v. omega (arith, v)) m
-        ∙ omega (arith, text-most c)
-        ∙ sym (lower-second _ _ z)
+        ∙ lower-both 4 _ (λ v. omega (arith, v)) m ∙ omega (arith, text-most c) ∙ sym (lower-second _ _ z)
         ∙ sym (lowest-head (lower (textRefusal t) (textRefusal c)) (positionRefusal t k ∷ []) (λ v. m (lower-none _ _ v .1)))

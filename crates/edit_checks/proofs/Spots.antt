@@ -1,14 +1,9 @@
--- Laws of a position that stands in a text or outside it, and of a stretch between two. Assumes nothing.
-use mathlib.Core.Path.{_≡_, refl, sym, ap, _∙_}
-use mathlib.Core.List.{List}
-use mathlib.Core.Bool.{Bool, true, false, cond, _&&_, not}
-use Prim.Native.Nat.{ℕ, _+_, _≤_, _<_}
-use native.Mathlib.Omega.{arith}
-use lib.Dec.{eqb, ltb, leb}
-use lib.ListN.{length}
-use borrow.Author.Tests.{eq-eqb, ne-eqb, eqb-true, lt-ltb, le-ltb, le-leb, lt-leb, ltb-true, ltb-false, leb-true}
+-- Laws of a position that stands in a text or outside it, and of a stretch between two. Long by the ends of a stretch: the laws of each. Assumes
+-- nothing.
+use Rattle.lists.proofs.Kit.{_≡_, refl, sym, ap, _∙_, List, Bool, true, false, cond, _&&_, not, ℕ, _+_, _≤_, _<_, arith, length, eqb, ltb, leb, eq-eqb, ne-eqb}
+use Rattle.lists.proofs.Kit.{eqb-true, lt-ltb, le-ltb, le-leb, lt-leb, ltb-true, ltb-false, leb-true}
 use Rattle.text.specs.Text.{rowCount, rowLen}
-use Rattle.text.specs.Offsets.{rowStart, lineAt, IsLine, At}
+use Rattle.text.specs.Offsets.{lineAt, IsLine}
 use Rattle.text.specs.declared.Line.{Line}
 use Rattle.text.specs.declared.Position.{Position}
 use Rattle.text.proofs.At.{at-le}
@@ -21,7 +16,7 @@ use Rattle.edit_positions.proofs.Going.{before-offset}
 use Rattle.edit_checks.specs.declared.Spot.{Spot}
 use Rattle.edit_checks.specs.declared.Spot.the-variants.{In, Out}
 use Rattle.edit_checks.specs.declared.Checked.{Checked}
-use Rattle.edit_checks.specs.Refusals.{isStretch, stretchRefusal}
+use Rattle.edit_checks.specs.Refusals.{stretchRefusal}
 use Rattle.edit_checks.specs.Checks.{spotOf, refusedBy, checkedBy, stretchOf}
 
 apart : _≡_ {A = Bool} false true → ⊥
@@ -72,8 +67,7 @@ module _ (t : List ℕ) (p : Position) where
   in-line l e = line-there t l (p .row) (in-inside l e .1) (is-inside (in-inside l e .0) .in-row)
 
   pub in-fits : (l : Line) → spotOf t p ≡ In l → l .start + p .col ≤ length t
-  in-fits l e =
-      omega (arith, at-le (inside-stays (is-inside (in-inside l e .0))), ap (λ (x : Line). x .start) (in-inside l e .1))
+  in-fits l e = omega (arith, at-le (inside-stays (is-inside (in-inside l e .0))), ap (λ (x : Line). x .start) (in-inside l e .1))
 
   pub long : (l : Line) (n : ℕ) → l ≡ lineAt t (p .row) → n ≡ rowLen t (l .row) → n ≡ rowLen t (p .row)
   long l n e m = m ∙ ap (λ (x : Line). rowLen t (x .row)) e

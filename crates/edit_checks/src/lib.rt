@@ -16,8 +16,8 @@ pub enum Spot {
     Out,
 }
 
-// What the checks of an edit find out: its refusal, the offsets at which the stretch starts and ends,
-// and how many rows the text has. They are 0 beside a refusal.
+// What the checks of an edit find out: its refusal, the offsets at which the stretch starts and
+// ends, and how many rows the text has. They are 0 beside a refusal.
 pub struct Checked {
     pub refusal: u32,
     pub from: usize,

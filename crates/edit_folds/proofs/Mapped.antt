@@ -1,12 +1,7 @@
 -- Laws of folds moved to the front of their buffer: what one turn of the loop does, for a fold that is lost and for one that is kept (`Moved`).
 -- On plain lists. Assumes nothing.
-use mathlib.Core.Path.{_≡_, refl, ap, sym, _∙_}
-use mathlib.Core.List.{List, [], _∷_, _++_, append-assoc, append-nil}
-use mathlib.Core.Bool.{true, false, cond}
-use Prim.Native.Nat.{ℕ, suc, _+_, _-_, _*_, _≤_, _<_, max}
-use native.Mathlib.Omega.{arith}
-use lib.ListN.{length, getD, set, take, drop, length-append, drop-of-length-le}
-use lib.Seq.{drop-cons, length-take-le, getD-take, sets-eq, length-sets}
+use Rattle.lists.proofs.Kit.{_≡_, refl, ap, sym, _∙_, List, [], _∷_, _++_, append-assoc, append-nil, true, false, cond, ℕ, suc, _+_, _-_, _*_, _≤_, _<_, max}
+use Rattle.lists.proofs.Kit.{arith, length, getD, set, take, drop, length-append, drop-of-length-le, drop-cons, length-take-le, getD-take, sets-eq, length-sets}
 use Rattle.edit_places.specs.Replaced.{replaced, zeros, refilled, Over}
 use Rattle.edit_folds.specs.Folds.{keptFolds, isLost, FoldsKept, FoldsMapped}
 use Rattle.edit_places.proofs.Parts.{over-none, over-read, over-then}
@@ -47,8 +42,7 @@ module _ {f : ℕ → ℕ} {e buf : List ℕ} {n i w : ℕ} (m : Moved f e n i w
 
   module _ (h : i < n) where
     -- the next fold
-    next-is : keptFolds f (drop (3 * i) (take (3 * n) e)) ≡
-        (let value = getD buf (3 * i) 0 in
+    next-is : keptFolds f (drop (3 * i) (take (3 * n) e)) ≡ (let value = getD buf (3 * i) 0 in
         let value-there = getD buf (3 * i + 1) 0 in
         let r = keptFolds f (drop (3 * (i + 1)) (take (3 * n) e)) in
         cond (isLost value value-there (f value) (f value-there)) r (f value ∷ f value-there ∷ getD buf (3 * i + 2) 0 ∷ r))

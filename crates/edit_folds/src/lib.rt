@@ -74,7 +74,8 @@ fn keep_folds(folds: &mut [u32], n: usize, r1: u32, r2: u32, k: u32) -> usize
 pub fn map_folds(folds: &mut [u32], n: usize, r1: u32, r2: u32, k: u32) -> usize
     requires { ⌜ (r1 ≤ r2) × (3 * n ≤ length (now folds)) ⌝ }
     requires { ⌜ Raises (now folds) (3 * n) k ⌝ }
-    ensures { λ r. ⌜ FoldsMapped (mappedRow r1 r2 k) (now (folds .entry)) n r (now (folds .exit)) ⌝ }
+    ensures { λ r. ⌜ FoldsMapped (mappedRow r1 r2 k) (now (folds .entry)) n r
+        (now (folds .exit)) ⌝ }
 {
     let kept = keep_folds(folds, n, r1, r2, k);
     edit_places::put::put_zeros(folds, 3 * kept, 3 * n - 3 * kept);

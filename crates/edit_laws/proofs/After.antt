@@ -1,12 +1,5 @@
 -- An accepted edit: the rows of the new text, that all of it is accepted, and that the buffers hold it. Assumes nothing.
-use mathlib.Core.Path.{_≡_, refl, sym, ap, _∙_}
-use mathlib.Core.List.{List, [], _++_, append-assoc}
-use Prim.Native.Nat.{ℕ, _+_, _-_, _*_, _/_, _≤_, _<_, max}
-use native.Mathlib.Decide.{decLt, ℕ-discrete}
-use native.Mathlib.Omega.{arith}
-use lib.ListN.{length, take, drop}
-use lib.Seq.{take-at, length-take-le}
-use borrow.Author.Tests.{lt-ltb, le-ltb, eq-eqb, ne-eqb}
+use Rattle.lists.proofs.Kit.{_≡_, refl, List, _++_, append-assoc, ℕ, _+_, _-_, _*_, _≤_, max, ℕ-discrete, arith, length, take, drop, take-at, eq-eqb, ne-eqb}
 use Rattle.text.specs.Text.{rowCount, rowLen, position}
 use Rattle.text.specs.declared.Position.{Position}
 use Rattle.text.proofs.At.{at-le}
@@ -17,13 +10,13 @@ use Rattle.positions.proofs.Checks.{inside-taken}
 use Rattle.motions.specs.declared.Caret.{Caret}
 use Rattle.motions.specs.Carets.{here}
 use Rattle.bracket_walks.specs.Matching.{posOf}
-use Rattle.edit_places.specs.Replaced.{replaced, zeros, refilled}
+use Rattle.edit_places.specs.Replaced.{zeros, refilled}
 use Rattle.edit_places.proofs.Parts.{replaced-length}
-use Rattle.edit_folds.specs.Folds.{mappedRow, keptFolds}
+use Rattle.edit_folds.specs.Folds.{mappedRow}
 use Rattle.edit_positions.specs.declared.Change.{Change}
 use Rattle.edit_positions.specs.After.{offsetOf, offsetAfter, textAfter}
 use Rattle.edit_positions.specs.Change.{endOf, behind}
-use Rattle.edit_positions.proofs.Places.{Stays, pos-of, pos-there}
+use Rattle.edit_positions.proofs.Places.{Stays, pos-there}
 use Rattle.edit_positions.proofs.Going.{stays-behind, moved-after}
 use Rattle.edit_checks.specs.declared.Sizes.{Sizes}
 use Rattle.edit_checks.specs.Checks.{checkOf}
@@ -31,7 +24,7 @@ use Rattle.edits.specs.Edits.{newText, newFolds, refusalOf}
 use Rattle.edits.specs.Editable.{StandsIn}
 use Rattle.edits.proofs.Making.{end-rows}
 use Rattle.edits.proofs.Known.{editable, text-good, points-good}
-use Rattle.edit_laws.specs.Laws.{Accepted, Sound}
+use Rattle.edit_laws.specs.Laws.{Sound}
 use Rattle.edit_laws.proofs.Texts.{replaced-good}
 use Rattle.edit_laws.proofs.FoldLists.{kept-three, kept-most, folds-few, kept-good, folds-accepted}
 use Rattle.edit_laws.proofs.RowMaps.{map-up, map-inside}
@@ -94,10 +87,8 @@ module _ (buf fold : List ℕ) (s : Sizes) (p q : Position) (c : List ℕ) (k : 
           folds-good = folds-accepted kept (rowCount new) three (omega (arith, kept-most mapped-row old, few .1)) good;
           inside = inside-taken new (posOf new offset-after) (record { in-row = there .in-row; in-col = there .in-col });
         };
-        text-held =
-            rw (append-assoc new (zeros (s .len - length new)) (drop (max (s .len) (length new)) buf))
+        text-held = rw (append-assoc new (zeros (s .len - length new)) (drop (max (s .len) (length new)) buf))
             (take-at new (zeros (s .len - length new) ++ drop (max (s .len) (length new)) buf) (length new) refl);
-        folds-held =
-            rw (append-assoc kept (zeros (3 * s .count - length kept)) (drop (max (3 * s .count) (length kept)) fold), ← three)
+        folds-held = rw (append-assoc kept (zeros (3 * s .count - length kept)) (drop (max (3 * s .count) (length kept)) fold), ← three)
             (take-at kept (zeros (3 * s .count - length kept) ++ drop (max (3 * s .count) (length kept)) fold) (length kept) refl);
       }

@@ -1,12 +1,5 @@
 -- A delete of what an insert put in takes it back: the text, its folds, and a caret's position. Assumes nothing.
-use mathlib.Core.Path.{_≡_, refl, sym, ap, _∙_}
-use mathlib.Core.List.{List, []}
-use Prim.Native.Nat.{ℕ, _+_, _-_, _*_, _/_, _≤_, _<_}
-use native.Mathlib.Decide.{decLt}
-use native.Mathlib.Omega.{arith}
-use lib.ListN.{length, take, drop, drop-of-length-le}
-use lib.Seq.{length-take-le}
-use borrow.Author.Tests.{lt-ltb, le-ltb}
+use Rattle.lists.proofs.Kit.{_≡_, sym, ap, _∙_, List, [], ℕ, _+_, _-_, _<_, decLt, arith, length, take, drop, drop-of-length-le, length-take-le, lt-ltb, le-ltb}
 use Rattle.text.specs.Text.{rowCount}
 use Rattle.text.specs.declared.Position.{Position}
 use Rattle.text.proofs.At.{at-le}
@@ -16,11 +9,10 @@ use Rattle.bracket_walks.specs.Matching.{posOf}
 use Rattle.edit_places.specs.Replaced.{replaced}
 use Rattle.edit_places.proofs.Replaces.{replaced-back}
 use Rattle.edit_folds.specs.Folds.{mappedRow, keptFolds}
-use Rattle.edit_positions.specs.After.{offsetOf, offsetAfter, textAfter, positionAfter}
+use Rattle.edit_positions.specs.After.{offsetOf, offsetAfter, textAfter}
 use Rattle.edit_positions.specs.Change.{endOf}
-use Rattle.edit_positions.proofs.Places.{Stays, pos-of, pos-there}
+use Rattle.edit_positions.proofs.Places.{pos-of, pos-there}
 use Rattle.edit_positions.proofs.Going.{stays-before, stays-end, moved-after}
-use Rattle.edits.specs.Edits.{foldsAfter}
 use Rattle.edits.specs.Editable.{StandsIn}
 use Rattle.edits.proofs.Making.{end-rows}
 use Rattle.edit_laws.specs.Laws.{TakenBack}
@@ -66,11 +58,8 @@ module _ (t folds c : List ℕ) (p x : Position) (at : StandsIn t p) (caret : St
       let none : rowCount [] - 1 ≡ 0 = omega (arith, ap length rows-nil) in
       record {
         text-back = back;
-        folds-back =
-            (λ i. keptFolds (mappedRow (p .row) (end-rows p c i) (none i)) (keptFolds (mappedRow (p .row) (p .row) difference) folds))
+        folds-back = (λ i. keptFolds (mappedRow (p .row) (end-rows p c i) (none i)) (keptFolds (mappedRow (p .row) (p .row) difference) folds))
             ∙ folds-taken-back (p .row) difference folds (folds-few folds (rowCount t) good .0);
-        caret-back =
-            (λ i. posOf (back i) (offsetAfter (from-is i) (to-is i) 0 (there i)))
-            ∙ ap (posOf t) (after-back a (length c) (offsetOf t x))
+        caret-back = (λ i. posOf (back i) (offsetAfter (from-is i) (to-is i) 0 (there i))) ∙ ap (posOf t) (after-back a (length c) (offsetOf t x))
             ∙ pos-of caret;
       }

@@ -1,7 +1,5 @@
 -- Worked examples of edits, each by computation: a text of the rows `ab` and `cd`. Assumes nothing.
-use mathlib.Core.Path.{_≡_, refl}
-use mathlib.Core.List.{List, [], _∷_}
-use Prim.Native.Nat.{ℕ}
+use Rattle.lists.proofs.Kit.{_≡_, refl, List, [], _∷_, ℕ}
 use Rattle.lists.specs.Lists.{onFirst}
 use Rattle.text.specs.Text.{rows, position}
 use Rattle.text.specs.Offsets.{startIn, rowOf}

@@ -1,12 +1,6 @@
 -- Folds after an edit: as many numbers as three for each, and accepted over the new rows. Assumes nothing.
-use mathlib.Core.Path.{_≡_, refl}
-use mathlib.Core.List.{List, [], _∷_}
-use mathlib.Core.Bool.{Bool, true, false, cond, not, _||_}
-use Prim.Native.Nat.{ℕ, _*_, _/_, _%_, _≤_, _<_}
-use native.Mathlib.Omega.{arith}
-use lib.Dec.{eqb, ltb}
-use lib.ListN.{length}
-use borrow.Author.Tests.{eq-eqb, eqb-true, ltb-false, le-ltb, lt-leb}
+use Rattle.lists.proofs.Kit.{_≡_, refl, List, [], _∷_, Bool, true, false, cond, not, _||_, ℕ, _*_, _/_, _%_, _≤_, _<_, arith, length, eqb, ltb, eq-eqb}
+use Rattle.lists.proofs.Kit.{eqb-true, ltb-false, le-ltb, lt-leb}
 use Rattle.folds.specs.Folds.{anyFold, badFold, foldRefusal}
 use Rattle.edit_folds.specs.Folds.{isLost, keptFolds}
 use Rattle.edits.proofs.Small.{neither, good-fold}
@@ -39,8 +33,7 @@ kept-most f (s ∷ e ∷ closed ∷ folds) = go (isLost s e (f s) (f e)) (kept-m
 -- folds that are accepted are 256 at most
 pub folds-few : (folds : List ℕ) (rows : ℕ) → foldRefusal folds rows ≡ 0 → (length folds ≡ 3 * (length folds / 3)) × (length folds / 3 ≤ 256)
 unfolding foldRefusal
-folds-few folds rows z =
-    go (eqb (length folds % 3) 0) (ltb 256 (length folds / 3)) (anyFold (badFold rows) folds) refl refl z
+folds-few folds rows z = go (eqb (length folds % 3) 0) (ltb 256 (length folds / 3)) (anyFold (badFold rows) folds) refl refl z
   where
     go : (a b c : Bool) → eqb (length folds % 3) 0 ≡ a → ltb 256 (length folds / 3) ≡ b → _≡_ {A = ℕ} (cond (not a || (b || c)) 5 0) 0 →
         (length folds ≡ 3 * (length folds / 3)) × (length folds / 3 ≤ 256)

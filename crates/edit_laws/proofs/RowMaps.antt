@@ -1,14 +1,6 @@
 -- The row map of an edit keeps order, takes the rows to so many as there are then, and is taken back, with the folds. Assumes nothing.
-use mathlib.Core.Path.{_≡_, refl, sym, ap, _∙_}
-use mathlib.Core.Logic.{_⊎_, inl, inr}
-use mathlib.Core.List.{List, [], _∷_}
-use mathlib.Core.Bool.{false, not, _&&_}
-use Prim.Native.Nat.{ℕ, _+_, _-_, _*_, _/_, _≤_, _<_}
-use native.Mathlib.Decide.{decLt, ℕ-discrete}
-use native.Mathlib.Omega.{arith}
-use lib.Dec.{eqb}
-use lib.ListN.{length}
-use borrow.Author.Tests.{eq-eqb, ne-eqb, lt-leb, le-leb}
+use Rattle.lists.proofs.Kit.{_≡_, refl, sym, ap, _∙_, List, [], _∷_, false, not, _&&_, _⊎_, inl, inr, ℕ, _+_, _-_, _*_, _/_, _≤_, _<_, decLt, ℕ-discrete, arith}
+use Rattle.lists.proofs.Kit.{length, eqb, eq-eqb, ne-eqb, lt-leb, le-leb}
 use Rattle.edit_folds.specs.Folds.{mappedRow, isLost, keptFolds}
 
 -- the row map keeps order, and takes the rows to so many as there are then
@@ -97,5 +89,4 @@ module _ (r k : ℕ) where
   folds-taken-back [] h = refl
   folds-taken-back (s ∷ []) h = absurd (omega arith)
   folds-taken-back (s ∷ e ∷ []) h = absurd (omega arith)
-  folds-taken-back (s ∷ e ∷ closed ∷ folds) h =
-      rw (kept-there s e, there-back s, there-back e, kept-back s e, folds-taken-back folds (omega arith))
+  folds-taken-back (s ∷ e ∷ closed ∷ folds) h = rw (kept-there s e, there-back s, there-back e, kept-back s e, folds-taken-back folds (omega arith))

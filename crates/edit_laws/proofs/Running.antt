@@ -1,14 +1,8 @@
--- After any run of edits, refused ones among them, the page is accepted, and its text is the list that the run leaves: every later call answers as on that list.
--- Assumes nothing.
-use mathlib.Core.Path.{_≡_, refl, sym, ap, _∙_, subst}
-use mathlib.Core.List.{List, [], _∷_}
-use Prim.Native.Nat.{ℕ, _*_, _/_}
-use native.Mathlib.Decide.{ℕ-discrete}
-use lib.ListN.{length, take}
-use borrow.Author.Tests.{eq-eqb, ne-eqb}
+-- After any run of edits, refused ones among them, the page is accepted, and its text is the list that the run leaves: every later call answers as on
+-- that list. Assumes nothing.
+use Rattle.lists.proofs.Kit.{_≡_, sym, ap, _∙_, subst, List, [], _∷_, ℕ, ℕ-discrete, eq-eqb, ne-eqb}
 use Rattle.motions.specs.Carets.{here}
-use Rattle.edits.specs.Edits.{newText, newFolds}
-use Rattle.edit_carets.specs.Carets.{caretAfter}
+use Rattle.edits.specs.Edits.{newText}
 use Rattle.edit_laws.specs.Laws.{Accepted, Sound}
 use Rattle.edit_laws.specs.Runs.{Page, Step, textOf, foldsOf, refusalAt, edited, pageAfter, pageRun, PageGood, RunsOn}
 use Rattle.edit_laws.proofs.After.{edit-sound}

@@ -1,12 +1,6 @@
 -- A caret's character stays under it; folds keep their order and their marks. Assumes nothing.
-use mathlib.Core.Path.{_≡_, refl, sym, ap, _∙_}
-use mathlib.Core.List.{List, [], _∷_, _++_}
-use mathlib.Core.Bool.{Bool, true, false, cond}
-use Prim.Native.Nat.{ℕ, _+_, _-_, _*_, _≤_, _<_}
-use native.Mathlib.Omega.{arith}
-use lib.ListN.{length, getD, take, drop}
-use lib.Seq.{getD-take, getD-drop}
-use borrow.Author.Tests.{lt-ltb, le-ltb}
+use Rattle.lists.proofs.Kit.{_≡_, refl, sym, ap, _∙_, List, [], _∷_, _++_, Bool, true, false, cond, ℕ, _+_, _-_, _*_, _≤_, _<_, arith, length, getD, drop}
+use Rattle.lists.proofs.Kit.{getD-take, getD-drop, lt-ltb, le-ltb}
 use Rattle.text.specs.declared.Position.{Position}
 use Rattle.edit_places.specs.Replaced.{replaced}
 use Rattle.edit_places.proofs.Parts.{replaced-front, replaced-behind}
@@ -23,8 +17,7 @@ first-of l i =
 module _ (t : List ℕ) (a b : ℕ) (c : List ℕ) (inside : a ≤ length t) (order : a ≤ b) where
   kept-before : (x : ℕ) → x < a → getD (replaced t a b c) (offsetAfter a b (length c) x) 0 ≡ getD t x 0
   unfolding offsetAfter
-  kept-before x h =
-      rw (lt-ltb x a h) (
+  kept-before x h = rw (lt-ltb x a h) (
       sym (getD-take a (replaced t a b c) x 0 h) ∙ ap (λ (l : List ℕ). getD l x 0) (replaced-front t a b c inside a (omega arith)) ∙ getD-take a t x 0 h
       )
 
@@ -55,8 +48,7 @@ module _ (f : ℕ → ℕ) where
   kept-append [] m n e = refl
   kept-append (s ∷ []) m n e = absurd (omega arith)
   kept-append (s ∷ t ∷ []) m n e = absurd (omega arith)
-  kept-append (s ∷ t ∷ k ∷ l) m n e =
-      rw (kept-append l m (n - 1) (omega arith)) (joined (isLost s t (f s) (f t)) (f s) (f t) k (keptFolds f l) (keptFolds f m))
+  kept-append (s ∷ t ∷ k ∷ l) m n e = rw (kept-append l m (n - 1) (omega arith)) (joined (isLost s t (f s) (f t)) (f s) (f t) k (keptFolds f l) (keptFolds f m))
 
   pub folds-in-order : FoldsInOrder f
   unfolding keptFolds

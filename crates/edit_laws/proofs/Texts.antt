@@ -1,12 +1,5 @@
 -- A text of accepted parts is accepted, where it is not too long. Assumes nothing.
-use mathlib.Core.Path.{_≡_, refl, sym, ap, _∙_}
-use mathlib.Core.List.{List, [], _∷_, _++_}
-use mathlib.Core.Bool.{Bool, true, false, cond, _||_}
-use Prim.Native.Nat.{ℕ, zero, suc, _≤_}
-use native.Mathlib.Omega.{arith}
-use lib.Dec.{ltb}
-use lib.ListN.{length, take, drop}
-use borrow.Author.Tests.{ltb-false, le-ltb}
+use Rattle.lists.proofs.Kit.{_≡_, refl, List, [], _∷_, _++_, Bool, true, false, cond, ℕ, zero, suc, _≤_, arith, length, take, drop, ltb, le-ltb}
 use Rattle.lists.specs.Lists.{any}
 use Rattle.chars.specs.Scalar.{notScalar}
 use Rattle.text_check.specs.Accept.{isBreak, textRefusal}

@@ -1,7 +1,5 @@
 -- Laws of the test of a caret beside a change. Assumes nothing.
-use mathlib.Core.Path.{_≡_}
-use Prim.Native.Nat.{_+_, _-_, _≤_, _<_}
-use borrow.Author.Tests.{le-leb, lt-leb}
+use Rattle.lists.proofs.Kit.{_≡_, _+_, _≤_, _<_, le-leb, lt-leb}
 use Rattle.motions.specs.declared.Caret.{Caret}
 use Rattle.motions.specs.declared.Moved.the-variants.{To, Refused}
 use Rattle.edit_positions.specs.declared.Change.{Change}
@@ -15,13 +13,12 @@ module _ (k : Caret) (c : Change) where
 
   pub follows : Fits k c → To (correctedBy k c) ≡ followed k c
   unfolding followed isNear
-  follows f =
-      rw (
-        le-leb (c .from .row) 4294967295 (f .row-fits),
-        le-leb (c .from .col) 4294967295 (f .col-fits),
-        le-leb (c .end .row + k .row) 4294967295 (f .sums .row-fits),
-        le-leb (c .end .col + k .col) 4294967295 (f .sums .col-fits),
-      )
+  follows f = rw (
+    le-leb (c .from .row) 4294967295 (f .row-fits),
+    le-leb (c .from .col) 4294967295 (f .col-fits),
+    le-leb (c .end .row + k .row) 4294967295 (f .sums .row-fits),
+    le-leb (c .end .col + k .col) 4294967295 (f .sums .col-fits),
+  )
 
   module _ (row : c .from .row ≤ 4294967295) where
     pub from-col-far : 4294967295 < c .from .col → Refused 4 ≡ followed k c
@@ -31,18 +28,16 @@ module _ (k : Caret) (c : Change) where
     module _ (col : c .from .col ≤ 4294967295) where
       pub row-far : 4294967295 < c .end .row + k .row → Refused 4 ≡ followed k c
       unfolding followed isNear
-      row-far h =
-          rw (le-leb (c .from .row) 4294967295 row, le-leb (c .from .col) 4294967295 col, lt-leb (c .end .row + k .row) 4294967295 h)
+      row-far h = rw (le-leb (c .from .row) 4294967295 row, le-leb (c .from .col) 4294967295 col, lt-leb (c .end .row + k .row) 4294967295 h)
 
       pub col-far : c .end .row + k .row ≤ 4294967295 → 4294967295 < c .end .col + k .col → Refused 4 ≡ followed k c
       unfolding followed isNear
-      col-far g h =
-          rw (
-            le-leb (c .from .row) 4294967295 row,
-            le-leb (c .from .col) 4294967295 col,
-            le-leb (c .end .row + k .row) 4294967295 g,
-            lt-leb (c .end .col + k .col) 4294967295 h,
-          )
+      col-far g h = rw (
+        le-leb (c .from .row) 4294967295 row,
+        le-leb (c .from .col) 4294967295 col,
+        le-leb (c .end .row + k .row) 4294967295 g,
+        lt-leb (c .end .col + k .col) 4294967295 h,
+      )
 
       pub near-fits : c .end .row + k .row ≤ 4294967295 → c .end .col + k .col ≤ 4294967295 → Fits k c
       near-fits g h = record { sums = record { row-fits = g; col-fits = h }; row-fits = row; col-fits = col }

@@ -1,10 +1,5 @@
 -- Every caret that stands in the text of an accepted edit can be corrected by its change, and goes where its offset goes. Assumes nothing.
-use mathlib.Core.Path.{_≡_, refl, ap, sym, _∙_}
-use mathlib.Core.List.{List}
-use Prim.Native.Nat.{ℕ, _≤_}
-use native.Mathlib.Omega.{arith}
-use lib.ListN.{length, take}
-use lib.Seq.{length-take-le}
+use Rattle.lists.proofs.Kit.{_≡_, refl, ap, sym, _∙_, List, ℕ, _≤_, arith, length, take, length-take-le}
 use Rattle.text.specs.declared.Position.{Position}
 use Rattle.positions.specs.Positions.{positionRefusal}
 use Rattle.positions.proofs.Checks.{inside-at}
@@ -23,8 +18,7 @@ use Rattle.edit_others.specs.Others.{Follows}
 use Rattle.edit_others.proofs.Near.{follows}
 
 -- k is the caret that the edit was made with, and o any other
-pub others-follow :
-    (buf folds : List ℕ) (s : Sizes) (p q : Position) (c : List ℕ) (k o : Caret) → refusalOf buf folds s p q c k ≡ 0 →
+pub others-follow : (buf folds : List ℕ) (s : Sizes) (p q : Position) (c : List ℕ) (k o : Caret) → refusalOf buf folds s p q c k ≡ 0 →
     positionRefusal (take (s .len) buf) (here o) ≡ 0 → Follows buf s p q c o
 others-follow buf folds s p q c k o none inside =
     let front = take (s .len) buf in
@@ -34,7 +28,6 @@ others-follow buf folds s p q c k o none inside =
     let fits = fits-caret front c p q o (by-editable .first) (near front (here o) stands short) (by-editable .first-near) (by-editable .points-brief) in
     record {
       fits = fits;
-      goes =
-          sym (follows o (record { from = p; to = q; end = endOf p c }) fits)
+      goes = sym (follows o (record { from = p; to = q; end = endOf p c }) fits)
           ∙ ap To (corrected-after front c p q o (by-editable .first) (by-editable .second) (by-editable .order) stands);
     }

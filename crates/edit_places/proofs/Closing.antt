@@ -1,10 +1,5 @@
 -- What two writes, one after the other, leave of a buffer: behind a gap and into it, or moved down and zeros behind. On plain lists. Assumes nothing.
-use mathlib.Core.Path.{_≡_, ap, sym, _∙_}
-use mathlib.Core.List.{List, [], _++_, append-assoc, append-nil}
-use Prim.Native.Nat.{ℕ, _+_, _-_, _≤_}
-use native.Mathlib.Omega.{arith}
-use lib.ListN.{length, take, drop}
-use lib.Seq.{take-take, length-slice}
+use Rattle.lists.proofs.Kit.{_≡_, ap, sym, _∙_, List, [], _++_, append-assoc, append-nil, ℕ, _+_, _-_, _≤_, arith, length, take, drop, take-take, length-slice}
 use Rattle.edit_places.specs.Replaced.{replaced, zeros, Over, Deleted}
 use Rattle.edit_places.proofs.Puts.{length-zeros}
 use Rattle.edit_places.proofs.Parts.{replaced-front, replaced-rest, replaced-through, replaced-behind}

@@ -1,10 +1,6 @@
 -- Laws of the parts of a list with a part replaced, and of one write behind another (`Over`). On plain lists. Assumes nothing.
-use mathlib.Core.Path.{_≡_, refl, ap, sym, _∙_}
-use mathlib.Core.List.{List, [], _++_, append-assoc, append-nil}
-use Prim.Native.Nat.{ℕ, _+_, _-_, _≤_}
-use native.Mathlib.Omega.{arith}
-use lib.ListN.{length, getD, take, drop, length-append, length-drop, take-append-drop}
-use lib.Seq.{take-at, drop-at, length-take-le, take-take, drop-drop, take-append-le, getD-drop}
+use Rattle.lists.proofs.Kit.{_≡_, refl, ap, sym, _∙_, List, [], _++_, append-assoc, append-nil, ℕ, _+_, _-_, _≤_, arith, length, getD, take, drop}
+use Rattle.lists.proofs.Kit.{length-append, length-drop, take-append-drop, take-at, drop-at, length-take-le, take-take, drop-drop, take-append-le, getD-drop}
 use Rattle.edit_places.specs.Replaced.{replaced, Over}
 
 -- the parts of a list with a part replaced: before it, from it on, up to its end, and j behind its end
@@ -31,10 +27,8 @@ module _ (e : List ℕ) (a b : ℕ) (c : List ℕ) (fits : a ≤ length e) where
 
   pub replaced-behind : (j : ℕ) → drop (a + length c + j) (replaced e a b c) ≡ drop (b + j) e
   unfolding replaced
-  replaced-behind j =
-      sym (drop-drop j (a + length c) (take a e ++ c ++ drop b e))
-      ∙ ap (drop j) (drop-at (take a e ++ c) (drop b e) (a + length c) through-length)
-      ∙ drop-drop j b e
+  replaced-behind j = sym (drop-drop j (a + length c) (take a e ++ c ++ drop b e))
+      ∙ ap (drop j) (drop-at (take a e ++ c) (drop b e) (a + length c) through-length) ∙ drop-drop j b e
 
   pub replaced-length : length (replaced e a b c) ≡ a + length c + (length e - b)
   unfolding replaced
@@ -60,8 +54,7 @@ module _ {e d buf : List ℕ} {at : ℕ} (u : Over e at d buf) (fits : at ≤ le
       let front : take (at + length d) buf ≡ take at e ++ d = rw (u .left) (replaced-through e at (at + length d) d fits) in
       let sum-is : at + length (d ++ v) ≡ at + length d + length v = omega (arith, length-append d v) in
       record {
-        left =
-            w .left
+        left = w .left
             ∙ rw (q, front, over-behind (length v), sum-is) (ap (λ (l : List ℕ). l ++ drop (at + length d + length v) e) (append-assoc (take at e) d v));
         size = w .size ∙ u .size;
       }

@@ -1,13 +1,9 @@
 -- Laws of writing over a part of a list, place by place: upwards (`Up`) and downwards (`Down`). They are the invariants of the loops.
 -- Assumes nothing.
-use mathlib.Core.Path.{_≡_, refl, ap, sym, _∙_}
-use mathlib.Core.List.{List, _∷_, _++_, append-assoc, append-nil}
-use Prim.Native.Nat.{ℕ, suc, _+_, _-_, _≤_, _<_}
-use native.Mathlib.Numerals.{add-one}
-use native.Mathlib.Nat.{add-zero, add-suc}
-use native.Mathlib.Omega.{arith}
-use lib.ListN.{length, getD, set, take, drop, length-set, length-replicate, getD-replicate, take-append-drop, List·getD-append}
-use lib.Seq.{take-suc, drop-cons, append-snoc, set-at, take-all, length-take-le, drop-length, getD-append-add, getD-take, getD-drop, paste-zero, paste-suc, length-paste-head}
+use Rattle.lists.proofs.Kit.{_≡_, refl, ap, sym, _∙_, List, _∷_, _++_, append-assoc, append-nil, ℕ, suc, _+_, _-_, _≤_, _<_, add-zero, add-suc, add-one, arith}
+use Rattle.lists.proofs.Kit.{length, getD, set, take, drop, length-set, length-replicate, getD-replicate, take-append-drop, List·getD-append, take-suc}
+use Rattle.lists.proofs.Kit.{drop-cons, append-snoc, set-at, take-all, length-take-le, drop-length, getD-append-add, getD-take, getD-drop, paste-zero}
+use Rattle.lists.proofs.Kit.{paste-suc, length-paste-head}
 use Rattle.edit_places.specs.Replaced.{replaced, zeros, Over}
 
 -- the first k of s stand in e from place at on
@@ -82,8 +78,7 @@ set-below e s r at j h k =
       append-snoc front value rest,
       append-assoc front (value ∷ rest) r,
       append-assoc front (value-there ∷ rest) r,
-    )
-    (set-at front value (rest ++ r) value-there (at + j) (length-take-le (at + j) e (omega arith)))
+    ) (set-at front value (rest ++ r) value-there (at + j) (length-take-le (at + j) e (omega arith)))
 
 module _ {e s buf : List ℕ} {at k : ℕ} (d : Down e at s k buf) where
   pub down-next : {v : ℕ} → 0 < k → v ≡ getD s (k - 1) 0 → Down e at s (k - 1) (set buf (at + (k - 1)) v)
@@ -92,8 +87,7 @@ module _ {e s buf : List ℕ} {at k : ℕ} (d : Down e at s k buf) where
       record {
         some = omega (arith, d .some);
         fits = d .fits;
-        left =
-            rw (d .left, q) (
+        left = rw (d .left, q) (
             ap (λ (i : ℕ). set (take (at + i) e ++ drop i s ++ drop (at + length s) e) (at + (k - 1)) (getD s (k - 1) 0)) k-is
             ∙ set-below e s (drop (at + length s) e) at (k - 1) (omega (arith, d .some)) (d .fits)
             );

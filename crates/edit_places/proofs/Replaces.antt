@@ -1,11 +1,7 @@
 -- What a replacement leaves of a buffer: by a shorter text, written first and the rest closed up; by a longer one, written into a gap.
 -- And of a replacement: it is a delete and an insert, and it can be taken back. On plain lists. Assumes nothing.
-use mathlib.Core.Path.{_≡_, ap, sym, _∙_}
-use mathlib.Core.List.{List, [], _∷_, _++_, append-assoc, append-nil}
-use Prim.Native.Nat.{ℕ, zero, suc, _+_, _-_, _≤_, max}
-use native.Mathlib.Omega.{arith}
-use lib.ListN.{length, take, drop, take-append-drop}
-use lib.Seq.{take-at, take-nil, length-take-le, take-take, length-slice}
+use Rattle.lists.proofs.Kit.{_≡_, ap, sym, _∙_, List, [], _∷_, _++_, append-nil, ℕ, zero, suc, _+_, _-_, _≤_, max, arith, length, take, drop, take-append-drop}
+use Rattle.lists.proofs.Kit.{take-nil, length-take-le, take-take, length-slice}
 use Rattle.edit_places.specs.Replaced.{replaced, zeros, refilled, Refilled, Over, Deleted}
 use Rattle.edit_places.proofs.Parts.{replaced-front, replaced-rest, replaced-through, replaced-behind, replaced-length, over-behind}
 use Rattle.edit_places.proofs.Closing.{opened}
@@ -55,8 +51,7 @@ module _ (e : List ℕ) (len a b : ℕ) (c : List ℕ) (a-b : a ≤ b) (b-len : 
         let behind : drop b buf ≡ drop b e = rw sum-is at (over-behind u (omega arith) (b - at)) in
         let rest : drop len buf ≡ drop len e = rw len-is at (over-behind u (omega arith) (len - at)) in
         let front : take at (take len buf) ≡ take a (take len e) ++ c =
-        take-take at len buf (omega arith)
-        ∙ rw (at-is, u .left, take-take a len e (omega arith)) (replaced-through e a (a + length c) c (omega arith)) in
+        take-take at len buf (omega arith) ∙ rw (at-is, u .left, take-take a len e (omega arith)) (replaced-through e a (a + length c) c (omega arith)) in
         let last : drop b (take len buf) ≡ drop b (take len e) =
         drop-take b len buf ∙ ap (take (len - b)) behind ∙ sym (drop-take b len e) in
         filled (v .left ∙ rw (front, append-nil (take a (take len e) ++ c), last, rest, difference-is, same-sum)) (v .size ∙ u .size)
@@ -73,8 +68,7 @@ module _ (e : List ℕ) (len a b : ℕ) (c : List ℕ) (a-b : a ≤ b) (b-len : 
 -- a replacement is a delete and then an insert
 pub replaced-twice : (t : List ℕ) (a b : ℕ) (c : List ℕ) → a ≤ length t → replaced t a b c ≡ replaced (replaced t a b []) a a c
 unfolding replaced
-replaced-twice t a b c h =
-    rw (replaced-front t a b [] h a (omega arith), replaced-rest t a b [] h)
+replaced-twice t a b c h = rw (replaced-front t a b [] h a (omega arith), replaced-rest t a b [] h)
 
 -- what was replaced, put back
 pub replaced-back : (t : List ℕ) (a b : ℕ) (c : List ℕ) → a ≤ b → b ≤ length t → replaced (replaced t a b c) a (a + length c) (drop a (take b t)) ≡ t

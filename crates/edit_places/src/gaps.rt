@@ -1,5 +1,6 @@
-// A text edited in place: it is the first `len` places of a buffer. What stands behind an edit moves
-// up from its end, and down from its start, so that nothing is written over before it is read.
+// A text edited in place: it is the first `len` places of a buffer. What stands behind an edit
+// moves up from its end, and down from its start, so that nothing is written over before it is
+// read.
 use crate::put::put_at;
 use crate::put::put_zeros;
 ghost use Prim.Native.Nat.{_+_, _-_, _≤_};

@@ -1,12 +1,5 @@
 -- Laws of where a position goes, case by case, and of the end of what is put in. Assumes nothing.
-use mathlib.Core.Path.{_≡_, sym, ap, _∙_}
-use mathlib.Core.List.{List}
-use mathlib.Core.Bool.{true, false}
-use Prim.Native.Nat.{ℕ, _+_, _-_, _≤_}
-use native.Mathlib.Omega.{arith}
-use lib.Dec.{eqb, ltb}
-use lib.ListN.{length}
-use borrow.Author.Tests.{eq-eqb, ne-eqb, ltb-false}
+use Rattle.lists.proofs.Kit.{_≡_, sym, ap, _∙_, List, true, false, ℕ, _+_, _-_, _≤_, arith, length, eq-eqb, ne-eqb, ltb-false}
 use Rattle.text.specs.Text.{rowCount, position}
 use Rattle.text.specs.Offsets.{rowStart, lineAt, Stands}
 use Rattle.text.specs.declared.Line.{Line}
@@ -38,13 +31,11 @@ module _ (c : Change) (x : Position) where
     unfolding movedBy
     moved-inside b = rw (n, b)
 
-    pub moved-row : isBefore x (c .to) ≡ false → x .row ≡ c .to .row →
-        position (c .end .row) (c .end .col + (x .col - c .to .col)) ≡ movedBy c x
+    pub moved-row : isBefore x (c .to) ≡ false → x .row ≡ c .to .row → position (c .end .row) (c .end .col + (x .col - c .to .col)) ≡ movedBy c x
     unfolding movedBy behind
     moved-row m e = rw (n, m, eq-eqb (x .row) (c .to .row) e)
 
-    pub moved-later : isBefore x (c .to) ≡ false → (x .row ≡ c .to .row → ⊥) →
-        position (c .end .row + (x .row - c .to .row)) (x .col) ≡ movedBy c x
+    pub moved-later : isBefore x (c .to) ≡ false → (x .row ≡ c .to .row → ⊥) → position (c .end .row + (x .row - c .to .row)) (x .col) ≡ movedBy c x
     unfolding movedBy behind
     moved-later m e = rw (n, m, ne-eqb (x .row) (c .to .row) e)
 

@@ -1,17 +1,9 @@
 -- Where a position goes, by rows and columns alone, is where its offset goes: `movedBy` says what `positionAfter` does.
 -- Assumes nothing.
-use mathlib.Core.Path.{_≡_, refl, ap, sym, _∙_}
-use mathlib.Core.List.{List, _++_}
-use mathlib.Core.Bool.{Bool, true, false, cond}
-use Prim.Native.Nat.{ℕ, _+_, _-_, _≤_, _<_}
-use native.Mathlib.Decide.{decLt, ℕ-discrete}
-use native.Mathlib.Omega.{arith}
-use lib.Dec.{eqb, ltb}
-use lib.ListN.{length, getD, take, drop, length-append, List·getD-append}
-use lib.Seq.{getD-take}
-use borrow.Author.Tests.{eq-eqb, ne-eqb, lt-ltb, le-ltb}
-use Rattle.text.specs.Text.{rows, rowCount, rowLen, position}
-use Rattle.text.specs.Offsets.{startIn, rowStart, At}
+use Rattle.lists.proofs.Kit.{_≡_, refl, ap, sym, _∙_, List, _++_, cond, ℕ, _+_, _-_, _≤_, _<_, decLt, ℕ-discrete, arith, length, getD, drop, length-append}
+use Rattle.lists.proofs.Kit.{List·getD-append, getD-take, eqb, ltb, eq-eqb, ne-eqb, lt-ltb, le-ltb}
+use Rattle.text.specs.Text.{rows}
+use Rattle.text.specs.Offsets.{startIn}
 use Rattle.text.specs.declared.Position.{Position}
 use Rattle.text.proofs.At.{at-le}
 use Rattle.text.proofs.Before.{rows-apart}
@@ -61,12 +53,10 @@ module _ (t c : List ℕ) (p q : Position) (a b : ℕ) (from : Stays t p a) (to 
   new-length = replaced-length t a b c (at-le from)
 
   alike : (i : ℕ) → i < a → getD t i 0 ≡ getD new i 0
-  alike i h =
-      sym (getD-take a t i 0 h) ∙ ap (λ (l : List ℕ). getD l i 0) (sym (replaced-front t a b c (at-le from) a (omega arith))) ∙ getD-take a new i 0 h
+  alike i h = sym (getD-take a t i 0 h) ∙ ap (λ (l : List ℕ). getD l i 0) (sym (replaced-front t a b c (at-le from) a (omega arith))) ∙ getD-take a new i 0 h
 
   pub stays-before : {x : Position} {o : ℕ} → Stays t x o → o ≤ a → Stays new x o
-  stays-before {x} {o} s h =
-      stays-is (pos-of s) (stays-kept t new o (at-le s) (omega (arith, new-length)) (λ i l. alike i (omega arith)))
+  stays-before {x} {o} s h = stays-is (pos-of s) (stays-kept t new o (at-le s) (omega (arith, new-length)) (λ i l. alike i (omega arith)))
 
   -- where c ends
   pub stays-end : Stays new (endOf p c) (a + length c)
@@ -96,13 +86,11 @@ module _ (t c : List ℕ) (p q : Position) (a b : ℕ) (from : Stays t p a) (to 
         stays-is (ap (λ (l : List ℕ). beyond (endOf p c) (posOf l (o - b))) rest ∙ sym (ap (behind change) is-beyond ∙ behind-beyond change y))
         (stays-beyond new (endOf p c) (a + length c) stays-end (o - b) (omega (arith, new-length, at-le s)))
 
-  pub moved-after : {x : Position} {o : ℕ} → Stays t x o →
-      Stays new (movedBy (record { from = p; to = q; end = endOf p c }) x) (offsetAfter a b (length c) o)
+  pub moved-after : {x : Position} {o : ℕ} → Stays t x o → Stays new (movedBy (record { from = p; to = q; end = endOf p c }) x) (offsetAfter a b (length c) o)
   unfolding movedBy offsetAfter
   moved-after {x} {o} s = rw (before-offset s from, before-offset s to) (go (decLt o a) (decLt o b))
     where
-      go : Dec (o < a) → Dec (o < b) →
-          Stays new (cond (ltb o a) x (cond (ltb o b) p (behind (record { from = p; to = q; end = endOf p c }) x)))
+      go : Dec (o < a) → Dec (o < b) → Stays new (cond (ltb o a) x (cond (ltb o b) p (behind (record { from = p; to = q; end = endOf p c }) x)))
           (cond (ltb o a) o (cond (ltb o b) a (o - (b - a) + length c)))
       go (yes h) d = rw (lt-ltb _ _ h) (stays-before s (omega arith))
       go (no h) (yes l) = rw (le-ltb o a (omega arith), lt-ltb _ _ l) (stays-before from (omega arith))

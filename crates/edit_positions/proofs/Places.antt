@@ -1,22 +1,12 @@
 -- Positions of one text in another: of a text with the same beginning, and of a text that begins at a position of the other.
 -- Assumes nothing.
-use mathlib.Core.Path.{_≡_, refl, ap, sym, _∙_, subst}
-use mathlib.Core.List.{List}
-use mathlib.Core.Bool.{Bool, true, false, cond}
-use Prim.Native.Nat.{ℕ, zero, suc, _+_, _-_, _≤_, _<_}
-use native.Mathlib.Nat.{add-zero, add-suc}
-use native.Mathlib.Numerals.{add-one}
-use native.Mathlib.Decide.{ℕ-discrete}
-use native.Mathlib.Omega.{arith}
-use lib.Dec.{eqb}
-use lib.ListN.{length, getD, drop, length-drop}
-use lib.Seq.{getD-drop}
-use borrow.Author.Tests.{eq-eqb, ne-eqb}
-use Rattle.text.specs.Text.{rowCount, rowLen, position}
-use Rattle.text.specs.Offsets.{rowStart, At, rowOf}
+use Rattle.lists.proofs.Kit.{_≡_, refl, ap, sym, _∙_, subst, List, Bool, true, false, cond, ℕ, zero, suc, _+_, _≤_, _<_, add-zero, add-one, ℕ-discrete, arith}
+use Rattle.lists.proofs.Kit.{length, getD, drop, length-drop, getD-drop, eqb, ne-eqb}
+use Rattle.text.specs.Text.{position}
+use Rattle.text.specs.Offsets.{At}
 use Rattle.text.specs.declared.Position.{Position}
 use Rattle.text.proofs.At.{at-first, at-le, after-char, after-nl}
-use Rattle.text.proofs.Before.{same-row, same-col, on-first}
+use Rattle.text.proofs.Before.{same-row, same-col}
 use Rattle.text.proofs.Stands.{row-there}
 use Rattle.bracket_walks.specs.Matching.{posOf}
 use Rattle.edit_positions.specs.Change.{beyond}
@@ -61,11 +51,9 @@ stays-kept t u (suc at) h l same = go (ℕ-discrete (getD t at 0) 10) (stays-kep
     alike = same at (omega arith)
 
     go : Dec (getD t at 0 ≡ 10) → Stays u (posOf t at) at → Stays u (posOf t (suc at)) (suc at)
-    go (yes e) a =
-        subst (λ (n : ℕ). Stays u (posOf t n) n) (add-one at)
+    go (yes e) a = subst (λ (n : ℕ). Stays u (posOf t n) n) (add-one at)
         (stays-is (sym (next-nl here (omega arith) e)) (after-nl a (omega arith) (sym alike ∙ e)))
-    go (no n) a =
-        subst (λ (n : ℕ). Stays u (posOf t n) n) (add-one at)
+    go (no n) a = subst (λ (n : ℕ). Stays u (posOf t n) n) (add-one at)
         (stays-is (sym (next-char here (omega arith) n)) (after-char a (omega arith) (λ e. n (alike ∙ e))))
 
 -- a text that begins at a position of another: each of its positions is one of the other

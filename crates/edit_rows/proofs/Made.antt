@@ -1,19 +1,13 @@
 -- The edit itself with its table, and the answer by the number that refuses. Assumes nothing.
-use mathlib.Core.Path.{_≡_, refl, sym, ap, _∙_}
-use mathlib.Core.List.{List}
-use Prim.Native.Nat.{ℕ, _+_, _-_, _≤_}
-use native.Mathlib.Omega.{arith}
-use lib.ListN.{length, take}
-use borrow.Author.Tests.{eq-eqb, ne-eqb}
+use Rattle.lists.proofs.Kit.{_≡_, sym, ap, _∙_, List, ℕ, _≤_, arith, length, take, eq-eqb, ne-eqb}
 use Rattle.text.specs.Text.{rowCount, contentRows}
 use Rattle.text.specs.declared.Position.{Position}
 use Rattle.motions.specs.declared.Caret.{Caret}
 use Rattle.edit_places.specs.Replaced.{replaced, refilled, Refilled}
-use Rattle.edit_positions.specs.After.{offsetOf}
 use Rattle.edit_checks.specs.declared.Checked.{Checked}
 use Rattle.edit_checks.specs.declared.Sizes.{Sizes}
 use Rattle.edits.specs.declared.Left.{Left}
-use Rattle.edits.specs.Edits.{newText, newFolds, leftOf, keptBy, refusalOf}
+use Rattle.edits.specs.Edits.{newText, keptBy, refusalOf}
 use Rattle.edits.specs.Editable.{Editable, MakesTo}
 use Rattle.row_table.specs.Table.{rowStarts}
 use Rattle.edit_starts.specs.Moved.{keptStarts}
@@ -21,7 +15,7 @@ use Rattle.edit_starts.proofs.Kept.{starts-replaced}
 use Rattle.edit_rows.specs.declared.Kept.{Kept}
 use Rattle.edit_rows.specs.declared.Rows.{Rows}
 use Rattle.edit_rows.specs.declared.EditedRows.the-variants.{Done, Refused}
-use Rattle.edit_rows.specs.Rows.{rowsRefusal, refusalWith, keptOf, answeredBy, KeepsTo}
+use Rattle.edit_rows.specs.Rows.{rowsRefusal, refusalWith, answeredBy, KeepsTo}
 use Rattle.edit_rows.specs.Known.{Tabled, MakesRows}
 use Rattle.edit_rows.proofs.Refills.{refilled-holds, refilled-room}
 use Rattle.edit_rows.proofs.Tables.{first-there, second-there}

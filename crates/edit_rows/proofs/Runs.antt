@@ -1,18 +1,11 @@
 -- A run of edits from a table that is the text's: after each of them, refused or not, it is the text's again. Assumes nothing.
-use mathlib.Core.Path.{_≡_, refl, sym, ap, _∙_, subst}
-use mathlib.Core.List.{List, [], _∷_}
-use mathlib.Core.Bool.{Bool, true, false, cond}
-use Prim.Native.Nat.{ℕ, _*_}
-use lib.Dec.{eqb}
-use lib.ListN.{length, take, drop}
-use lib.Seq.{take-at}
+use Rattle.lists.proofs.Kit.{_≡_, refl, sym, ap, _∙_, List, [], _∷_, Bool, true, false, cond, ℕ, length, take, drop, take-at, eqb}
 use Rattle.text.specs.Text.{rowCount, contentRows}
 use Rattle.text.specs.declared.Counted.the-variants.{Rows, Refused as Not}
-use Rattle.edit_places.specs.Replaced.{refilled}
 use Rattle.row_table.specs.Table.{rowStarts}
 use Rattle.row_table.specs.Fill.{fillRefusal, tableOf, FillsTo}
 use Rattle.row_table.proofs.Starts.{rows-length}
-use Rattle.edits.specs.Edits.{newText, newFolds, leftOf, keptBy}
+use Rattle.edits.specs.Edits.{newText, keptBy}
 use Rattle.edit_rows.specs.declared.EditedRows.{EditedRows}
 use Rattle.edit_rows.specs.declared.EditedRows.the-variants.{Done, Refused}
 use Rattle.edit_rows.specs.Rows.{keptOf, answeredBy, KeepsTo}
@@ -51,16 +44,12 @@ call-edits h e {r} {buf} {folds} {starts} k = same ∙ go (eqb (numberOf h e) 0)
   where
     same : keptFrom h r buf folds starts ≡ keptFrom h
         (cond (eqb (numberOf h e) 0) (Done (keptOf (h .buf) (h .folds) (h .sizes) (e .from) (e .to) (e .points) (e .caret))) (Refused (numberOf h e)))
-        (cond (eqb (numberOf h e) 0) (accepted h e .buf) (h .buf))
-        (cond (eqb (numberOf h e) 0) (accepted h e .folds) (h .folds))
+        (cond (eqb (numberOf h e) 0) (accepted h e .buf) (h .buf)) (cond (eqb (numberOf h e) 0) (accepted h e .folds) (h .folds))
         (cond (eqb (numberOf h e) 0) (accepted h e .starts) (h .starts))
     same = λ i. keptFrom h (k .answer i) (k .text i) (k .folds i) (k .starts i)
 
-    go : (b : Bool) → keptFrom h
-        (cond b (Done (keptOf (h .buf) (h .folds) (h .sizes) (e .from) (e .to) (e .points) (e .caret))) (Refused (numberOf h e)))
-        (cond b (accepted h e .buf) (h .buf))
-        (cond b (accepted h e .folds) (h .folds))
-        (cond b (accepted h e .starts) (h .starts))
+    go : (b : Bool) → keptFrom h (cond b (Done (keptOf (h .buf) (h .folds) (h .sizes) (e .from) (e .to) (e .points) (e .caret))) (Refused (numberOf h e)))
+        (cond b (accepted h e .buf) (h .buf)) (cond b (accepted h e .folds) (h .folds)) (cond b (accepted h e .starts) (h .starts))
         ≡ cond b (accepted h e) h
     go true = refl
     go false = refl
@@ -75,7 +64,8 @@ fill-true h starts {n} {starts′} f = go (eqb (fillRefusal (textOf h) starts) 0
         IsTrue (record { buf = h .buf; folds = h .folds; starts = starts′; sizes = h .sizes; content = n })
     go true e s =
         record {
-          table = ap (take (rowCount (textOf h))) s ∙ take-at (rowStarts (textOf h)) (drop (rowCount (textOf h)) starts) (rowCount (textOf h)) (rows-length (textOf h));
+          table = ap (take (rowCount (textOf h))) s ∙ take-at (rowStarts (textOf h)) (drop (rowCount (textOf h)) starts) (rowCount (textOf h)) (rows-length
+              (textOf h));
           count = cc;
         }
     go false e s = record { table = cc; count = cc }

@@ -1,13 +1,6 @@
 -- What the check of a table says, and what the edit itself asks of it. Assumes nothing.
-use mathlib.Core.Path.{_≡_, refl, sym, ap, _∙_}
-use mathlib.Core.List.{List}
-use mathlib.Core.Bool.{Bool, true, false, cond, _&&_}
-use Prim.Native.Nat.{ℕ, _+_, _-_, _≤_, _<_, max}
-use native.Mathlib.Omega.{arith}
-use lib.Dec.{eqb, ltb}
-use lib.ListN.{length, take}
-use lib.Seq.{length-take-le}
-use borrow.Author.Tests.{ltb-false, ltb-true}
+use Rattle.lists.proofs.Kit.{_≡_, refl, sym, _∙_, List, Bool, true, false, cond, _&&_, ℕ, _+_, _-_, _≤_, max, arith, length, take, length-take-le, eqb, ltb}
+use Rattle.lists.proofs.Kit.{ltb-false}
 use Rattle.lists.specs.Lists.{isSame}
 use Rattle.lists.proofs.Same.{same-true}
 use Rattle.text.specs.Text.{rowCount, contentRows}
@@ -16,11 +9,11 @@ use Rattle.text.specs.declared.Position.{Position}
 use Rattle.text.proofs.Rows.{rows-pos}
 use Rattle.text.proofs.Stands.{at-stands}
 use Rattle.motions.specs.declared.Caret.{Caret}
-use Rattle.edit_positions.specs.After.{offsetOf, textAfter}
+use Rattle.edit_positions.specs.After.{textAfter}
 use Rattle.edit_checks.specs.declared.Checked.{Checked}
 use Rattle.edit_checks.specs.declared.Sizes.{Sizes}
 use Rattle.edits.specs.Edits.{newText}
-use Rattle.edits.specs.Editable.{Editable, StandsIn}
+use Rattle.edits.specs.Editable.{Editable}
 use Rattle.row_table.specs.Table.{rowStarts, isTable, tableRefusal}
 use Rattle.edit_starts.specs.Moved.{Keepable}
 use Rattle.edit_starts.proofs.Kept.{rows-replaced, starts-move}
@@ -41,8 +34,7 @@ table-good need t table content z = go (ltb (length table) need) (isTable t tabl
     go : (a b : Bool) → ltb (length table) need ≡ a → isTable t table content ≡ b → _≡_ {A = ℕ} (cond a 15 (cond b 0 16)) 0 →
         (need ≤ length table) × (take (rowCount t) table ≡ rowStarts t)
     go true b e f h = absurd (omega (arith, h))
-    go false true e f h =
-        (ltb-false _ _ e, same-true _ _ (and-first (isSame (take (rowCount t) table) (rowStarts t)) (eqb content (contentRows t)) f))
+    go false true e f h = (ltb-false _ _ e, same-true _ _ (and-first (isSame (take (rowCount t) table) (rowStarts t)) (eqb content (contentRows t)) f))
     go false false e f h = absurd (omega (arith, h))
 
 pub tabled : {t table new : List ℕ} {content : ℕ} {r : Rows} → RowsChecked t table content new r → r .refusal ≡ 0 → Tabled t table new r

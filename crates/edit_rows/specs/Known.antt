@@ -7,7 +7,7 @@ use Rattle.text.specs.Text.{rowCount}
 use Rattle.text.specs.declared.Position.{Position}
 use Rattle.motions.specs.declared.Caret.{Caret}
 use Rattle.edit_places.specs.Replaced.{refilled}
-use Rattle.edit_positions.specs.After.{offsetOf, textAfter}
+use Rattle.edit_positions.specs.After.{offsetOf}
 use Rattle.row_table.specs.Table.{rowStarts}
 use Rattle.edit_checks.specs.declared.Sizes.{Sizes}
 use Rattle.edits.specs.Edits.{newText, newFolds}

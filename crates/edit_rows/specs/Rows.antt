@@ -5,7 +5,7 @@ use mathlib.Core.Path.{_≡_}
 use mathlib.Core.List.{List}
 use mathlib.Core.Bool.{cond}
 use lib.Dec.{eqb}
-use lib.ListN.{length, take}
+use lib.ListN.{take}
 use Rattle.text.specs.Text.{rowCount, contentRows}
 use Rattle.text.specs.declared.Position.{Position}
 use Rattle.motions.specs.declared.Caret.{Caret}

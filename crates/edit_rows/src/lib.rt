@@ -40,8 +40,9 @@ pub struct Rows {
 // Code points that are none.
 const NONE: [u32; 1] = [0];
 
-// The check of the table of a text with so many rows, once the edit itself is not refused: 15 where it has no place for each
-// row before the edit and for each after it, 16 where it is not the text's.
+// The check of the table of a text with so many rows, once the edit itself is not refused: 15 where
+// it has no place for each row before the edit and for each after it, 16 where it is not the
+// text's.
 fn check_rows(
     text: &[u32],
     starts: &[u32],
@@ -70,7 +71,8 @@ fn check_rows(
 
 // How many rows have content in a text of so many rows, the first `len` places of a buffer.
 fn content_in(text: &[u32], len: usize, rows: usize) -> u32
-    requires { ⌜ (len ≤ length (now text)) × (len ≤ 1048576) × (rows ≡ rowCount (take len (now text))) ⌝ }
+    requires { ⌜ (len ≤ length (now text)) × (len ≤ 1048576) ×
+        (rows ≡ rowCount (take len (now text))) ⌝ }
     ensures { λ r. ⌜ r ≡ contentRows (take len (now (text .entry))) ⌝ }
 {
     let t = &text[..len];
@@ -120,7 +122,8 @@ fn edit_rows(
     points: &[u32],
     k: Caret,
 ) -> EditedRows
-    ensures { λ r. ⌜ KeepsTo (now (text .entry)) (now (folds .entry)) (now (starts .entry)) s content
+    ensures { λ r. ⌜ KeepsTo (now (text .entry)) (now (folds .entry))
+        (now (starts .entry)) s content
         p q (now (points .entry)) k r (now (text .exit)) (now (folds .exit))
         (now (starts .exit)) ⌝ }
 {
@@ -150,7 +153,8 @@ pub fn insert_rows(
     points: &[u32],
     k: Caret,
 ) -> EditedRows
-    ensures { λ r. ⌜ KeepsTo (now (text .entry)) (now (folds .entry)) (now (starts .entry)) s content
+    ensures { λ r. ⌜ KeepsTo (now (text .entry)) (now (folds .entry))
+        (now (starts .entry)) s content
         p p (now (points .entry)) k r (now (text .exit)) (now (folds .exit))
         (now (starts .exit)) ⌝ }
 {
@@ -168,7 +172,8 @@ pub fn delete_rows(
     q: Position,
     k: Caret,
 ) -> EditedRows
-    ensures { λ r. ⌜ KeepsTo (now (text .entry)) (now (folds .entry)) (now (starts .entry)) s content
+    ensures { λ r. ⌜ KeepsTo (now (text .entry)) (now (folds .entry))
+        (now (starts .entry)) s content
         p q [] k r (now (text .exit)) (now (folds .exit)) (now (starts .exit)) ⌝ }
 {
     let none = NONE;

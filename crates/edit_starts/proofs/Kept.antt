@@ -1,12 +1,6 @@
 -- The kept starts are the row starts of the new text. On plain lists. Assumes nothing.
-use mathlib.Core.Path.{_≡_, refl, ap, sym, _∙_}
-use mathlib.Core.List.{List, _∷_, _++_, map, append-assoc}
-use Prim.Native.Nat.{ℕ, _+_, _-_, _≤_, _<_}
-use native.Mathlib.Nat.{add-zero}
-use native.Mathlib.Decide.{decLt}
-use native.Mathlib.Omega.{arith}
-use lib.ListN.{length, getD, take, drop, length-append, length-drop, take-append-drop}
-use lib.Seq.{length-take-le, take-at, drop-at, getD-take}
+use Rattle.lists.proofs.Kit.{_≡_, ap, sym, _∙_, List, _∷_, _++_, map, ℕ, _+_, _-_, _≤_, _<_, add-zero, decLt, arith, length, getD, take, drop, length-append}
+use Rattle.lists.proofs.Kit.{length-drop, take-append-drop, length-take-le, take-at, drop-at, getD-take}
 use Rattle.text.specs.Text.{rowCount}
 use Rattle.text.specs.Offsets.{rowStart, Stands}
 use Rattle.text.proofs.Rows.{rows-pos}
@@ -63,8 +57,7 @@ module _ (t : List ℕ) {r q a b from to : ℕ} (first : Stands t r from a) (sec
       let sum-is : 0 + length (take a t ++ c) ≡ a + length c = omega (arith, length-append (take a t) c) in
       let a-is : 0 + length (take a t) ≡ a = omega arith in
       let whole : startsFrom 0 (take a t ++ c ++ drop b t) ≡ startsFrom 0 (take a t) ++ startsFrom a c ++ startsFrom (a + length c) (drop b t) =
-      starts-append 0 (take a t ++ c) (drop b t)
-      ∙ rw (sum-is, starts-append 0 (take a t) c, a-is) in
+      starts-append 0 (take a t ++ c) (drop b t) ∙ rw (sum-is, starts-append 0 (take a t) c, a-is) in
       sym (ap (λ (l : List ℕ). 0 ∷ l) whole ∙ rw (starts-before t first, ← later-moved))
 
   rows-ordered : r ≤ q
@@ -99,8 +92,7 @@ pub starts-move : (t starts : List ℕ) {q to a b n : ℕ} → Stands t q to b �
     length t + n ≤ 4294967295 → Moves starts (q + 1) (rowCount t) (b - a) n
 starts-move t starts {q} {to} {a} {b} {n} s order held small =
     record {
-      room =
-          λ i low high.
+      room = λ i low high.
           let value-is : getD starts i 0 ≡ rowStart t i = sym (getD-take (rowCount t) starts i 0 high) ∙ ap (λ (l : List ℕ). getD l i 0) held
           ∙ rows-read t i high in
           let far = rows-apart t q i (omega arith) high in

@@ -1,10 +1,6 @@
 -- Starts that move, and give way in their table. On plain lists. Assumes nothing.
-use mathlib.Core.Path.{_≡_, refl, ap, sym, _∙_}
-use mathlib.Core.List.{List, [], _∷_, _++_, map}
-use Prim.Native.Nat.{ℕ, zero, suc, _+_, _-_, _≤_, _<_, max}
-use native.Mathlib.Omega.{arith}
-use lib.ListN.{length, getD, take, drop, length-map, length-append}
-use lib.Seq.{length-take-le, take-take, drop-drop, take-at, drop-at, take-append-le, length-slice}
+use Rattle.lists.proofs.Kit.{_≡_, refl, ap, sym, _∙_, List, [], _∷_, _++_, map, ℕ, zero, suc, _+_, _-_, _≤_, _<_, max, arith, length, getD, take, drop}
+use Rattle.lists.proofs.Kit.{length-map, length-append, length-take-le, take-take, drop-drop, take-at, drop-at, take-append-le, length-slice}
 use Rattle.row_table.specs.Table.{startsFrom}
 use Rattle.edit_places.specs.Replaced.{replaced, refilled, Refilled, Over}
 use Rattle.edit_starts.specs.Moved.{movedStart, keptStarts}
@@ -25,8 +21,7 @@ module _ {e buf : List ℕ} {at n : ℕ} {s : List ℕ} (o : Over e at s buf) (e
 
   pub over-part : take n buf ≡ take at (take n e) ++ s
   unfolding replaced
-  over-part =
-      ap (take n) (o .left) ∙ take-at (take at e ++ s) (drop (at + length s) e) n front
+  over-part = ap (take n) (o .left) ∙ take-at (take at e ++ s) (drop (at + length s) e) n front
       ∙ ap (λ (l : List ℕ). l ++ s) (sym (take-take at n e (omega arith)))
 
   pub over-rest : drop n buf ≡ drop n e

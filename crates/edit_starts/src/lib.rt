@@ -26,8 +26,8 @@ fn move_starts(starts: &mut [u32], from: usize, to: usize, less: u32, more: u32)
     }
 }
 
-// The starts in the places from x up to y, of so many rows, give way to those of `points`, which are
-// put at the offset `at`.
+// The starts in the places from x up to y, of so many rows, give way to those of `points`, which
+// are put at the offset `at`.
 fn replace_starts(starts: &mut [u32], rows: usize, x: usize, y: usize, at: usize, points: &[u32])
     requires { ⌜ (x ≤ y) × (y ≤ rows) × (rows ≤ length (now starts)) ⌝ }
     requires { ⌜ (rows - (y - x) + rowCount (now points) ≤ length (now starts) + 1) ×

@@ -1,13 +1,6 @@
 -- What is known of an edit that its checks do not refuse. Assumes nothing.
-use mathlib.Core.Path.{_≡_, refl, sym, ap, _∙_}
-use mathlib.Core.List.{List, [], _∷_}
-use mathlib.Core.Bool.{Bool, true, false, cond, _||_}
-use Prim.Native.Nat.{ℕ, _+_, _-_, _*_, _/_, _≤_, _<_}
-use native.Mathlib.Omega.{arith}
-use lib.Dec.{eqb, ltb}
-use lib.ListN.{length, take}
-use lib.Seq.{length-take-le}
-use borrow.Author.Tests.{ltb-false, ltb-true}
+use Rattle.lists.proofs.Kit.{_≡_, refl, ap, List, [], _∷_, Bool, true, false, cond, _||_, ℕ, _+_, _-_, _*_, _/_, _≤_, arith, length, take, length-take-le, ltb}
+use Rattle.lists.proofs.Kit.{ltb-false}
 use Rattle.text_check.specs.Accept.{textRefusal}
 use Rattle.text_check.proofs.Accepted.{accepted-short}
 use Rattle.text.specs.Text.{rowCount}
@@ -24,8 +17,7 @@ use Rattle.edit_checks.specs.declared.Sizes.{Sizes}
 use Rattle.edit_checks.specs.Refusals.{lower, heldRefusal, heldFolds, stretchRefusal, roomRefusal, editRefusal}
 use Rattle.edit_checks.specs.Checks.{checkOf}
 use Rattle.edit_checks.proofs.Numbers.{lower-none}
-use Rattle.edit_checks.proofs.Spots.{inside-stays, stretches, checked-number, checked-at}
-use Rattle.edits.specs.Edits.{newText}
+use Rattle.edit_checks.proofs.Spots.{inside-stays, stretches, checked-at}
 use Rattle.edits.specs.Editable.{Editable}
 use Rattle.text.proofs.Rows.{rows-pos}
 use Rattle.text.proofs.Parts.{count-le}
@@ -135,11 +127,9 @@ module _ (buf folds : List ℕ) (s : Sizes) (p q : Position) (c : List ℕ) (k :
         stretch-order = omega (arith, offset-is, same-to, by-stretches .order);
         stretch-within = omega (arith, same-to, by-stretches .within, by-length-take-le);
         new-fits = omega (arith, new-size, by-room-none .0);
-        raises =
-            folds-raise folds (rowCount t) (s .count) (rowCount c - 1) (rows-pos t) (by-folds-none .1) (omega (arith, by-folds-none .0))
+        raises = folds-raise folds (rowCount t) (s .count) (rowCount c - 1) (rows-pos t) (by-folds-none .1) (omega (arith, by-folds-none .0))
             (omega (arith, count-le t, count-le c, size-at-most, accepted-short t (by-held-none .1)));
-        follows =
-            fits-caret t c p q k (by-stretches .first) (near t (here k) by-inside-stays (omega (arith, accepted-short t (by-held-none .1))))
+        follows = fits-caret t c p q k (by-stretches .first) (near t (here k) by-inside-stays (omega (arith, accepted-short t (by-held-none .1))))
             (near t p (by-stretches .first) (omega (arith, accepted-short t (by-held-none .1)))) size-at-most;
         folds-good = by-folds-none .1;
       }

@@ -1,11 +1,5 @@
 -- The edit itself, and the answer: what its parts leave is what the definition says. Assumes nothing.
-use mathlib.Core.Path.{_≡_, refl, sym, ap, _∙_, subst}
-use mathlib.Core.List.{List}
-use Prim.Native.Nat.{ℕ, _+_, _-_, _*_, _/_, _≤_}
-use native.Mathlib.Omega.{arith}
-use lib.ListN.{length, take}
-use lib.Seq.{length-take-le}
-use borrow.Author.Tests.{eq-eqb, ne-eqb}
+use Rattle.lists.proofs.Kit.{_≡_, sym, ap, _∙_, subst, List, ℕ, _+_, _-_, _*_, _/_, arith, length, take, length-take-le, eq-eqb, ne-eqb}
 use Rattle.text.specs.Text.{rowCount}
 use Rattle.text.specs.declared.Position.{Position}
 use Rattle.text.proofs.At.{at-le}
@@ -14,8 +8,7 @@ use Rattle.motions.specs.Carets.{here}
 use Rattle.edit_places.specs.Replaced.{replaced, refilled, Refilled}
 use Rattle.edit_places.proofs.Parts.{replaced-length}
 use Rattle.edit_folds.specs.Folds.{mappedRow, keptFolds, Raises, FoldsMapped}
-use Rattle.edit_positions.specs.declared.Change.{Change}
-use Rattle.edit_positions.specs.After.{offsetOf, textAfter}
+use Rattle.edit_positions.specs.After.{offsetOf}
 use Rattle.edit_positions.specs.Change.{endOf}
 use Rattle.edit_checks.specs.declared.Checked.{Checked}
 use Rattle.edit_checks.specs.declared.Sizes.{Sizes}
@@ -24,9 +17,8 @@ use Rattle.edit_checks.proofs.Spots.{checked-number}
 use Rattle.edit_carets.specs.Carets.{caretAfter, correctedBy, Fits}
 use Rattle.edit_carets.proofs.Follows.{corrected-after}
 use Rattle.edits.specs.declared.Left.{Left}
-use Rattle.edits.specs.declared.Edited.{Edited}
 use Rattle.edits.specs.declared.Edited.the-variants.{Done, Refused}
-use Rattle.edits.specs.Edits.{newText, newFolds, leftOf, editedBy, keptBy, refusalOf, EditsTo}
+use Rattle.edits.specs.Edits.{newText, newFolds, editedBy, keptBy, refusalOf, EditsTo}
 use Rattle.edits.specs.Editable.{Editable, MakesTo}
 use Rattle.edits.proofs.Making.{end-rows}
 
@@ -74,8 +66,7 @@ module _ {buf folds : List ℕ} {s : Sizes} {at : Checked} {p q : Position} {c :
         ∙ corrected-after t c p q k (e .first) (e .second) (e .order) (e .caret) in
         let replaced-is : replaced t (at .from) (at .to) c ≡ newText buf s p q c = λ i. replaced t (e .from-is i) (e .to-is i) c in
         record {
-          answer =
-              λ i.
+          answer = λ i.
               record { sizes = record { len = size-is i; count = n-is i }; caret = caret-after-is i; change = record { from = p; to = q; end = end-is i } };
           text = text-is .left ∙ ap (refilled buf (s .len)) replaced-is;
           folds = folds-are .folds .left ∙ ap (refilled folds (3 * s .count)) kept-folds-is;

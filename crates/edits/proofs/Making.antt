@@ -1,20 +1,11 @@
 -- What the edit itself asks for: rows and columns that are small, in their order, and folds that can be raised. Assumes nothing.
-use mathlib.Core.Path.{_≡_, refl, sym, ap, _∙_}
-use mathlib.Core.List.{List}
-use mathlib.Core.Bool.{Bool, true, false, cond}
-use Prim.Native.Nat.{ℕ, _+_, _-_, _*_, _≤_, _<_}
-use native.Mathlib.Decide.{decLt}
-use native.Mathlib.Omega.{arith}
-use lib.Dec.{eqb}
-use lib.ListN.{length, getD, take}
-use lib.Seq.{length-take-le, getD-take}
+use Rattle.lists.proofs.Kit.{_≡_, ap, List, Bool, true, false, cond, ℕ, _+_, _-_, _*_, _≤_, _<_, decLt, arith, length, take, length-take-le, getD-take, eqb}
 use Rattle.text.specs.Text.{rowCount}
-use Rattle.text.specs.Offsets.{rowOf}
 use Rattle.text.specs.declared.Position.{Position}
 use Rattle.text.proofs.At.{at-le}
 use Rattle.text.proofs.Before.{start-ge, rows-apart}
 use Rattle.text.proofs.Parts.{count-le}
-use Rattle.text.proofs.Stands.{last-stands, stands-row, row-there}
+use Rattle.text.proofs.Stands.{last-stands, stands-row}
 use Rattle.folds.specs.Folds.{foldRefusal}
 use Rattle.folds.proofs.Past.{folds-good}
 use Rattle.motions.specs.declared.Caret.{Caret}
@@ -58,8 +49,7 @@ pub folds-raise : (buf : List ℕ) (rows n k : ℕ) → 0 < rows → foldRefusal
 folds-raise buf rows n k pos good fits sum =
     let by-length-take-le = length-take-le (3 * n) buf fits in
     record {
-      room =
-          λ i h.
+      room = λ i h.
           omega (arith, folds-small rows pos (take (3 * n) buf) (folds-good (take (3 * n) buf) rows good) n by-length-take-le i h, getD-take (3 * n) buf i 0 h);
     }
 

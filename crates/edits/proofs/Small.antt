@@ -1,12 +1,6 @@
 -- Folds that are accepted over so many rows: no number of theirs is greater. Assumes nothing.
-use mathlib.Core.Path.{_≡_, refl}
-use mathlib.Core.List.{List, [], _∷_}
-use mathlib.Core.Bool.{Bool, true, false, _||_}
-use Prim.Native.Nat.{ℕ, zero, suc, _-_, _*_, _≤_, _<_}
-use native.Mathlib.Omega.{arith}
-use lib.Dec.{ltb, leb}
-use lib.ListN.{length, getD}
-use borrow.Author.Tests.{ltb-false, leb-false}
+use Rattle.lists.proofs.Kit.{_≡_, refl, List, [], _∷_, Bool, true, false, _||_, ℕ, zero, suc, _-_, _*_, _≤_, _<_, arith, length, getD, ltb, leb, ltb-false}
+use Rattle.lists.proofs.Kit.{leb-false}
 use Rattle.folds.specs.Folds.{anyFold, badFold}
 
 pub neither : (a b : Bool) → (a || b) ≡ false → (a ≡ false) × (b ≡ false)
@@ -20,8 +14,7 @@ good-fold rows s e closed b =
     let neither-here = neither (leb rows e) (ltb 1 closed) (by-neither .1) in
     (ltb-false e s (by-neither .0), leb-false rows e (neither-here .0), ltb-false 1 closed (neither-here .1))
 
-pub folds-small : (rows : ℕ) → 0 < rows → (l : List ℕ) → anyFold (badFold rows) l ≡ false → (n : ℕ) → length l ≡ 3 * n → (i : ℕ) → i < 3 * n →
-    getD l i 0 ≤ rows
+pub folds-small : (rows : ℕ) → 0 < rows → (l : List ℕ) → anyFold (badFold rows) l ≡ false → (n : ℕ) → length l ≡ 3 * n → (i : ℕ) → i < 3 * n → getD l i 0 ≤ rows
 unfolding anyFold
 folds-small rows h [] b n e i l = absurd (omega arith)
 folds-small rows h (s ∷ []) b n e i l = absurd (omega arith)

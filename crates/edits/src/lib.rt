@@ -6,7 +6,6 @@ use edit_checks::Sizes;
 use edit_positions::Change;
 use motions::Caret;
 use text::Position;
-ghost use mathlib.Core.Path.{_≡_};
 ghost use mathlib.Core.List.{[]};
 ghost use Rattle.edits.specs.Edits.{EditsTo};
 ghost use Rattle.edits.specs.Editable.{Editable, MakesTo};
@@ -40,7 +39,8 @@ pub fn make(
     k: Caret,
 ) -> Left
     requires { ⌜ Editable (now text) (now folds) s at p q (now points) k ⌝ }
-    ensures { λ r. ⌜ MakesTo (now (text .entry)) (now (folds .entry)) s p q (now (points .entry)) k r
+    ensures { λ r. ⌜ MakesTo (now (text .entry)) (now (folds .entry)) s p q
+        (now (points .entry)) k r
         (now (text .exit)) (now (folds .exit)) ⌝ }
 {
     let end = edit_positions::end_of(p, points);
@@ -82,7 +82,8 @@ fn edit(
     points: &[u32],
     k: Caret,
 ) -> Edited
-    ensures { λ r. ⌜ EditsTo (now (text .entry)) (now (folds .entry)) s p q (now (points .entry)) k r
+    ensures { λ r. ⌜ EditsTo (now (text .entry)) (now (folds .entry)) s p q
+        (now (points .entry)) k r
         (now (text .exit)) (now (folds .exit)) ⌝ }
 {
     let x = Position {
@@ -106,7 +107,8 @@ pub fn insert(
     points: &[u32],
     k: Caret,
 ) -> Edited
-    ensures { λ r. ⌜ EditsTo (now (text .entry)) (now (folds .entry)) s p p (now (points .entry)) k r
+    ensures { λ r. ⌜ EditsTo (now (text .entry)) (now (folds .entry)) s p p
+        (now (points .entry)) k r
         (now (text .exit)) (now (folds .exit)) ⌝ }
 {
     edit(text, folds, s, p, p, points, k)

@@ -1,4 +1,5 @@
-// Words, up, down and the screen, with a table of row starts.
+// Words, up, down and the screen, with a table of row starts. Long by its lists of parameters, a
+// line for each.
 use call_bytes::fill_three;
 use call_bytes::fill_two;
 ghost use mathlib.Core.List.{[], _∷_};

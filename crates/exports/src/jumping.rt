@@ -9,8 +9,8 @@ ghost use Rattle.call_texts.specs.Carets.{caretSix};
 ghost use Rattle.jumps.specs.Jumps.{placesLeft};
 ghost use Rattle.call_jumps.specs.Jumping.{jumping};
 
-// Jumps over a text of code points, each from where the one before ended. `pairs` holds a kind and a
-// count for each, `answers` takes a row and a column for each; the caret is six numbers.
+// Jumps over a text of code points, each from where the one before ended. `pairs` holds a kind and
+// a count for each, `answers` takes a row and a column for each; the caret is six numbers.
 #[no_mangle]
 pub extern "C" fn tsivareza_jumps_u32(
     text: &[u32],

@@ -26,7 +26,8 @@ pub extern "C" fn tsivareza_enter(
     x: u32,
     out: &mut [u32; 1],
 ) -> u64
-    ensures { λ r. ⌜ Answered (now (list .entry)) (now (room .entry)) (now (out .entry)) (placedReply
+    ensures { λ r. ⌜ Answered (now (list .entry)) (now (room .entry)) (now (out .entry))
+        (placedReply
         (entering op x (points (now (list .entry))))) r (now (room .exit)) (now (out .exit)) ⌝ }
 {
     let f = fill(list, room);

@@ -31,7 +31,8 @@ pub extern "C" fn tsivareza_vim_list(
     x: u32,
     out: &mut [u32; 1],
 ) -> u64
-    ensures { λ r. ⌜ Answered (now (list .entry)) (now (room .entry)) (now (out .entry)) (placedReply
+    ensures { λ r. ⌜ Answered (now (list .entry)) (now (room .entry)) (now (out .entry))
+        (placedReply
         (vimBy op x (points (now (list .entry))))) r (now (room .exit)) (now (out .exit)) ⌝ }
 {
     let f = fill(list, room);
@@ -64,7 +65,8 @@ pub extern "C" fn tsivareza_vim_write(
     written: &mut [u32],
     out: &mut [u32; 1],
 ) -> u64
-    ensures { λ r. ⌜ Answered (now (list .entry)) (now (room .entry)) (now (out .entry)) (placedReply
+    ensures { λ r. ⌜ Answered (now (list .entry)) (now (room .entry)) (now (out .entry))
+        (placedReply
         (vimWriting (points (now (list .entry))) (now (written .entry)))) r (now (room .exit))
         (now (out .exit)) ⌝ }
     ensures { λ _. ⌜ now (written .exit) ≡ fitting (unfitOne (now (list .entry))
@@ -79,8 +81,8 @@ pub extern "C" fn tsivareza_vim_write(
     call_vim::vim_write(&room[..n], written, out)
 }
 
-// A word motion by a Vim list over a text of code points, with folds; big words where `big` is not 0.
-// The answer's low half is a refusal's number, its high half the place that 17 has.
+// A word motion by a Vim list over a text of code points, with folds; big words where `big` is not
+// 0. The answer's low half is a refusal's number, its high half the place that 17 has.
 #[no_mangle]
 pub extern "C" fn tsivareza_word_vim_u32(
     op: u32,

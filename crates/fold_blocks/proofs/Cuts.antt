@@ -1,11 +1,6 @@
 -- A file cut into its blocks, one after another, as the loops of the reader go. Assumes nothing.
-use mathlib.Core.Path.{_≡_, refl, ap, sym, _∙_}
-use mathlib.Core.List.{List, [], _∷_, _++_}
-use mathlib.Core.Bool.{Bool, _||_, false}
-use Prim.Native.Nat.{ℕ, zero, suc, _+_, _*_, _-_, _/_, _≤_, _<_}
-use native.Mathlib.Omega.{arith}
-use lib.ListN.{length, take, drop, getD, length-take, length-drop}
-use lib.Seq.{drop-drop, getD-take, getD-drop}
+use Rattle.lists.proofs.Kit.{_≡_, _∙_, List, [], _∷_, _++_, Bool, _||_, false, ℕ, suc, _+_, _*_, _-_, _/_, _≤_, _<_, arith, length, take, drop, getD}
+use Rattle.lists.proofs.Kit.{length-take, length-drop, drop-drop, getD-take, getD-drop}
 use Rattle.lists.specs.Lists.{any}
 use Rattle.fold_blocks.specs.Bytes.{twoAt, entriesIn}
 use Rattle.fold_blocks.specs.Listed.{cut, blocksOf, countOf, listed, countAll}
@@ -37,8 +32,7 @@ cutFrom f many k = cut (many - k) (drop (512 * k) f)
 pub cut-start : (f : List ℕ) → cutFrom f (length f / 512) 0 ≡ blocksOf f
 cut-start f = let all : length f / 512 - 0 ≡ length f / 512 = omega arith in rw all
 
-pub broken-start :
-    (f : List ℕ) (n : ℕ) → n ≡ countAll (blocksOf f) → isBroken f ≡ broken (length f / 512) n 0 (cutFrom f (length f / 512) 0)
+pub broken-start : (f : List ℕ) (n : ℕ) → n ≡ countAll (blocksOf f) → isBroken f ≡ broken (length f / 512) n 0 (cutFrom f (length f / 512) 0)
 broken-start f n e = rw (e, cut-start f)
 
 module _ (f : List ℕ) (many k : ℕ) where
@@ -78,8 +72,7 @@ module _ (f : List ℕ) (many k : ℕ) where
   unfolding countAll
   count-end h = rw (cut-end h)
 
-  pub listed-on :
-      k < many → listed (cutFrom f many k) ≡ entriesIn (twoAt f (512 * k + 2)) (drop 4 (blockAt f (512 * k))) ++ listed (cutFrom f many (k + 1))
+  pub listed-on : k < many → listed (cutFrom f many k) ≡ entriesIn (twoAt f (512 * k + 2)) (drop 4 (blockAt f (512 * k))) ++ listed (cutFrom f many (k + 1))
   unfolding listed
   listed-on h = rw (cut-on h, count-at f (512 * k))
 

@@ -1,15 +1,8 @@
 -- Lengths of a fold file's parts, and the blocks one after another. Assumes nothing.
-use mathlib.Core.Path.{_≡_, refl, ap, _∙_}
-use mathlib.Core.List.{List, [], _∷_, _++_}
-use mathlib.Core.Bool.{true, false}
-use Prim.Native.Nat.{ℕ, zero, suc, _+_, _*_, _-_, _/_, _≤_, _<_}
-use native.Mathlib.Decide.{decLt}
-use native.Mathlib.Omega.{arith}
-use lib.ListN.{length, take, drop, getD, replicate, length-append, length-replicate, length-take, length-drop, drop-of-length-le}
-use lib.Seq.{length-take-le, take-all, drop-drop}
-use borrow.Author.Tests.{eq-eqb, ne-eqb}
+use Rattle.lists.proofs.Kit.{_≡_, refl, _∙_, List, [], _∷_, _++_, ℕ, zero, suc, _+_, _*_, _/_, _≤_, _<_, arith, length, take, drop, getD, length-append}
+use Rattle.lists.proofs.Kit.{length-replicate, length-take, length-drop, eq-eqb, ne-eqb}
 use Rattle.lists.proofs.Lists.{drop-at}
-use Rattle.fold_blocks.specs.Bytes.{two, four, one, entries, sum}
+use Rattle.fold_blocks.specs.Bytes.{four, one, entries}
 use Rattle.fold_blocks.specs.Files.{countIn, blocksFor, body, block, blocks, fileOf}
 
 pub length-entries : (folds : List ℕ) → length (entries folds) ≡ 9 * countIn folds
@@ -54,8 +47,7 @@ take-most l = omega (arith, length-take 168 l)
 pub length-blocks : (n k left : ℕ) (folds : List ℕ) → length (blocks n k left folds) ≡ 512 * left
 unfolding blocks
 length-blocks n k zero folds = refl
-length-blocks n k (suc left) folds =
-    length-append (block n k (take 168 folds)) _
+length-blocks n k (suc left) folds = length-append (block n k (take 168 folds)) _
     ∙ omega (arith, length-block n k (take 168 folds) (take-most folds), length-blocks n (k + 1) left (drop 168 folds))
 
 pub length-file : (folds : List ℕ) → length (fileOf folds) ≡ 512 * blocksFor (countIn folds)

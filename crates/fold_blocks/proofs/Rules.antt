@@ -1,12 +1,6 @@
 -- The rules of the layout as statements: what it means that a block breaks none, and so no block of a file. Assumes nothing.
-use mathlib.Core.Path.{_≡_, refl}
-use mathlib.Core.List.{List, [], _∷_}
-use mathlib.Core.Bool.{Bool, true, false, not, _&&_, _||_}
-use Prim.Native.Nat.{ℕ, zero, suc, _+_, _*_, _≤_, _<_}
-use native.Mathlib.Omega.{arith}
-use lib.Dec.{eqb, ltb}
-use lib.ListN.{length, take, drop, length-append}
-use borrow.Author.Tests.{not-false, ltb-true, ltb-false, eqb-true, eqb-false, lt-ltb, le-ltb, eq-eqb, ne-eqb}
+use Rattle.lists.proofs.Kit.{_≡_, refl, List, [], _∷_, Bool, true, false, not, _&&_, _||_, ℕ, zero, suc, _+_, _*_, _≤_, _<_, arith, length, take, drop}
+use Rattle.lists.proofs.Kit.{length-append, eqb, ltb, not-false, ltb-true, ltb-false, eqb-true, eqb-false, lt-ltb, le-ltb, eq-eqb, ne-eqb}
 use Rattle.lists.specs.Lists.{any}
 use Rattle.fold_blocks.specs.Bytes.{entriesIn}
 use Rattle.fold_blocks.specs.Listed.{numberOf, countOf, totalOf, listed}
@@ -58,15 +52,14 @@ module _ (many n k : ℕ) (b : List ℕ) where
 
   pub kept : Keeps many n k b → breaks many n k b ≡ false
   unfolding breaks
-  kept w =
-      rw (
-        eq-eqb _ _ (w .number),
-        le-ltb 56 (countOf b) (w .few),
-        under-false (ltb (k + 1) many) (not (eqb (countOf b) 56)) (λ t. rw (eq-eqb (countOf b) 56 (w .full (ltb-true _ _ t)))),
-        under-false (ltb 1 many) (eqb (countOf b) 0) (λ t. ne-eqb (countOf b) 0 (λ z. omega (arith, w .some (ltb-true _ _ t)))),
-        w .unused,
-        eq-eqb _ _ (w .total),
-      )
+  kept w = rw (
+    eq-eqb _ _ (w .number),
+    le-ltb 56 (countOf b) (w .few),
+    under-false (ltb (k + 1) many) (not (eqb (countOf b) 56)) (λ t. rw (eq-eqb (countOf b) 56 (w .full (ltb-true _ _ t)))),
+    under-false (ltb 1 many) (eqb (countOf b) 0) (λ t. ne-eqb (countOf b) 0 (λ z. omega (arith, w .some (ltb-true _ _ t)))),
+    w .unused,
+    eq-eqb _ _ (w .total),
+  )
 
 -- the first block, and those behind it
 pub broken-first : (many n k : ℕ) (b : List ℕ) (l : List (List ℕ)) → broken many n k (b ∷ l) ≡ false → Keeps many n k b × (broken many n (k + 1) l ≡ false)

@@ -1,11 +1,5 @@
 -- Writing piece by piece: what is still to be written, after what was written, comes to the whole. Assumes nothing.
-use mathlib.Core.Path.{_≡_, refl, ap, sym, _∙_}
-use mathlib.Core.List.{List, [], _∷_, _++_}
-use Prim.Native.Nat.{ℕ, zero, suc, _+_, _≤_}
-use native.Mathlib.Nat.{add-zero}
-use native.Mathlib.Omega.{arith}
-use lib.ListN.{length, set, length-append, length-set}
-use lib.Seq.{sets}
+use Rattle.lists.proofs.Kit.{_≡_, refl, ap, sym, _∙_, List, [], _∷_, _++_, ℕ, suc, _+_, _≤_, add-zero, arith, length, set, length-append, sets}
 use Rattle.print.specs.Print.{Wrote}
 
 sets-append : (x y out : List ℕ) (at : ℕ) → sets out at (x ++ y) ≡ sets (sets out at x) (at + length x) y

@@ -1,11 +1,6 @@
 -- A file that is refused by none of 18 to 20, and what follows for its folds. Assumes nothing.
-use mathlib.Core.Path.{_≡_, refl, ap}
-use mathlib.Core.List.{List}
-use mathlib.Core.Bool.{Bool, true, false, cond}
-use Prim.Native.Nat.{ℕ, zero, suc, _/_, _%_, _≤_, _<_}
-use native.Mathlib.Omega.{arith}
-use lib.ListN.{length, drop}
-use borrow.Author.Tests.{not-false, ltb-false, eqb-true, eqb-false}
+use Rattle.lists.proofs.Kit.{_≡_, refl, ap, List, Bool, true, false, cond, ℕ, zero, suc, _/_, _%_, _≤_, _<_, arith, length, drop, not-false, ltb-false}
+use Rattle.lists.proofs.Kit.{eqb-true, eqb-false}
 use Rattle.lists.specs.Lists.{any}
 use Rattle.fold_blocks.specs.Listed.{cut, blocksOf, foldsIn, countAll}
 use Rattle.fold_blocks.specs.Layout.{isUncut, isTorn, isBroken, layoutRefusal}
@@ -49,5 +44,4 @@ length-cut (suc n) f = ap suc (length-cut n (drop 512 f))
 
 -- at most 840 numbers
 pub folds-most : (f : List ℕ) → Whole f → length (foldsIn f) ≤ 840
-folds-most f w =
-    omega (arith, listed-most (length f / 512) (countAll (blocksOf f)) 0 (blocksOf f) (w .laid), length-cut (length f / 512) f, w .short)
+folds-most f w = omega (arith, listed-most (length f / 512) (countAll (blocksOf f)) 0 (blocksOf f) (w .laid), length-cut (length f / 512) f, w .short)

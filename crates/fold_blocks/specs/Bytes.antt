@@ -1,6 +1,7 @@
 -- Numbers and folds as bytes, the lowest byte first, and back. Document 02, #111.
 -- Definitions only; the laws are in `proofs/`. Assumes nothing.
-use Prim.Native.Nat.{ℕ, zero, suc, _+_, _*_, _/_, _%_}
+use mathlib.Core.Path.{_≡_}
+use Prim.Native.Nat.{ℕ, zero, suc, _+_, _*_, _/_, _%_, _≤_}
 use mathlib.Core.List.{List, [], _∷_, _++_}
 use lib.ListN.{getD, drop}
 
@@ -20,6 +21,11 @@ twoAt b i = getD b i 0 + 256 * getD b (i + 1) 0
 
 abbrev pub fourAt : List ℕ → ℕ → ℕ
 fourAt b i = getD b i 0 + 256 * getD b (i + 1) 0 + 65536 * getD b (i + 2) 0 + 16777216 * getD b (i + 3) 0
+
+-- r is the number n, which is small
+pub record Number (n most r : ℕ) : Type 0 where
+  pub same : r ≡ n
+  pub small : r ≤ most
 
 -- the entries of folds, 9 bytes each: start, end, closed
 unfoldable pub entries : List ℕ → List ℕ

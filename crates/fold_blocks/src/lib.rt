@@ -5,13 +5,12 @@ ghost use mathlib.Core.List.{_++_};
 ghost use Prim.Native.Nat.{_+_, _*_, _≤_, _<_};
 ghost use lib.ListN.{length, getD};
 ghost use Rattle.print.specs.Print.{Wrote};
-ghost use Rattle.fold_blocks.specs.Bytes.{one, two, four, twoAt, fourAt};
+ghost use Rattle.fold_blocks.specs.Bytes.{one, two, four, twoAt, fourAt, Number};
 ghost use Rattle.fold_blocks.specs.Bytes.{sum as Bytes·sum};
 
 // The number that two bytes make.
 fn pair(a: u8, b: u8) -> usize
-    ensures same { λ r. ⌜ r ≡ a + 256 * b ⌝ }
-    ensures small { λ r. ⌜ r ≤ 65535 ⌝ }
+    ensures { λ r. ⌜ Number (a + 256 * b) 65535 r ⌝ }
 {
     a as usize + 256 * (b as usize)
 }
@@ -34,8 +33,7 @@ pub fn one_at(b: &[u8], at: usize) -> u32
 // The number that two bytes from an index on make.
 pub fn two_at(b: &[u8], at: usize) -> usize
     requires { ⌜ at + 2 ≤ length (now b) ⌝ }
-    ensures same { λ r. ⌜ r ≡ twoAt (now (b .entry)) at ⌝ }
-    ensures small { λ r. ⌜ r ≤ 65535 ⌝ }
+    ensures { λ r. ⌜ Number (twoAt (now (b .entry)) at) 65535 r ⌝ }
 {
     pair(b[at], b[at + 1])
 }
@@ -50,8 +48,7 @@ pub fn four_at(b: &[u8], at: usize) -> u32
 
 // A byte as a larger number.
 fn wide(x: u8) -> usize
-    ensures same { λ r. ⌜ r ≡ x ⌝ }
-    ensures small { λ r. ⌜ r ≤ 255 ⌝ }
+    ensures { λ r. ⌜ Number x 255 r ⌝ }
 {
     x as usize
 }

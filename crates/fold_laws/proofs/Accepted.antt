@@ -1,12 +1,6 @@
 -- What an answer of the writer or of the reader says: each check passed. Assumes nothing.
-use mathlib.Core.Path.{_≡_, refl, sym}
-use mathlib.Core.List.{List, [], _∷_}
-use mathlib.Core.Bool.{Bool, true, false, cond, _||_}
-use Prim.Native.Nat.{ℕ, _/_, _%_, _≤_}
-use native.Mathlib.Omega.{arith}
-use lib.Dec.{eqb, ltb, leb}
-use lib.ListN.{length}
-use borrow.Author.Tests.{eqb-true, leb-true, leb-false, ltb-false}
+use Rattle.lists.proofs.Kit.{_≡_, refl, sym, List, [], _∷_, Bool, true, false, cond, _||_, ℕ, _/_, _%_, _≤_, arith, length, eqb, ltb, leb, eqb-true, leb-true}
+use Rattle.lists.proofs.Kit.{leb-false, ltb-false}
 use Rattle.text_check.specs.Accept.{textRefusal}
 use Rattle.text_check.proofs.Accepted.{accepted-short}
 use Rattle.text.specs.Text.{rowCount}

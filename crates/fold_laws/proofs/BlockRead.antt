@@ -1,12 +1,6 @@
 -- A block that keeps every rule is that of the folds that it lists. Assumes nothing.
-use mathlib.Core.Path.{_≡_, ap, sym, _∙_}
-use mathlib.Core.List.{List, _++_}
-use mathlib.Core.Bool.{false}
-use Prim.Native.Nat.{ℕ, _+_, _*_, _-_, _%_, _≤_}
-use native.Mathlib.Omega.{arith}
-use lib.ListN.{length, take, drop, replicate, length-drop, take-append-drop}
-use lib.Seq.{take-all, take-add, take-take, getD-drop, length-take-le}
-use borrow.Author.Tests.{not-false, eqb-true}
+use Rattle.lists.proofs.Kit.{_≡_, ap, sym, _∙_, List, _++_, false, ℕ, _+_, _*_, _-_, _%_, _≤_, arith, length, take, drop, replicate, length-drop}
+use Rattle.lists.proofs.Kit.{take-append-drop, take-all, take-add, take-take, getD-drop, length-take-le, not-false, eqb-true}
 use Rattle.fold_blocks.specs.Bytes.{two, twoAt, entries, entriesIn, sum}
 use Rattle.fold_blocks.specs.Files.{countIn, body, block}
 use Rattle.fold_blocks.specs.Listed.{countOf, sumOf}

@@ -1,19 +1,12 @@
 -- A block taken apart: what it says of itself is what was put into it. Assumes nothing.
-use mathlib.Core.Path.{_≡_, refl, ap, sym, _∙_}
-use mathlib.Core.List.{List, [], _∷_, _++_, append-assoc}
-use mathlib.Core.Bool.{Bool, true, false, not}
-use Prim.Native.Nat.{ℕ, zero, suc, _+_, _*_, _-_, _/_, _%_, _≤_, _<_}
-use native.Mathlib.Omega.{arith}
-use lib.Dec.{eqb}
-use lib.ListN.{length, take, drop, getD, replicate, length-append, length-replicate}
-use lib.Seq.{take-at, drop-at, getD-append-add}
-use borrow.Author.Tests.{eq-eqb}
+use Rattle.lists.proofs.Kit.{_≡_, refl, List, _++_, append-assoc, false, ℕ, _+_, _*_, _-_, _/_, _%_, _≤_, _<_, arith, length, take, drop, getD, replicate}
+use Rattle.lists.proofs.Kit.{length-append, length-replicate, take-at, drop-at, getD-append-add, eq-eqb}
 use Rattle.lists.specs.Lists.{any}
-use Rattle.fold_blocks.specs.Bytes.{two, twoAt, entries, entriesIn, sum}
+use Rattle.fold_blocks.specs.Bytes.{two, entries, entriesIn, sum}
 use Rattle.fold_blocks.specs.Files.{countIn, body, block}
 use Rattle.fold_blocks.specs.Listed.{numberOf, countOf, totalOf, sumOf}
 use Rattle.fold_blocks.specs.Layout.{isUsed, isTorn}
-use Rattle.fold_blocks.proofs.Files.{length-entries, length-body, length-block}
+use Rattle.fold_blocks.proofs.Files.{length-entries, length-body}
 use Rattle.fold_laws.proofs.Numbers.{Small}
 use Rattle.fold_laws.proofs.Entries.{entries-back, zeros-unused}
 
@@ -72,13 +65,12 @@ module _ (n k : ℕ) (l : List ℕ) (h : length l ≤ 168) where
       rw (stored, body-first, eq-eqb check check refl)
 
   pub block-unused : any isUsed (drop (4 + 9 * countOf (block n k l)) (take 508 (block n k l))) ≡ false
-  block-unused =
-      rw (
-        block-count,
-        block-parts,
-        take-at head (two n ++ two check) 508 length-head,
-        drop-at front (replicate (504 - 9 * countIn l) 0) (4 + 9 * countIn l) length-front,
-      ) (zeros-unused (504 - 9 * countIn l))
+  block-unused = rw (
+    block-count,
+    block-parts,
+    take-at head (two n ++ two check) 508 length-head,
+    drop-at front (replicate (504 - 9 * countIn l) 0) (4 + 9 * countIn l) length-front,
+  ) (zeros-unused (504 - 9 * countIn l))
 
   pub block-entries : Small l → entriesIn (countOf (block n k l)) (drop 4 (block n k l)) ≡ l
   unfolding block body

@@ -1,17 +1,10 @@
 -- One byte changed: the sum of its block doesn't fit any more. Assumes nothing.
-use mathlib.Core.Path.{_≡_, refl, ap, sym, _∙_}
-use mathlib.Core.List.{List, [], _∷_}
-use mathlib.Core.Bool.{Bool, true, false, cond, not, _||_, or-true}
-use Prim.Native.Nat.{ℕ, zero, suc, _+_, _*_, _-_, _/_, _%_, _≤_, _<_}
-use native.Mathlib.Decide.{decLt}
-use native.Mathlib.Omega.{arith}
-use lib.Dec.{eqb}
-use lib.ListN.{length, take, drop, getD, set, length-set, length-drop}
-use lib.Seq.{take-set-le, take-set-lt, drop-set-lt, drop-set-add, getD-set-same, getD-set-other, getD-take, getD-drop, length-take-le}
-use borrow.Author.Tests.{not-false, eqb-true, eq-eqb, ne-eqb, le-ltb}
+use Rattle.lists.proofs.Kit.{_≡_, refl, ap, sym, _∙_, List, [], _∷_, Bool, true, false, not, _||_, or-true, ℕ, zero, suc, _+_, _*_, _-_, _/_, _%_, _≤_, _<_}
+use Rattle.lists.proofs.Kit.{decLt, arith, length, take, drop, getD, set, length-set, length-drop, take-set-le, take-set-lt, drop-set-add, getD-set-same}
+use Rattle.lists.proofs.Kit.{getD-set-other, getD-take, getD-drop, length-take-le, eqb, not-false, eqb-true, eq-eqb, ne-eqb, le-ltb}
 use Rattle.lists.specs.Lists.{any}
 use Rattle.fold_blocks.specs.Bytes.{sum}
-use Rattle.fold_blocks.specs.Listed.{cut, blocksOf, sumOf}
+use Rattle.fold_blocks.specs.Listed.{cut, sumOf}
 use Rattle.fold_blocks.specs.Layout.{isTorn, isUncut, layoutRefusal}
 use Rattle.fold_blocks.proofs.Whole.{Whole}
 use Rattle.fold_laws.proofs.Numbers.{Bytes, bytes-at, bytes-take, bytes-drop}
@@ -24,8 +17,7 @@ sum-set (x ∷ l) zero v h = omega arith
 sum-set (x ∷ l) (suc i) v h = omega (arith, sum-set l i v (omega arith))
 
 -- a byte before the sum
-torn-body :
-    (b : List ℕ) (i v : ℕ) → length b ≡ 512 → i < 510 → v < 256 → getD b i 0 < 256 → (v ≡ getD b i 0 → ⊥) → isTorn b ≡ false → isTorn (set b i v) ≡ true
+torn-body : (b : List ℕ) (i v : ℕ) → length b ≡ 512 → i < 510 → v < 256 → getD b i 0 < 256 → (v ≡ getD b i 0 → ⊥) → isTorn b ≡ false → isTorn (set b i v) ≡ true
 unfolding isTorn
 torn-body b i v size h small old new e =
     let fits : sumOf b ≡ sum (take 510 b) % 65536 = eqb-true _ _ (not-false _ e) in
@@ -43,8 +35,7 @@ torn-body b i v size h small old new e =
     differ s t x y p q r d m = d (omega arith)
 
 -- a byte of the sum
-torn-sum :
-    (b : List ℕ) (i v : ℕ) → length b ≡ 512 → 510 ≤ i → i < 512 → (v ≡ getD b i 0 → ⊥) → v < 256 → Bytes b → isTorn b ≡ false → isTorn (set b i v) ≡ true
+torn-sum : (b : List ℕ) (i v : ℕ) → length b ≡ 512 → 510 ≤ i → i < 512 → (v ≡ getD b i 0 → ⊥) → v < 256 → Bytes b → isTorn b ≡ false → isTorn (set b i v) ≡ true
 unfolding isTorn
 torn-sum b i v size low high new small w e = go (decLt i 511)
   where
@@ -61,8 +52,7 @@ torn-sum b i v size low high new small w e = go (decLt i 511)
         rw (take-set-le 510 b i v low, at, getD-set-same b 511 v 0 (omega arith), getD-set-other b 511 510 v 0 (λ z. omega arith))
         (ap not (ne-eqb (getD b 510 0 + 256 * v) (sum (take 510 b) % 65536) (λ z. new (omega (arith, fits, z, ap (λ (j : ℕ). getD b j 0) at)))))
 
-torn-block :
-    (b : List ℕ) (i v : ℕ) → length b ≡ 512 → i < 512 → v < 256 → Bytes b → (v ≡ getD b i 0 → ⊥) → isTorn b ≡ false → isTorn (set b i v) ≡ true
+torn-block : (b : List ℕ) (i v : ℕ) → length b ≡ 512 → i < 512 → v < 256 → Bytes b → (v ≡ getD b i 0 → ⊥) → isTorn b ≡ false → isTorn (set b i v) ≡ true
 torn-block b i v size h small w new e = go (decLt i 510)
   where
     go : Dec (i < 510) → isTorn (set b i v) ≡ true
@@ -77,8 +67,7 @@ any-first p b l e = go (p b) refl e
     go true q h = let never : _≡_ {A = ℕ} 0 1 = cc in absurd (omega arith)
     go false q h = (q, h)
 
-torn-one :
-    (m : ℕ) (f : List ℕ) (i v : ℕ) → length f ≡ 512 * m → i < length f → v < 256 → Bytes f → (v ≡ getD f i 0 → ⊥) → any isTorn (cut m f) ≡ false →
+torn-one : (m : ℕ) (f : List ℕ) (i v : ℕ) → length f ≡ 512 * m → i < length f → v < 256 → Bytes f → (v ≡ getD f i 0 → ⊥) → any isTorn (cut m f) ≡ false →
     any isTorn (cut m (set f i v)) ≡ true
 unfolding cut any
 torn-one zero f i v size h small w new e = absurd (omega arith)
@@ -86,11 +75,8 @@ torn-one (suc m) f i v size h small w new e =
     let parts = any-first isTorn (take 512 f) (cut m (drop 512 f)) e in
     go (decLt i 512) (parts .0) (λ j p q r. torn-one m (drop 512 f) j v p q small (bytes-drop 512 f w) r (parts .1))
   where
-    go :
-        Dec (i < 512) → isTorn (take 512 f) ≡ false →
-        ((j : ℕ) → length (drop 512 f) ≡ 512 * m → j < length (drop 512 f) → (v ≡ getD (drop 512 f) j 0 → ⊥) →
-        any isTorn (cut m (set (drop 512 f) j v)) ≡ true) →
-        (isTorn (take 512 (set f i v)) || any isTorn (cut m (drop 512 (set f i v)))) ≡ true
+    go : Dec (i < 512) → isTorn (take 512 f) ≡ false → ((j : ℕ) → length (drop 512 f) ≡ 512 * m → j < length (drop 512 f) → (v ≡ getD (drop 512 f) j 0 → ⊥) →
+        any isTorn (cut m (set (drop 512 f) j v)) ≡ true) → (isTorn (take 512 (set f i v)) || any isTorn (cut m (drop 512 (set f i v)))) ≡ true
     go (yes l) first ih =
         let size-b = length-take-le 512 f (omega arith) in
         let by-torn-block = torn-block (take 512 f) i v size-b l small (bytes-take 512 f w) (λ z. new (z ∙ getD-take 512 f i 0 l)) first in
@@ -104,8 +90,7 @@ torn-one (suc m) f i v size h small w new e =
         rw (moved, by-ih, or-true)
 
 -- a file that is whole is refused with 19 once one byte is changed
-pub changed-torn :
-    (f : List ℕ) (i v : ℕ) → Whole f → i < length f → v < 256 → Bytes f → (v ≡ getD f i 0 → ⊥) → layoutRefusal (set f i v) ≡ 19
+pub changed-torn : (f : List ℕ) (i v : ℕ) → Whole f → i < length f → v < 256 → Bytes f → (v ≡ getD f i 0 → ⊥) → layoutRefusal (set f i v) ≡ 19
 unfolding layoutRefusal isUncut
 changed-torn f i v u h small w new =
     let size = length-set f i v in

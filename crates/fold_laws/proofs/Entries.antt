@@ -1,20 +1,13 @@
 -- Entries from bytes and back. Assumes nothing.
-use mathlib.Core.Path.{_≡_, refl}
-use mathlib.Core.List.{List, [], _∷_, _++_}
-use mathlib.Core.Bool.{Bool, true, false, not, _||_}
-use Prim.Native.Nat.{ℕ, zero, suc, _+_, _*_, _/_, _%_, _≤_, _<_}
-use native.Mathlib.Omega.{arith}
-use lib.Dec.{eqb}
-use lib.ListN.{length, take, replicate}
-use borrow.Author.Tests.{eqb-true}
+use Rattle.lists.proofs.Kit.{_≡_, refl, List, [], _∷_, _++_, Bool, true, false, not, _||_, ℕ, zero, suc, _+_, _*_, _/_, _%_, _≤_, _<_, arith, length, take}
+use Rattle.lists.proofs.Kit.{replicate, eqb, eqb-true}
 use Rattle.lists.specs.Lists.{any}
 use Rattle.fold_blocks.specs.Bytes.{entries, entriesIn}
 use Rattle.fold_blocks.specs.Layout.{isUsed}
 use Rattle.fold_laws.proofs.Numbers.{Bytes, Small}
 
 -- the four bytes of a number, by their values, and back
-digits :
-    (a b c d : ℕ) → a < 256 → b < 256 → c < 256 → d < 256 →
+digits : (a b c d : ℕ) → a < 256 → b < 256 → c < 256 → d < 256 →
     let sum = a + 256 * b + 65536 * c + 16777216 * d in (sum % 256 ≡ a) × (sum / 256 % 256 ≡ b) × (sum / 65536 % 256 ≡ c) × (sum / 16777216 % 256 ≡ d)
 digits a b c d h i j k =
     let sum = a + 256 * b + 65536 * c + 16777216 * d in
@@ -89,8 +82,7 @@ unfolding any
 zeros-of [] e = refl
 zeros-of (x ∷ l) e = go (eqb x 0) refl e (λ q. zeros-of l q)
   where
-    go :
-        (b : Bool) → eqb x 0 ≡ b → (not b || any isUsed l) ≡ false → (any isUsed l ≡ false → l ≡ replicate (length l) 0) →
+    go : (b : Bool) → eqb x 0 ≡ b → (not b || any isUsed l) ≡ false → (any isUsed l ≡ false → l ≡ replicate (length l) 0) →
         (x ∷ l) ≡ replicate (length (x ∷ l)) 0
     go true p q ih = let x-is : x ≡ 0 = eqb-true _ _ p in λ i. x-is i ∷ ih q i
     go false p q ih = let never : _≡_ {A = ℕ} 0 1 = cc in absurd (omega arith)

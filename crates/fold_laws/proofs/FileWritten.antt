@@ -1,10 +1,5 @@
 -- The file of folds keeps every rule, and the folds that it lists are those it was written of. Assumes nothing.
-use mathlib.Core.Path.{_≡_, refl, ap, _∙_}
-use mathlib.Core.List.{List}
-use Prim.Native.Nat.{ℕ, zero, suc, _+_, _*_, _/_, _%_, _≤_, _<_}
-use native.Mathlib.Omega.{arith}
-use lib.ListN.{length}
-use borrow.Author.Tests.{eq-eqb, ne-eqb, le-ltb}
+use Rattle.lists.proofs.Kit.{_≡_, refl, ap, _∙_, List, ℕ, zero, suc, _+_, _*_, _/_, _%_, _≤_, _<_, arith, length, eq-eqb, ne-eqb, le-ltb}
 use Rattle.fold_blocks.specs.Files.{countIn, blocksFor, blocks, fileOf}
 use Rattle.fold_blocks.specs.Listed.{cut, blocksOf, foldsIn, listed, countAll}
 use Rattle.fold_blocks.specs.Layout.{isUncut, layoutRefusal}

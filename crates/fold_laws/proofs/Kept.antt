@@ -1,13 +1,6 @@
 -- Folds on disk, over the answers of the two calls: written and read again, read and written again, one byte changed; and that the rules of 20 hold
 -- exactly of the file of the folds listed. Assumes nothing.
-use mathlib.Core.Path.{_≡_, ap, sym, _∙_}
-use mathlib.Core.List.{List, _++_}
-use mathlib.Core.Bool.{false}
-use Prim.Native.Nat.{ℕ, zero, suc, _+_, _*_, _≤_, _<_}
-use native.Mathlib.Omega.{arith}
-use lib.ListN.{length, take, drop, getD, set}
-use lib.Seq.{take-at}
-use borrow.Author.Tests.{le-leb}
+use Rattle.lists.proofs.Kit.{_≡_, ap, sym, _∙_, List, _++_, false, ℕ, zero, suc, _*_, _≤_, _<_, arith, length, take, drop, getD, set, take-at, le-leb}
 use Rattle.lists.specs.Lists.{any}
 use Rattle.text_check.specs.Accept.{textRefusal}
 use Rattle.text.specs.Text.{rowCount}
@@ -44,8 +37,7 @@ module _ (t f : List ℕ) (good : textRefusal t ≡ 0) (whole : layoutRefusal f 
   reads-folds room h = let by-le-leb = le-leb (length (foldsIn f)) (length room) h in (rw (good, whole, taken, by-le-leb), rw (good, whole, taken, by-le-leb))
 
 -- reading what was written gives the same list
-pub reading-written :
-    (t folds file room : List ℕ) (n : ℕ) → written t folds (length file) ≡ Bytes n → length folds ≤ length room →
+pub reading-written : (t folds file room : List ℕ) (n : ℕ) → written t folds (length file) ≡ Bytes n → length folds ≤ length room →
     (loaded t (take n (writtenIn t folds file)) (length room) ≡ Folds (countIn folds))
     × (loadedIn t (take n (writtenIn t folds file)) room ≡ folds ++ drop (length folds) room)
 reading-written t folds file room n e h =
@@ -61,8 +53,7 @@ reading-written t folds file room n e h =
     (rw front-is (by-reads-folds .0 ∙ rw same), rw front-is (by-reads-folds .1 ∙ rw same))
 
 -- every accepted file is what the writer would write
-pub accepted-written :
-    (t f : List ℕ) (places n : ℕ) → AllBytes f → loaded t f places ≡ Folds n → (file : List ℕ) → length f ≤ length file →
+pub accepted-written : (t f : List ℕ) (places n : ℕ) → AllBytes f → loaded t f places ≡ Folds n → (file : List ℕ) → length f ≤ length file →
     (fileOf (foldsIn f) ≡ f) × (written t (foldsIn f) (length file) ≡ Bytes (length f)) × (writtenIn t (foldsIn f) file ≡ f ++ drop (length f) file)
 accepted-written t f places n b e file h =
     let by-loaded-accepted = loaded-accepted t f places n e in
@@ -71,8 +62,7 @@ accepted-written t f places n b e file h =
     (same, by-writes-file .0 ∙ rw same, by-writes-file .1 ∙ rw same)
 
 -- a file that is accepted for some text, with one byte changed, is refused with 19 for every text that passes 1 to 3, and nothing is written
-pub changed-refused :
-    (s f : List ℕ) (places n : ℕ) → AllBytes f → loaded s f places ≡ Folds n → (i v : ℕ) → i < length f → v < 256 → (v ≡ getD f i 0 → ⊥) →
+pub changed-refused : (s f : List ℕ) (places n : ℕ) → AllBytes f → loaded s f places ≡ Folds n → (i v : ℕ) → i < length f → v < 256 → (v ≡ getD f i 0 → ⊥) →
     (t room : List ℕ) → textRefusal t ≡ 0 → (loaded t (set f i v) (length room) ≡ Refused 19) × (loadedIn t (set f i v) room ≡ room)
 unfolding loaded loadedIn readRefusal firstOf
 changed-refused s f places n b e i v h small new t room good =
@@ -85,8 +75,7 @@ few-of zero h = omega arith
 few-of (suc n) h = omega (arith, blocks-some (suc n) (omega arith))
 
 -- among files of 1 to 5 blocks whose sums fit, the six rules hold exactly of those that are the file of the folds they list
-pub laid-same :
-    (f : List ℕ) → AllBytes f → isUncut f ≡ false → any isTorn (blocksOf f) ≡ false →
+pub laid-same : (f : List ℕ) → AllBytes f → isUncut f ≡ false → any isTorn (blocksOf f) ≡ false →
     (isBroken f ≡ false → fileOf (foldsIn f) ≡ f) × (fileOf (foldsIn f) ≡ f → isBroken f ≡ false)
 laid-same f b u sums =
     let cut = uncut-false f u in (

@@ -1,10 +1,5 @@
 -- Bytes, folds that fit their entries, and the number that two bytes make. Assumes nothing.
-use mathlib.Core.Path.{_≡_, ap, _∙_}
-use mathlib.Core.List.{List, [], _∷_}
-use Prim.Native.Nat.{ℕ, zero, suc, _+_, _*_, _/_, _%_, _≤_, _<_}
-use native.Mathlib.Omega.{arith}
-use lib.ListN.{length, take, drop, getD}
-use lib.Seq.{take-nil, drop-nil}
+use Rattle.lists.proofs.Kit.{_≡_, ap, _∙_, List, [], _∷_, ℕ, zero, suc, _+_, _*_, _/_, _%_, _≤_, _<_, arith, length, take, drop, getD, take-nil, drop-nil}
 use Rattle.fold_blocks.specs.Bytes.{two, twoAt}
 
 -- every value is a byte

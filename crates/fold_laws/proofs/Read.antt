@@ -1,12 +1,6 @@
 -- A file that keeps every rule is the file of the folds that it lists. Assumes nothing.
-use mathlib.Core.Path.{_≡_, refl, _∙_}
-use mathlib.Core.List.{List, [], _∷_, _++_, append-nil}
-use mathlib.Core.Bool.{Bool, true, false, _||_}
-use Prim.Native.Nat.{ℕ, zero, suc, _+_, _*_, _-_, _/_, _≤_, _<_}
-use native.Mathlib.Decide.{decLt}
-use native.Mathlib.Omega.{arith}
-use lib.ListN.{length, take, drop, length-append, length-drop, take-append-drop}
-use lib.Seq.{take-at, drop-at, take-all, length-take-le}
+use Rattle.lists.proofs.Kit.{_≡_, refl, _∙_, List, [], _∷_, _++_, append-nil, Bool, true, false, _||_, ℕ, zero, suc, _+_, _*_, _/_, _≤_, _<_, decLt, arith}
+use Rattle.lists.proofs.Kit.{length, take, drop, length-append, length-drop, take-append-drop, take-at, drop-at, take-all, length-take-le}
 use Rattle.lists.specs.Lists.{any}
 use Rattle.fold_blocks.specs.Bytes.{entriesIn}
 use Rattle.fold_blocks.specs.Files.{countIn, blocksFor, block, blocks, fileOf}
@@ -37,8 +31,7 @@ any-first p b l e = go (p b) refl e
     go true q h = let never : _≡_ {A = ℕ} 0 1 = cc in absurd (omega arith)
     go false q h = (q, h)
 
-pub read-back :
-    (many n k left : ℕ) (f : List ℕ) → length f ≡ 512 * left → Bytes f → k + left ≡ many → broken many n k (cut left f) ≡ false →
+pub read-back : (many n k left : ℕ) (f : List ℕ) → length f ≡ 512 * left → Bytes f → k + left ≡ many → broken many n k (cut left f) ≡ false →
     any isTorn (cut left f) ≡ false → blocks n k left (listed (cut left f)) ≡ f
 unfolding cut blocks listed
 read-back many n k zero [] size w e r t = refl
@@ -65,8 +58,7 @@ read-back many n k (suc (suc left)) f size w e r t =
     rw (parts .0, parts .1, same, behind) (take-append-drop 512 f)
 
 -- how many folds so many blocks hold
-pub read-count :
-    (many n k : ℕ) (l : List (List ℕ)) → k + length l ≡ many → broken many n k l ≡ false →
+pub read-count : (many n k : ℕ) (l : List (List ℕ)) → k + length l ≡ many → broken many n k l ≡ false →
     (countAll l ≤ 56 * length l) × (1 < many → 0 < length l → 56 * length l < countAll l + 56)
 unfolding countAll
 read-count many n k [] e r = (omega arith, λ x y. absurd (omega arith))
@@ -81,9 +73,7 @@ read-count many n k (b ∷ d ∷ l) e r =
 pub length-listed : (l : List (List ℕ)) → length (listed l) ≡ 3 * countAll l
 unfolding listed countAll
 length-listed [] = refl
-length-listed (b ∷ l) =
-    length-append (entriesIn (countOf b) (drop 4 b)) (listed l)
-    ∙ omega (arith, length-entries-in (countOf b) (drop 4 b), length-listed l)
+length-listed (b ∷ l) = length-append (entriesIn (countOf b) (drop 4 b)) (listed l) ∙ omega (arith, length-entries-in (countOf b) (drop 4 b), length-listed l)
 
 blocks-are : (many n : ℕ) → 1 ≤ many → n ≤ 56 * many → (1 < many → 56 * many < n + 56) → blocksFor n ≡ many
 blocks-are many zero h a b = blocks-none 0 refl ∙ go (decLt 1 many)

@@ -1,11 +1,6 @@
 -- The blocks of folds keep every rule, and the folds that they list are those they were written of. Assumes nothing.
-use mathlib.Core.Path.{_≡_, refl}
-use mathlib.Core.List.{List, [], _∷_}
-use mathlib.Core.Bool.{false}
-use Prim.Native.Nat.{ℕ, zero, suc, _+_, _*_, _-_, _≤_, _<_}
-use native.Mathlib.Omega.{arith}
-use lib.ListN.{length, take, drop, length-take, length-drop, take-append-drop}
-use lib.Seq.{take-at, drop-at}
+use Rattle.lists.proofs.Kit.{_≡_, refl, List, [], _∷_, false, ℕ, zero, suc, _+_, _*_, _≤_, _<_, arith, length, take, drop, length-take, length-drop}
+use Rattle.lists.proofs.Kit.{take-append-drop, take-at, drop-at}
 use Rattle.lists.specs.Lists.{any}
 use Rattle.fold_blocks.specs.Files.{countIn, block, blocks}
 use Rattle.fold_blocks.specs.Listed.{cut, countOf, listed, countAll}
@@ -38,19 +33,16 @@ count-parts l = omega (arith, length-take 168 l, length-drop 168 l)
 pub written-whole : (n k left : ℕ) (l : List ℕ) → any isTorn (cut left (blocks n k left l)) ≡ false
 unfolding any
 written-whole n k zero l = rw (cut-none n k l)
-written-whole n k (suc left) l =
-    rw (cut-blocks n k left l, block-whole n k (take 168 l) (take-most l), written-whole n (k + 1) left (drop 168 l))
+written-whole n k (suc left) l = rw (cut-blocks n k left l, block-whole n k (take 168 l) (take-most l), written-whole n (k + 1) left (drop 168 l))
 
 pub written-count : (n k left : ℕ) (l : List ℕ) → countIn l ≤ 56 * left → countAll (cut left (blocks n k left l)) ≡ countIn l
 unfolding countAll
 written-count n k zero l h = rw (cut-none n k l) (omega arith)
-written-count n k (suc left) l h =
-    rw (
-      cut-blocks n k left l,
-      block-count n k (take 168 l) (take-most l),
-      written-count n (k + 1) left (drop 168 l) (omega (arith, length-drop 168 l)),
-    )
-    (count-parts l)
+written-count n k (suc left) l h = rw (
+  cut-blocks n k left l,
+  block-count n k (take 168 l) (take-most l),
+  written-count n (k + 1) left (drop 168 l) (omega (arith, length-drop 168 l)),
+) (count-parts l)
 
 pub written-listed : (n k left : ℕ) (l : List ℕ) → Small l → countIn l ≤ 56 * left → listed (cut left (blocks n k left l)) ≡ l
 unfolding listed Small
@@ -58,13 +50,11 @@ written-listed n k zero [] s h = rw (cut-none n k [])
 written-listed n k zero (a ∷ []) s h = absurd s
 written-listed n k zero (a ∷ b ∷ []) s h = absurd s
 written-listed n k zero (a ∷ b ∷ c ∷ l) s h = absurd (omega arith)
-written-listed n k (suc left) l s h =
-    rw (
-      cut-blocks n k left l,
-      block-entries n k (take 168 l) (take-most l) (small-take 56 l s),
-      written-listed n (k + 1) left (drop 168 l) (small-drop 56 l s) (omega (arith, length-drop 168 l)),
-    )
-    (take-append-drop 168 l)
+written-listed n k (suc left) l s h = rw (
+  cut-blocks n k left l,
+  block-entries n k (take 168 l) (take-most l) (small-take 56 l s),
+  written-listed n (k + 1) left (drop 168 l) (small-drop 56 l s) (omega (arith, length-drop 168 l)),
+) (take-append-drop 168 l)
 
 -- every block but the last is full, and the last is not empty unless it is the only one
 pub written-kept :

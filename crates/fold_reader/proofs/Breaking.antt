@@ -1,12 +1,6 @@
 -- The rules of a block, one after another, as `layout::breaks` tests them. Assumes nothing.
-use mathlib.Core.Path.{_≡_, refl, ap, sym, _∙_}
-use mathlib.Core.List.{List, [], _∷_}
-use mathlib.Core.Bool.{Bool, true, false, not, _&&_, _||_}
-use Prim.Native.Nat.{ℕ, zero, suc, _+_, _*_, _-_, _≤_, _<_}
-use native.Mathlib.Omega.{arith}
-use lib.Dec.{eqb, ltb}
-use lib.ListN.{length, take, drop}
-use borrow.Author.Tests.{eq-eqb, ne-eqb, lt-ltb, le-ltb}
+use Rattle.lists.proofs.Kit.{_≡_, refl, sym, _∙_, List, [], _∷_, Bool, true, false, not, _&&_, ℕ, zero, suc, _+_, _*_, _-_, _≤_, _<_, arith, take, drop, eqb}
+use Rattle.lists.proofs.Kit.{ltb, eq-eqb, ne-eqb, lt-ltb, le-ltb}
 use Rattle.lists.specs.Lists.{any}
 use Rattle.fold_blocks.specs.Listed.{numberOf, countOf, totalOf}
 use Rattle.fold_blocks.specs.Layout.{isUsed, breaks}
@@ -48,8 +42,7 @@ module _ (many n k : ℕ) (b : List ℕ) where
           breaks-unused u p h =
               rw (eq-eqb (numberOf b) k (sym e ∙ number), le-ltb 56 (countOf b) (omega arith), ← q, full, some, drop-take (4 + 9 * c) 508 b, ← p, h)
 
-          pub breaks-total :
-              (u : Bool) → u ≡ any isUsed (take (508 - (4 + 9 * c)) (drop (4 + 9 * c) b)) → u ≡ false → (y : ℕ) → y ≡ totalOf b →
+          pub breaks-total : (u : Bool) → u ≡ any isUsed (take (508 - (4 + 9 * c)) (drop (4 + 9 * c) b)) → u ≡ false → (y : ℕ) → y ≡ totalOf b →
               not (eqb y n) ≡ breaks many n k b
           unfolding breaks
           breaks-total u p h y r =

@@ -1,11 +1,6 @@
 -- Entry by entry, as the reader takes them. Assumes nothing.
-use mathlib.Core.Path.{_≡_, refl, ap, sym, subst, _∙_}
-use mathlib.Core.Bool.{false}
-use mathlib.Core.List.{List, [], _∷_, _++_}
-use Prim.Native.Nat.{ℕ, zero, suc, _+_, _*_, _-_, _/_, _≤_, _<_}
-use native.Mathlib.Omega.{arith}
-use lib.ListN.{length, getD, drop}
-use lib.Seq.{drop-drop, getD-drop}
+use Rattle.lists.proofs.Kit.{_≡_, refl, ap, sym, subst, _∙_, List, [], _∷_, _++_, false, ℕ, suc, _+_, _*_, _-_, _/_, _≤_, _<_, arith, length, getD, drop}
+use Rattle.lists.proofs.Kit.{drop-drop, getD-drop}
 use Rattle.print.specs.Print.{Wrote}
 use Rattle.fold_blocks.specs.Bytes.{twoAt, fourAt, entryAt, entriesIn}
 use Rattle.fold_blocks.specs.Listed.{blocksOf, foldsIn, listed, countAll}
@@ -24,9 +19,7 @@ taking-start b count out at = let all : count - 0 ≡ count = omega arith in rw 
 entry-at : (b : List ℕ) (i : ℕ) → entryAt (drop i b) 0 ≡ entryAt b i
 entry-at b i = entry-by b i (i + 4) (i + 8) refl refl
   where
-    entry-by :
-        (b : List ℕ) (i j k : ℕ) → j ≡ i + 4 → k ≡ i + 8 →
-        entryAt (drop i b) 0 ≡ fourAt b i ∷ fourAt b j ∷ getD b k 0 ∷ []
+    entry-by : (b : List ℕ) (i j k : ℕ) → j ≡ i + 4 → k ≡ i + 8 → entryAt (drop i b) 0 ≡ fourAt b i ∷ fourAt b j ∷ getD b k 0 ∷ []
     entry-by b i j k p q =
         let none : i + 0 ≡ i = omega arith in
         let five : i + 5 ≡ j + 1 = omega arith in
@@ -79,8 +72,7 @@ taking-begun f room e =
 module _ {f room out : List ℕ} {next k : ℕ} (w : Taking f room out next k) (h : k < length f / 512) where
   first : Keeps (length f / 512) (countAll (blocksOf f)) k (blockAt f (512 * k)) ×
       (broken (length f / 512) (countAll (blocksOf f)) (k + 1) (cutFrom f (length f / 512) (k + 1)) ≡ false)
-  first =
-      broken-first (length f / 512) (countAll (blocksOf f)) k (blockAt f (512 * k)) (cutFrom f (length f / 512) (k + 1))
+  first = broken-first (length f / 512) (countAll (blocksOf f)) k (blockAt f (512 * k)) (cutFrom f (length f / 512) (k + 1))
       (rw (cut-on f (length f / 512) k h) at (w .laid))
 
   pub taking-few : twoAt f (512 * k + 2) ≤ 56
@@ -95,16 +87,14 @@ module _ {f room out : List ℕ} {next k : ℕ} (w : Taking f room out next k) (
         length-entries-in (twoAt f (512 * k + 2)) (drop 4 (blockAt f (512 * k))),
       )
 
-  pub taking-on :
-      (count : ℕ) → count ≡ twoAt f (512 * k + 2) → {c : ℕ} {p : List ℕ} → Wrote out next (entriesIn count (drop 4 (blockAt f (512 * k)))) c p →
+  pub taking-on : (count : ℕ) → count ≡ twoAt f (512 * k + 2) → {c : ℕ} {p : List ℕ} → Wrote out next (entriesIn count (drop 4 (blockAt f (512 * k)))) c p →
       Taking f room p c (k + 1)
   taking-on count e {c} {p} v =
       let part = drop 4 (blockAt f (512 * k)) in
       record {
         most = omega arith;
         laid = first .1;
-        toward =
-            toward-on (entriesIn (twoAt f (512 * k + 2)) part) (listed (cutFrom f (length f / 512) (k + 1))) (w .toward) (listed-on f (length f / 512) k h)
+        toward = toward-on (entriesIn (twoAt f (512 * k + 2)) part) (listed (cutFrom f (length f / 512) (k + 1))) (w .toward) (listed-on f (length f / 512) k h)
             (subst (λ (m : ℕ). Wrote out next (entriesIn m part) c p) e v);
       }
 

@@ -1,6 +1,7 @@
 -- What reading a fold file answers and leaves: 1 to 3 of the text, 18 to 20 of the file, 5 of its folds over the text, 14 of the room. Document 02, #111.
 -- Definitions only; the laws are in `proofs/Reads.antt`. Assumes nothing.
-use Prim.Native.Nat.{ℕ, _/_}
+use mathlib.Core.Path.{_≡_}
+use Prim.Native.Nat.{ℕ}
 use mathlib.Core.List.{List, [], _∷_, _++_}
 use mathlib.Core.Bool.{cond}
 use lib.Dec.{eqb}
@@ -27,3 +28,8 @@ loaded t f room = let n = readRefusal t f room in cond (eqb n 0) (Folds (countIn
 -- what is left in the room: the folds at its start, or what it held
 unfoldable pub loadedIn : List ℕ → List ℕ → List ℕ → List ℕ
 loadedIn t f folds = cond (eqb (readRefusal t f (length folds)) 0) (foldsIn f ++ drop (length (foldsIn f)) folds) folds
+
+-- r is the answer, and what the room holds then
+pub record LoadsTo (t f folds : List ℕ) (r : Loaded) (folds′ : List ℕ) : Type 0 where
+  pub answer : r ≡ loaded t f (length folds)
+  pub left : folds′ ≡ loadedIn t f folds

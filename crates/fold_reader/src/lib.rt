@@ -5,9 +5,7 @@ mod layout;
 
 use entries::take_all;
 use layout::layout_refusal;
-ghost use mathlib.Core.Path.{_≡_};
-ghost use lib.ListN.{length};
-ghost use Rattle.fold_reader.specs.Reading.{loaded, loadedIn};
+ghost use Rattle.fold_reader.specs.Reading.{LoadsTo};
 
 // The answer of the reader: how many folds it wrote, or the number that it refuses with.
 pub enum Loaded {
@@ -20,10 +18,8 @@ pub enum Loaded {
 // layout broken (20), folds that the text refuses (5) and then too little room (14); nothing is
 // written then.
 pub fn read_folds(text: &[u32], file: &[u8], folds: &mut [u32]) -> Loaded
-    ensures { λ r. ⌜ r ≡ loaded (now (text .entry)) (now (file .entry))
-        (length (now (folds .entry))) ⌝ }
-    ensures { λ _. ⌜ now (folds .exit) ≡ loadedIn (now (text .entry)) (now (file .entry))
-        (now (folds .entry)) ⌝ }
+    ensures { λ r. ⌜ LoadsTo (now (text .entry)) (now (file .entry)) (now (folds .entry)) r
+        (now (folds .exit)) ⌝ }
 {
     let f = text_check::text_refusal(text);
     if f != 0 {

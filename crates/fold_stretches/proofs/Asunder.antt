@@ -1,12 +1,6 @@
 -- Stretches of rows at which there is no closed fold: how one is found. Assumes nothing.
-use mathlib.Core.Path.{_≡_, refl, _∙_}
-use mathlib.Core.List.{List}
-use mathlib.Core.Bool.{Bool, true, false, and-false}
-use Prim.Native.Nat.{ℕ, _+_, _≤_, _<_}
-use native.Mathlib.Omega.{arith}
-use lib.Dec.{eqb, ltb}
-use lib.ListN.{length, getD, drop}
-use borrow.Author.Tests.{ne-eqb, le-ltb, lt-leb, ltb-true}
+use Rattle.lists.proofs.Kit.{_≡_, refl, _∙_, List, Bool, true, false, and-false, ℕ, _+_, _≤_, _<_, arith, length, getD, drop, eqb, ltb, ne-eqb, le-ltb, lt-leb}
+use Rattle.lists.proofs.Kit.{ltb-true}
 use Rattle.folds.specs.Folds.{anyFold, foldHides, hidden}
 use Rattle.folds.proofs.Hiding.{any-fold-on, any-fold-end}
 use Rattle.fold_stretches.specs.declared.Stretch.{Stretch}
@@ -46,12 +40,10 @@ pub record NoFoldTo (folds : List ℕ) (w : Stretch) (i : ℕ) : Type 0 where
   pub shown : (row : ℕ) → w .lo ≤ row → row ≤ w .hi → hidden folds row ≡ anyFold (foldHides row) (drop i folds)
 
 module _ {folds : List ℕ} {w : Stretch} {i : ℕ} (so-far : NoFoldTo folds w i) where
-  pub no-fold-step :
-      {r : Stretch} → i + 2 < length folds → Apart w (getD folds i 0) (getD folds (i + 1) 0) (getD folds (i + 2) 0) r → NoFoldTo folds r (i + 3)
+  pub no-fold-step : {r : Stretch} → i + 2 < length folds → Apart w (getD folds i 0) (getD folds (i + 1) 0) (getD folds (i + 2) 0) r → NoFoldTo folds r (i + 3)
   no-fold-step h a =
       record {
-        shown = λ row p q. so-far .shown row (omega (arith, a .low)) (omega (arith, a .high)) ∙
-            any-fold-on folds i h (foldHides row) ∙ rw (a .shown row p q);
+        shown = λ row p q. so-far .shown row (omega (arith, a .low)) (omega (arith, a .high)) ∙ any-fold-on folds i h (foldHides row) ∙ rw (a .shown row p q);
       }
 
   pub no-fold-end : length folds ≤ i + 2 → NoFold folds w

@@ -1,11 +1,5 @@
 -- At a row of a stretch there is no closed fold. Assumes nothing.
-use mathlib.Core.Path.{_≡_, refl}
-use mathlib.Core.List.{List, []}
-use mathlib.Core.Bool.{true, _&&_}
-use Prim.Native.Nat.{ℕ, _+_}
-use native.Mathlib.Omega.{arith}
-use lib.Dec.{ltb, leb}
-use borrow.Author.Tests.{ltb-true, leb-true}
+use Rattle.lists.proofs.Kit.{_≡_, refl, List, [], true, _&&_, ℕ, _+_, arith, ltb, leb, ltb-true, leb-true}
 use Rattle.lists.proofs.Both.{both}
 use Rattle.folds.specs.Folds.{anyFold, closedFoldAt}
 use Rattle.folds.specs.declared.Span.the-variants.{NoSpan}
@@ -13,8 +7,7 @@ use Rattle.fold_stretches.specs.declared.Stretch.{Stretch}
 use Rattle.fold_stretches.specs.Stretches.{NoFold}
 
 module _ (rows content row : ℕ) where
-  pub no-span : {folds : List ℕ} {w : Stretch} → NoFold folds w → (leb (w .lo) row && ltb row (w .hi)) ≡ true →
-      closedFoldAt folds rows content row ≡ NoSpan
+  pub no-span : {folds : List ℕ} {w : Stretch} → NoFold folds w → (leb (w .lo) row && ltb row (w .hi)) ≡ true → closedFoldAt folds rows content row ≡ NoSpan
   no-span {folds} {w} b h =
       let by-both = both (leb (w .lo) row) (ltb row (w .hi)) h in
       let by-leb-true = leb-true (w .lo) row (by-both .0) in

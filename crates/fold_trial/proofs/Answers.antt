@@ -1,12 +1,6 @@
 -- What is printed, by the answers of the writer and of the reader. Assumes nothing.
-use mathlib.Core.Path.{_≡_, refl, ap, sym, _∙_}
-use mathlib.Core.List.{List, _++_}
-use mathlib.Core.Bool.{Bool, true, false, cond}
-use Prim.Native.Nat.{ℕ, _+_, _*_, _/_, _≤_}
-use native.Mathlib.Omega.{arith}
-use lib.Dec.{eqb}
-use lib.ListN.{length, take, drop, length-append}
-use lib.Seq.{take-at, length-take-le}
+use Rattle.lists.proofs.Kit.{_≡_, refl, ap, sym, _∙_, List, _++_, Bool, true, false, cond, ℕ, _*_, _/_, _≤_, arith, length, take, drop, length-append, take-at}
+use Rattle.lists.proofs.Kit.{length-take-le, eqb}
 use Rattle.text.specs.Text.{rowCount}
 use Rattle.fold_blocks.specs.Files.{fileOf}
 use Rattle.fold_blocks.specs.Listed.{foldsIn}
@@ -24,8 +18,7 @@ module _ (t folds out : List ℕ) (size : length out ≡ 8450) where
   unfolding written writtenIn byWritten
   stored-bytes n out′ e l = go (eqb (writeRefusal t folds (length out)) 0) refl e l
     where
-      go :
-          (b : Bool) → eqb (writeRefusal t folds (length out)) 0 ≡ b →
+      go : (b : Bool) → eqb (writeRefusal t folds (length out)) 0 ≡ b →
           cond b (Bytes (length (fileOf folds))) (Refused (writeRefusal t folds (length out))) ≡ Bytes n →
           out′ ≡ cond b (fileOf folds ++ drop (length (fileOf folds)) out) out → Prints (fileShown t folds) n out′
       go true p f k =
@@ -39,8 +32,7 @@ module _ (t folds out : List ℕ) (size : length out ≡ 8450) where
   unfolding written writtenIn
   stored-kept f e = go (eqb (writeRefusal t folds (length out)) 0) e
     where
-      go :
-          (b : Bool) → cond b (Bytes (length (fileOf folds))) (Refused (writeRefusal t folds (length out))) ≡ Refused f →
+      go : (b : Bool) → cond b (Bytes (length (fileOf folds))) (Refused (writeRefusal t folds (length out))) ≡ Refused f →
           cond b (fileOf folds ++ drop (length (fileOf folds)) out) out ≡ out
       go true q = let never : _≡_ {A = ℕ} 0 1 = cc in absurd (omega arith)
       go false q = refl
@@ -58,15 +50,13 @@ module _ (t f folds : List ℕ) (size : length folds ≡ 768) where
       let size-is : length (foldsIn f) ≡ 3 * n = omega (arith, by-loaded-accepted .size, folds-whole (foldsIn f) (rowCount t) (by-loaded-accepted .taken)) in
       go (eqb (readRefusal t f (length folds)) 0) e l size-is
     where
-      go :
-          (b : Bool) → cond b (Folds (length (foldsIn f) / 3)) (Loaded·Refused (readRefusal t f (length folds))) ≡ Folds n →
+      go : (b : Bool) → cond b (Folds (length (foldsIn f) / 3)) (Loaded·Refused (readRefusal t f (length folds))) ≡ Folds n →
           folds′ ≡ cond b (foldsIn f ++ drop (length (foldsIn f)) folds) folds → length (foldsIn f) ≡ 3 * n → take (3 * n) folds′ ≡ foldsIn f
       go true q k m = ap (take (3 * n)) k ∙ take-at (foldsIn f) (drop (length (foldsIn f)) folds) (3 * n) m
       go false q k m = let never : _≡_ {A = ℕ} 0 1 = cc in absurd (omega arith)
 
   -- that many numbers are shown
-  pub loaded-counts :
-      (n : ℕ) (folds′ : List ℕ) → loaded t f (length folds) ≡ Folds n → folds′ ≡ loadedIn t f folds → 3 * n ≡ length (take (3 * n) folds′)
+  pub loaded-counts : (n : ℕ) (folds′ : List ℕ) → loaded t f (length folds) ≡ Folds n → folds′ ≡ loadedIn t f folds → 3 * n ≡ length (take (3 * n) folds′)
   loaded-counts n folds′ e l =
       let by-loaded-accepted = loaded-accepted t f (length folds) n e in
       omega (arith, ap length (loaded-front n folds′ e l), by-loaded-accepted .size, folds-whole (foldsIn f) (rowCount t) (by-loaded-accepted .taken))

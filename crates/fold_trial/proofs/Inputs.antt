@@ -1,13 +1,6 @@
 -- What an input prints, by the check of its text and by its first row. Assumes nothing.
-use mathlib.Core.Path.{_≡_, _∙_}
-use mathlib.Core.List.{List, [], _∷_}
-use mathlib.Core.Bool.{Bool, true, false, cond}
-use Prim.Native.Nat.{ℕ, suc, _+_, _-_, _≤_, _<_}
-use native.Mathlib.Omega.{arith}
-use lib.Dec.{eqb}
-use lib.ListN.{length, getD, take, drop, length-drop}
-use lib.Seq.{take-all}
-use borrow.Author.Tests.{lt-ltb, le-ltb, le-leb, lt-leb, eq-eqb, ne-eqb}
+use Rattle.lists.proofs.Kit.{_≡_, _∙_, List, [], _∷_, Bool, true, false, cond, ℕ, suc, _+_, _-_, _≤_, _<_, arith, length, getD, take, drop, length-drop}
+use Rattle.lists.proofs.Kit.{take-all, eqb, lt-ltb, le-ltb, le-leb, lt-leb, eq-eqb, ne-eqb}
 use Rattle.utf8.specs.Decoding.{decoding}
 use Rattle.utf8.specs.Walks.{pointsOf}
 use Rattle.session_input.specs.Parts.{isBad}

@@ -1,11 +1,7 @@
 -- Laws of the rows that are printed: their lengths, the numbers of folds one after another, and that what was written is what is printed.
 -- Assumes nothing.
-use mathlib.Core.Path.{_≡_, ap, sym}
-use mathlib.Core.List.{List, [], _∷_, _++_, append-assoc}
-use Prim.Native.Nat.{ℕ, _+_, _*_, _≤_, _<_}
-use native.Mathlib.Omega.{arith}
-use lib.ListN.{length, getD, drop, length-append, drop-of-length-le}
-use lib.Seq.{length-take-le}
+use Rattle.lists.proofs.Kit.{_≡_, ap, sym, List, [], _∷_, _++_, append-assoc, ℕ, _+_, _*_, _≤_, _<_, arith, length, getD, drop, length-append}
+use Rattle.lists.proofs.Kit.{drop-of-length-le, length-take-le}
 use Rattle.lists.specs.Codes.{codes}
 use Rattle.lists.proofs.Lists.{drop-at}
 use Rattle.print.specs.Print.{Wrote, decimal}
@@ -17,8 +13,7 @@ use Rattle.fold_trial.specs.Runs.{unread, refusalRow, spaced, foldRow, P
 module _ (l : List ℕ) (i : ℕ) where
   pub spaced-at : i < length l → spaced (drop i l) ++ (10 ∷ []) ≡ (32 ∷ decimal (getD l i 0)) ++ (spaced (drop (i + 1) l) ++ (10 ∷ []))
   unfolding spaced
-  spaced-at h =
-      rw (drop-at l i h) (ap (λ (s : List ℕ). 32 ∷ s) (append-assoc (decimal (getD l i 0)) (spaced (drop (i + 1) l)) (10 ∷ [])))
+  spaced-at h = rw (drop-at l i h) (ap (λ (s : List ℕ). 32 ∷ s) (append-assoc (decimal (getD l i 0)) (spaced (drop (i + 1) l)) (10 ∷ [])))
 
   pub spaced-end : length l ≤ i → spaced (drop i l) ++ (10 ∷ []) ≡ 10 ∷ []
   unfolding spaced

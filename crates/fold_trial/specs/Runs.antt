@@ -1,5 +1,5 @@
--- What an input prints, by what the writer and the reader of fold files say. Document 02, #111. What the contracts of `fold_trial` cite.
--- Definitions only; the laws are in `proofs/`. Assumes nothing.
+-- What an input prints, by what the writer and the reader of fold files say. Document 02, #111. What the contracts of `fold_trial` cite. Definitions
+-- only; the laws are in `proofs/`. Long by what an input may be: a clause for each. Assumes nothing.
 use Prim.Native.Nat.{ℕ, _≤_}
 use mathlib.Core.Path.{_≡_}
 use mathlib.Core.List.{List, [], _∷_, _++_}

@@ -4,6 +4,7 @@ mod runs;
 use libc::STDIN_FILENO;
 use libc::STDOUT_FILENO;
 
+// From standard input to standard output.
 fn main() {
     // One byte more than an input may have, so that one that is too long is seen.
     let mut input = [0u8; 32769];

@@ -1,13 +1,6 @@
 -- What the writer answers and leaves, by each refusal and by the file. Assumes nothing.
-use mathlib.Core.Path.{_≡_, refl, sym, _∙_}
-use mathlib.Core.List.{List, _++_}
-use mathlib.Core.Bool.{Bool, true, false, cond, not, _||_}
-use Prim.Native.Nat.{ℕ, _+_, _/_, _%_, _≤_, _<_}
-use native.Mathlib.Omega.{arith}
-use lib.Dec.{eqb, ltb}
-use lib.ListN.{length, drop}
-use lib.Seq.{sets, sets-eq}
-use borrow.Author.Tests.{le-leb, lt-leb, ne-eqb, eqb-true, ltb-false}
+use Rattle.lists.proofs.Kit.{_≡_, refl, _∙_, List, Bool, true, false, cond, not, _||_, ℕ, _+_, _/_, _%_, _≤_, _<_, arith, length, sets-eq, eqb, ltb, le-leb}
+use Rattle.lists.proofs.Kit.{lt-leb, ne-eqb, eqb-true, ltb-false}
 use Rattle.print.specs.Print.{Wrote}
 use Rattle.text_check.specs.Accept.{textRefusal}
 use Rattle.text.specs.Text.{rowCount}
@@ -16,15 +9,14 @@ use Rattle.folds.specs.Folds.{foldRefusal, anyFold, badFold}
 use Rattle.fold_blocks.specs.Files.{fileOf}
 use Rattle.fold_blocks.specs.Layout.{roomRefusal}
 use Rattle.fold_writer.specs.declared.Written.the-variants.{Bytes, Refused}
-use Rattle.fold_writer.specs.Writing.{writeRefusal, written, writtenIn}
+use Rattle.fold_writer.specs.Writing.{writeRefusal, written, writtenIn, WritesTo}
 
 -- folds that are taken are at most 256, three numbers each
 folds-taken : (folds : List ℕ) (rows : ℕ) → foldRefusal folds rows ≡ 0 → (length folds % 3 ≡ 0) × (length folds / 3 ≤ 256)
 unfolding foldRefusal
 folds-taken folds rows e = go (eqb (length folds % 3) 0) (ltb 256 (length folds / 3)) (anyFold (badFold rows) folds) refl refl e
   where
-    go :
-        (a b d : Bool) → eqb (length folds % 3) 0 ≡ a → ltb 256 (length folds / 3) ≡ b → _≡_ {A = ℕ} (cond (not a || (b || d)) 5 0) 0 →
+    go : (a b d : Bool) → eqb (length folds % 3) 0 ≡ a → ltb 256 (length folds / 3) ≡ b → _≡_ {A = ℕ} (cond (not a || (b || d)) 5 0) 0 →
         (length folds % 3 ≡ 0) × (length folds / 3 ≤ 256)
     go false b d p q h = absurd (omega arith)
     go true true d p q h = absurd (omega arith)
@@ -37,25 +29,21 @@ pub folds-whole : (folds : List ℕ) (rows : ℕ) → foldRefusal folds rows ≡
 folds-whole folds rows e = folds-taken folds rows e .0
 
 module _ (t folds file : List ℕ) where
-  refused-with :
-      (f : ℕ) → writeRefusal t folds (length file) ≡ f → (f ≡ 0 → ⊥) → (Refused f ≡ written t folds (length file)) × (file ≡ writtenIn t folds file)
+  refused-with : (f : ℕ) → writeRefusal t folds (length file) ≡ f → (f ≡ 0 → ⊥) → WritesTo t folds file (Refused f) file
   unfolding written writtenIn
-  refused-with f e n = (rw (e, ne-eqb f 0 n), rw (e, ne-eqb f 0 n))
+  refused-with f e n = record { answer = rw (e, ne-eqb f 0 n); left = rw (e, ne-eqb f 0 n) }
 
-  pub write-text :
-      (f : ℕ) → f ≡ textRefusal t → (f ≡ 0 → ⊥) → (Refused f ≡ written t folds (length file)) × (file ≡ writtenIn t folds file)
+  pub write-text : (f : ℕ) → f ≡ textRefusal t → (f ≡ 0 → ⊥) → WritesTo t folds file (Refused f) file
   unfolding writeRefusal firstOf
   write-text f e n = refused-with f (rw (← e, ne-eqb f 0 n)) n
 
   module _ (good : 0 ≡ textRefusal t) where
-    pub write-folds :
-        (f : ℕ) → f ≡ foldRefusal folds (rowCount t) → (f ≡ 0 → ⊥) → (Refused f ≡ written t folds (length file)) × (file ≡ writtenIn t folds file)
+    pub write-folds : (f : ℕ) → f ≡ foldRefusal folds (rowCount t) → (f ≡ 0 → ⊥) → WritesTo t folds file (Refused f) file
     unfolding writeRefusal firstOf
     write-folds f e n = refused-with f (rw (← good, ← e, ne-eqb f 0 n)) n
 
     module _ (taken : 0 ≡ foldRefusal folds (rowCount t)) where
-      pub write-short :
-          length file < length (fileOf folds) → (Refused 14 ≡ written t folds (length file)) × (file ≡ writtenIn t folds file)
+      pub write-short : length file < length (fileOf folds) → WritesTo t folds file (Refused 14) file
       unfolding writeRefusal firstOf roomRefusal
       write-short h = refused-with 14 (rw (← good, ← taken, lt-leb (length (fileOf folds)) (length file) h)) (λ z. omega arith)
 
@@ -63,10 +51,9 @@ module _ (t folds file : List ℕ) where
       unfolding writeRefusal firstOf roomRefusal
       none h = rw (← good, ← taken, le-leb (length (fileOf folds)) (length file) h)
 
-      pub write-file :
-          (n r : ℕ) (left : List ℕ) → n ≡ length (fileOf folds) → length (fileOf folds) ≤ length file → Wrote file 0 (fileOf folds) r left →
-          (Bytes n ≡ written t folds (length file)) × (left ≡ writtenIn t folds file)
+      pub write-file : (n r : ℕ) (left : List ℕ) → n ≡ length (fileOf folds) → length (fileOf folds) ≤ length file → Wrote file 0 (fileOf folds) r left →
+          WritesTo t folds file (Bytes n) left
       unfolding written writtenIn
       write-file n r left e h w =
           let at : 0 + length (fileOf folds) ≡ length (fileOf folds) = omega arith in
-          (rw (none h, e), rw (none h) (w .left ∙ sets-eq (fileOf folds) file 0 (omega arith) ∙ rw at))
+          record { answer = rw (none h, e); left = rw (none h) (w .left ∙ sets-eq (fileOf folds) file 0 (omega arith) ∙ rw at) }

@@ -1,9 +1,5 @@
 -- One block after another: how far the writing has come. Assumes nothing.
-use mathlib.Core.Path.{_≡_, refl, _∙_}
-use mathlib.Core.List.{List, [], _++_}
-use Prim.Native.Nat.{ℕ, zero, suc, _+_, _*_, _-_, _≤_, _<_}
-use native.Mathlib.Omega.{arith}
-use lib.ListN.{length, take, drop, length-take}
+use Rattle.lists.proofs.Kit.{_≡_, _∙_, List, [], _++_, ℕ, zero, suc, _+_, _-_, _≤_, _<_, arith, length, take, drop, length-take}
 use Rattle.print.specs.Print.{Wrote}
 use Rattle.fold_blocks.specs.Files.{countIn, blocksFor, block, blocks, fileOf}
 use Rattle.fold_blocks.proofs.Files.{length-blocks}
@@ -36,8 +32,7 @@ module _ {room folds out : List ℕ} {many at from k : ℕ} (w : Laying room fol
   pub laying-room : k < many → length (fileOf folds) ≤ length room → at + 512 ≤ length out
   laying-room h r = omega (arith, w .toward .total, w .toward .size, length-blocks (countIn folds) k (many - k) (drop from folds))
 
-  pub laying-on :
-      k < many → {to : ℕ} {p : List ℕ} {c : ℕ} → Ends from (length folds) to →
+  pub laying-on : k < many → {to : ℕ} {p : List ℕ} {c : ℕ} → Ends from (length folds) to →
       Wrote out at (block (countIn folds) k (take (to - from) (drop from folds))) c p → Laying room folds many p c to (k + 1)
   laying-on h {to} {p} {c} e v =
       let n = countIn folds in

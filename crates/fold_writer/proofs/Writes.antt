@@ -1,12 +1,7 @@
 -- Laws of what the writer lays down: zeros, the bytes that a sum is taken of, and the folds of a block. Assumes nothing.
-use mathlib.Core.Path.{_≡_, refl, ap, sym, subst, _∙_}
-use mathlib.Core.List.{List, [], _∷_, _++_, append-assoc}
-use Prim.Native.Nat.{ℕ, zero, suc, _+_, _*_, _-_, _%_, _≤_, _<_}
-use native.Mathlib.Numerals.{add-one}
-use native.Mathlib.Decide.{decLt}
-use native.Mathlib.Omega.{arith}
-use lib.ListN.{length, take, drop, set, replicate, length-replicate, replicate-append-replicate, length-set, length-drop, length-take, drop-of-length-le}
-use lib.Seq.{sets, sets-eq, take-at, drop-at, take-all, drop-drop, length-take-le}
+use Rattle.lists.proofs.Kit.{_≡_, refl, sym, subst, _∙_, List, [], _∷_, _++_, append-assoc, ℕ, _+_, _*_, _-_, _%_, _≤_, _<_, decLt, arith, length, take, drop}
+use Rattle.lists.proofs.Kit.{set, replicate, length-replicate, replicate-append-replicate, length-set, length-drop, drop-of-length-le, sets-eq, take-at}
+use Rattle.lists.proofs.Kit.{drop-at, take-all, drop-drop, length-take-le}
 use Rattle.print.specs.Print.{Wrote}
 use Rattle.print.proofs.Laws.{wrote-then}
 use Rattle.fold_blocks.specs.Bytes.{two, sum}
@@ -40,8 +35,7 @@ pub length-zeros : (folds : List ℕ) → length (replicate {A = ℕ} (504 - 9 *
 length-zeros folds = length-replicate _ _
 
 -- a block with its sum
-pub wrote-block :
-    (n k : ℕ) (folds : List ℕ) (x : ℕ) {out o p : List ℕ} {at b c : ℕ} → Wrote out at (body n k folds) b o → x ≡ sum (body n k folds) →
+pub wrote-block : (n k : ℕ) (folds : List ℕ) (x : ℕ) {out o p : List ℕ} {at b c : ℕ} → Wrote out at (body n k folds) b o → x ≡ sum (body n k folds) →
     Wrote o b (two (x % 65536)) c p → Wrote out at (block n k folds) c p
 unfolding block
 wrote-block n k folds x {out} {o} {p} {at} {b} {c} w e v = wrote-then w (subst (λ (y : ℕ). Wrote o b (two (y % 65536)) c p) e v)
@@ -52,8 +46,7 @@ module _ (l : List ℕ) (from to : ℕ) (w : Ends from (length l) to) where
   ends-part = go (decLt to (from + 168))
     where
       go : Dec (to < from + 168) → take (to - from) (drop from l) ≡ take 168 (drop from l)
-      go (yes h) =
-          take-all (to - from) (drop from l) (omega (arith, length-drop from l, w .all h, w .after))
+      go (yes h) = take-all (to - from) (drop from l) (omega (arith, length-drop from l, w .all h, w .after))
           ∙ sym (take-all 168 (drop from l) (omega (arith, length-drop from l, w .all h, w .after)))
       go (no h) = let difference-is : to - from ≡ 168 = omega (arith, w .most) in rw difference-is
 

@@ -29,6 +29,11 @@ unfoldable pub writtenIn : List ℕ → List ℕ → List ℕ → List ℕ
 writtenIn t folds file =
     cond (eqb (writeRefusal t folds (length file)) 0) (fileOf folds ++ drop (length (fileOf folds)) file) file
 
+-- r is the answer, and what the room holds then
+pub record WritesTo (t folds file : List ℕ) (r : Written) (file′ : List ℕ) : Type 0 where
+  pub answer : r ≡ written t folds (length file)
+  pub left : file′ ≡ writtenIn t folds file
+
 -- r is where the folds of a block end that begin at an index: 56 of them, or as far as they go
 pub record Ends (from len r : ℕ) : Type 0 where
   pub after : from ≤ r

@@ -6,7 +6,7 @@ ghost use lib.ListN.{length, replicate};
 ghost use Rattle.print.specs.Print.{Wrote};
 ghost use Rattle.fold_blocks.specs.Bytes.{entries};
 ghost use Rattle.fold_blocks.specs.Files.{body, block, blocksFor, countIn, fileOf};
-ghost use Rattle.fold_writer.specs.Writing.{Ends, written, writtenIn};
+ghost use Rattle.fold_writer.specs.Writing.{Ends, WritesTo};
 
 // The answer of the writer: how many bytes it wrote, or the number that it refuses with.
 pub enum Written {
@@ -113,10 +113,8 @@ fn put_blocks(out: &mut [u8], folds: &[u32]) -> usize
 // Writes the file of folds over a text at the start of `file`. Refused are the text (1 to 3), the
 // folds (5) and then too little room (14); nothing is written then.
 pub fn write_folds(text: &[u32], folds: &[u32], file: &mut [u8]) -> Written
-    ensures { λ r. ⌜ r ≡ written (now (text .entry)) (now (folds .entry))
-        (length (now (file .entry))) ⌝ }
-    ensures { λ _. ⌜ now (file .exit) ≡ writtenIn (now (text .entry)) (now (folds .entry))
-        (now (file .entry)) ⌝ }
+    ensures { λ r. ⌜ WritesTo (now (text .entry)) (now (folds .entry)) (now (file .entry)) r
+        (now (file .exit)) ⌝ }
 {
     let f = text_check::text_refusal(text);
     if f != 0 {

@@ -1,13 +1,7 @@
 -- Laws of folds: a loop over them three numbers at a time, and what the first fold that hides a row says.
 -- Assumes nothing.
-use mathlib.Core.Path.{_≡_, refl}
-use mathlib.Core.List.{List, [], _∷_}
-use mathlib.Core.Bool.{Bool, true, false, cond, _&&_, _||_, or-true}
-use Prim.Native.Nat.{ℕ, _+_, _≤_, _<_}
-use native.Mathlib.Omega.{arith}
-use lib.Dec.{eqb, ltb, leb}
-use lib.ListN.{length, getD, drop, length-drop}
-use borrow.Author.Tests.{ltb-true, leb-true, leb-false, lt-ltb, le-leb}
+use Rattle.lists.proofs.Kit.{_≡_, refl, List, [], _∷_, Bool, true, false, cond, _&&_, _||_, or-true, ℕ, _+_, _≤_, _<_, arith, length, getD, drop, length-drop}
+use Rattle.lists.proofs.Kit.{eqb, ltb, leb, ltb-true, leb-true, leb-false, lt-ltb, le-leb}
 use Rattle.folds.specs.Folds.{anyFold, badFold, foldHides, hidden}
 use Rattle.folds.specs.Cover.{coverOf}
 use Rattle.folds.specs.declared.Span.{Span}
@@ -93,5 +87,4 @@ cover-covers (s ∷ e ∷ k ∷ folds) row = go (foldHides row s e k) refl (cove
           λ rows g. leb-false rows e (or-left _ (ltb 1 k) (or-right (ltb e s) _ (or-left _ (anyFold (badFold rows) folds) g))),
         )
     go false h NoSpan ih = rw (h, ih)
-    go false h (Of a b) ih =
-        (ih .0, ih .1, (λ x l m. rw (ih .2 x l m, or-true)), λ rows g. ih .3 rows (or-right (badFold rows s e k) _ g))
+    go false h (Of a b) ih = (ih .0, ih .1, (λ x l m. rw (ih .2 x l m, or-true)), λ rows g. ih .3 rows (or-right (badFold rows s e k) _ g))

@@ -1,13 +1,7 @@
 -- Going from visible row to visible row past whole folds, as the loops of `src/folds.rt` do.
 -- Assumes nothing.
-use mathlib.Core.Path.{_≡_, refl, _∙_}
-use mathlib.Core.List.{List}
-use mathlib.Core.Bool.{Bool, true, false, cond, not, _||_}
-use Prim.Native.Nat.{ℕ, zero, suc, _+_, _-_, _≤_, _<_, _/_, _%_}
-use native.Mathlib.Nat.{add-zero, zero-add}
-use native.Mathlib.Omega.{arith}
-use lib.Dec.{eqb, ltb}
-use lib.ListN.{length}
+use Rattle.lists.proofs.Kit.{_≡_, refl, _∙_, List, Bool, true, false, cond, not, _||_, ℕ, zero, suc, _+_, _-_, _≤_, _<_, _/_, _%_, add-zero, zero-add, arith}
+use Rattle.lists.proofs.Kit.{length, eqb, ltb}
 use Rattle.folds.specs.Folds.{anyFold, badFold, foldRefusal, hidden, visibleFrom, prevVisible}
 use Rattle.folds.specs.Cover.{coverOf}
 use Rattle.folds.specs.declared.Span.{Span}

@@ -3,4 +3,5 @@ pub mod Pairs
 pub mod Single
 pub mod Running
 pub mod Spots
+pub mod Late
 pub mod Calling

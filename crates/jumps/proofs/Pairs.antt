@@ -1,12 +1,5 @@
 -- The list of jumps, pair by pair: what its check leaves known. Assumes nothing.
-use mathlib.Core.Path.{_≡_, refl, ap, sym, _∙_}
-use mathlib.Core.List.{List, [], _∷_}
-use Prim.Native.Nat.{ℕ, zero, suc, _+_, _≤_, _<_}
-use native.Mathlib.Nat.{add-assoc}
-use native.Mathlib.Omega.{arith}
-use lib.Dec.{ltb}
-use lib.ListN.{length, getD, drop, drop-of-length-le}
-use borrow.Author.Tests.{lt-ltb, le-ltb}
+use Rattle.lists.proofs.Kit.{_≡_, ap, _∙_, List, [], _∷_, ℕ, _+_, _≤_, _<_, arith, length, getD, drop, drop-of-length-le, lt-ltb, le-ltb}
 use Rattle.lists.proofs.Lists.{drop-at}
 use Rattle.jumps.specs.Jumps.{kindRefusal}
 
@@ -36,3 +29,8 @@ module _ (jumps : List ℕ) (i : ℕ) where
   pub kinds-on : i + 1 < length jumps → getD jumps i 0 ≤ 3 → kindRefusal (drop i jumps) ≡ kindRefusal (drop (i + 2) jumps)
   unfolding kindRefusal
   kinds-on h k = rw (pair-at h, le-ltb 3 (getD jumps i 0) k)
+
+-- the loop that checks the kinds stands at i: what is refused of the jumps from there on is what is refused of all
+pub record KindsLeft (jumps : List ℕ) (n i : ℕ) : Type 0 where
+  pub refusal : kindRefusal jumps ≡ kindRefusal (drop i jumps)
+  pub all : n ≡ length jumps

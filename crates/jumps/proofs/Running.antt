@@ -1,19 +1,17 @@
 -- The invariant of the loop over the jumps: the places of the first i numbers are written, and what is left from the place reached is what is left of all.
 -- Assumes nothing.
-use mathlib.Core.Path.{_≡_, refl, ap, sym, subst, _∙_}
-use mathlib.Core.List.{List, [], _∷_}
-use Prim.Native.Nat.{ℕ, _+_, _≤_, _<_}
-use native.Mathlib.Omega.{arith}
-use native.Mathlib.Decide.{ℕ-discrete}
-use lib.ListN.{length, getD, set, drop, length-drop}
-use lib.Seq.{getD-drop, drop-drop}
+use Rattle.lists.proofs.Kit.{_≡_, refl, ap, sym, subst, _∙_, List, [], _∷_, ℕ, _+_, _≤_, _<_, ℕ-discrete, arith, length, getD, drop, length-drop, getD-drop}
+use Rattle.lists.proofs.Kit.{drop-drop}
 use Rattle.text.specs.declared.Position.{Position}
 use Rattle.edit_places.specs.Replaced.{Over}
 use Rattle.edit_places.proofs.Puts.{Up, up-none, up-next, up-all}
 use Rattle.jumps.specs.Jumps.{kindRefusal}
 use Rattle.word_kinds.specs.declared.Spot.{Spot}
+use Rattle.word_kinds.specs.Spots.{placeOf, IsSpot}
+use Rattle.fold_stretches.specs.declared.Stretch.{Stretch}
+use Rattle.fold_stretches.specs.Stretches.{NoFold}
 use Rattle.jumps.specs.Leaps.{twoPlaces, leapt, leapPlaces, leapEnd, Ran}
-use Rattle.jumps.proofs.Pairs.{pair-at, none-left, kinds-odd, kinds-on}
+use Rattle.jumps.proofs.Pairs.{pair-at, none-left, kinds-odd}
 use Rattle.jumps.proofs.Single.{kinds-first, kinds-one}
 
 -- what a rest that begins with two numbers says of its list
@@ -38,8 +36,7 @@ module _ (t folds : List ℕ) (class : ℕ → ℕ) where
   unfolding leapPlaces
   places-length [] p z = refl
   places-length (kind ∷ []) p z = absurd (kinds-one kind z)
-  places-length (kind ∷ count ∷ jumps) p z =
-      omega (arith, places-length jumps (leapt t folds class kind count p) (kinds-first kind count jumps z .1))
+  places-length (kind ∷ count ∷ jumps) p z = omega (arith, places-length jumps (leapt t folds class kind count p) (kinds-first kind count jumps z .1))
 
   pub record Running (jumps answers : List ℕ) (p : Position) (i : ℕ) (buf : List ℕ) (q : Position) : Type 0 where
     pub written : Up answers 0 (leapPlaces t folds class jumps p) i buf
@@ -110,6 +107,13 @@ module _ {t folds : List ℕ} {class : ℕ → ℕ} {jumps answers : List ℕ} {
   pub running-end : length jumps ≤ i → leapEnd t folds class jumps p ≡ q
   unfolding leapEnd
   running-end h = at .end ∙ rw (none-left jumps i h)
+
+-- and in the code: a spot at the place reached, and a stretch of rows without closed folds
+pub record OnTheWay (t folds : List ℕ) (class : ℕ → ℕ) (jumps answers : List ℕ) (from : Spot) (n i : ℕ) (buf : List ℕ) (cur : Spot) (w : Stretch) : Type 0 where
+  pub running : Running t folds class jumps answers (placeOf t from) i buf (placeOf t cur)
+  pub spot : IsSpot t cur
+  pub bare : NoFold folds w
+  pub all : n ≡ length jumps
 
 -- by another class function that is the same
 pub ran-as : {t folds jumps answers answers′ : List ℕ} {class other : ℕ → ℕ} {p : Position} {r : Spot} → class ≡ other →

@@ -1,17 +1,9 @@
 -- One jump is the single call of its kind: from a caret in the text, where text, folds and list are accepted, no single call is refused, and it
 -- leads to where the jump on positions leads to, which is in the text again. By induction over the list a run of jumps is the single calls in turn.
 -- Assumes nothing.
-use mathlib.Core.Path.{_≡_, refl, ap, sym, _∙_}
-use mathlib.Core.List.{List, [], _∷_}
-use mathlib.Core.Bool.{Bool, true, false, cond}
-use Prim.Native.Nat.{ℕ, _≤_}
-use native.Mathlib.Omega.{arith}
-use native.Mathlib.Decide.{ℕ-discrete}
-use lib.Dec.{eqb, ltb}
-use lib.ListN.{length}
-use borrow.Author.Tests.{ltb-false}
+use Rattle.lists.proofs.Kit.{_≡_, refl, ap, List, [], _∷_, Bool, true, false, cond, ℕ, _≤_, ℕ-discrete, arith, length, eqb, ltb, ltb-false}
 use Rattle.text_check.specs.Accept.{textRefusal}
-use Rattle.text.specs.Text.{rowCount, position}
+use Rattle.text.specs.Text.{rowCount}
 use Rattle.text.specs.declared.Position.{Position}
 use Rattle.folds.specs.Folds.{foldRefusal}
 use Rattle.list_tokens.specs.Tokens.{inList}
@@ -30,9 +22,8 @@ use Rattle.word_rounds.specs.declared.Motion.the-variants.{Fwd, Back, End}
 use Rattle.word_rounds.specs.Rounds.{wordMotion}
 use Rattle.word_rounds.proofs.Inside.{word-motion-in}
 use Rattle.motions.specs.declared.Caret.{Caret}
-use Rattle.motions.specs.declared.Moved.{Moved}
 use Rattle.motions.specs.declared.Moved.the-variants.{To}
-use Rattle.motions.specs.Carets.{here, put, refusalOf, moving, caretAfter}
+use Rattle.motions.specs.Carets.{here, put, moving, caretAfter}
 use Rattle.motions.specs.WordMoves.{wordCaret, moveWord}
 use Rattle.motions.specs.Finds.{partnerTo, seeking, matchBracket}
 use Rattle.motions.specs.Going.{landed}
@@ -71,8 +62,7 @@ module _ (t folds list : List ℕ) (clear : textRefusal t ≡ 0) (good : foldRef
 
     key-single : caretAfter k (landed (matchBracket t k)) ≡ put k (onPartner (here k) (keyFrom t (k .row) (k .col)))
     unfolding seeking lowest
-    key-single =
-        rw (clear, inside-taken t (here k) i) (partner-caret k (keyFrom t (k .row) (k .col)) (key-goes t clear .answers (k .row) (k .col)))
+    key-single = rw (clear, inside-taken t (here k) i) (partner-caret k (keyFrom t (k .row) (k .col)) (key-goes t clear .answers (k .row) (k .col)))
 
     pub single : (kind count : ℕ) → kind ≤ 3 → jumped t folds list kind count k ≡ put k (leapt t folds (kindOf (inList list) false) kind count (here k))
     unfolding leapt motionOf
@@ -120,8 +110,7 @@ module _ (t folds list : List ℕ) (clear : textRefusal t ≡ 0) (good : foldRef
   places-in-turn (kind ∷ count ∷ jumps) k i z =
       let by-kinds-first = kinds-first kind count jumps z in
       let leapt-here = leapt t folds (kindOf (inList list) false) kind count (here k) in
-      rw (single k i kind count (by-kinds-first .0))
-      (ap (λ (l : List ℕ). leapt-here .row ∷ leapt-here .col ∷ l)
+      rw (single k i kind count (by-kinds-first .0)) (ap (λ (l : List ℕ). leapt-here .row ∷ leapt-here .col ∷ l)
       (places-in-turn jumps (put k leapt-here) (leapt-in kind count (here k) i) (by-kinds-first .1)))
 
   caret-from : (jumps : List ℕ) (k : Caret) (p : Position) → Positions.Inside t p → kindRefusal jumps ≡ 0 →

@@ -1,15 +1,9 @@
 -- Spots by the table of row starts, and what a jump of each kind comes to. Assumes nothing.
-use mathlib.Core.Path.{_≡_, refl, ap, sym, _∙_}
-use mathlib.Core.List.{List}
-use mathlib.Core.Bool.{Bool, false}
-use Prim.Native.Nat.{ℕ, suc, _+_, _-_, _≤_, _<_, _^_, max}
-use native.Mathlib.Omega.{arith}
-use lib.ListN.{length, getD, take, length-take}
-use borrow.Author.Tests.{eq-eqb, ne-eqb}
+use Rattle.lists.proofs.Kit.{_≡_, refl, ap, sym, _∙_, List, Bool, false, ℕ, suc, _+_, _-_, _≤_, _<_, _^_, max, arith, length, getD, length-take, eq-eqb, ne-eqb}
 use Rattle.text_check.specs.Accept.{textRefusal}
 use Rattle.text_check.proofs.Accepted.{accepted-short}
-use Rattle.text.specs.Text.{rowCount, rowLen, position}
-use Rattle.text.specs.Offsets.{rowStart, Stands, IsLine}
+use Rattle.text.specs.Text.{rowCount, position}
+use Rattle.text.specs.Offsets.{rowStart, IsLine}
 use Rattle.text.specs.declared.Position.{Position}
 use Rattle.text.proofs.Parts.{count-le}
 use Rattle.text.proofs.Stands.{line-at, line-eq, line-there, stands-in}
@@ -19,9 +13,9 @@ use Rattle.bracket_walks.specs.declared.Partner.the-variants.{There}
 use Rattle.brackets.specs.Find.{keyFrom}
 use Rattle.bracket_laws.proofs.Jump.{key-goes}
 use Rattle.row_table.proofs.Starts.{rows-length}
-use Rattle.row_table.proofs.Ascend.{table-place}
+use Rattle.row_table.proofs.Held.{table-place}
 use Rattle.word_kinds.specs.declared.Spot.{Spot}
-use Rattle.word_kinds.specs.Spots.{placeOf, IsSpot}
+use Rattle.word_kinds.specs.Spots.{placeOf, IsSpot, Lands}
 use Rattle.word_rounds.specs.declared.Motion.{Motion}
 use Rattle.word_rounds.specs.Rounds.{roundOf, counted, wordMotion}
 use Rattle.jumps.specs.Leaps.{motionOf, onPartner, leapt, IsTable}
@@ -38,8 +32,8 @@ module _ (t : List ℕ) (q : Position) (i : Inside t q) {start : ℕ} (s : start
   pub spot-there : IsSpot t (record { row = q .row; at = start + q .col })
   spot-there = rw s (stands-in (line-at t (q .row) (i .in-row)) (rowStart t (q .row) + q .col) (omega arith) (omega (arith, i .in-col)))
 
-  pub spot-place : placeOf t (record { row = q .row; at = start + q .col }) ≡ q
-  spot-place = ap (position (q .row)) (omega (arith, s))
+  pub spot-lands : Lands t (record { row = q .row; at = start + q .col }) q
+  spot-lands = record { place = ap (position (q .row)) (omega (arith, s)); inside = spot-there }
 
 -- its numbers fit
 pub spot-short : {t : List ℕ} {r : Spot} → textRefusal t ≡ 0 → IsSpot t r → (r .row < 2 ^ 32) × (r .at < 2 ^ 32)

@@ -1,5 +1,5 @@
--- A run of jumps, each from where the one before ended: the single calls made in turn. From document 02, #114.
--- Definitions only; the laws are in `proofs/`. Assumes nothing.
+-- A run of jumps, each from where the one before ended: the single calls made in turn. From document 02, #114. Definitions only; the laws are in
+-- `proofs/`. Long by its refusals: each in its turn. Assumes nothing.
 use Prim.Native.Nat.{ℕ}
 use mathlib.Core.Path.{_≡_}
 use mathlib.Core.List.{List, [], _∷_, _++_}

@@ -1,4 +1,4 @@
--- Jumps on positions, where nothing is refused: what the loop goes by. Definitions only. Assumes nothing.
+-- Jumps on positions, where nothing is refused: what the loop goes by. Definitions only. Long by its kinds: each jump in one place. Assumes nothing.
 use Prim.Native.Nat.{ℕ, _+_, _≤_}
 use mathlib.Core.Path.{_≡_}
 use mathlib.Core.List.{List, [], _∷_}
@@ -16,12 +16,14 @@ use Rattle.row_table.specs.Table.{rowStarts}
 use Rattle.edit_places.specs.Replaced.{Over}
 use Rattle.word_kinds.specs.declared.Spot.{Spot}
 use Rattle.word_kinds.specs.declared.Setting.{Setting}
-use Rattle.word_kinds.specs.Spots.{placeOf, IsSpot}
+use Rattle.word_kinds.specs.Spots.{placeOf, Lands}
 use Rattle.word_rounds.specs.declared.Motion.{Motion}
 use Rattle.word_rounds.specs.declared.Motion.the-variants.{Fwd, Back, End}
 use Rattle.word_rounds.specs.Rounds.{wordMotion}
 use Rattle.word_rounds.specs.Turns.{Set}
 use Rattle.words.specs.declared.Walked.{Walked}
+use Rattle.motions.specs.declared.Caret.{Caret}
+use Rattle.motions.specs.Carets.{here, put}
 use Rattle.jumps.specs.Jumps.{kindRefusal}
 
 -- the word motion of a kind
@@ -60,8 +62,7 @@ IsTable t table = take (rowCount t) table ≡ rowStarts t
 
 -- what a jump from a place comes to, with a stretch of rows without closed folds
 pub record Leaps (t folds : List ℕ) (class : ℕ → ℕ) (kind count : ℕ) (p : Position) (r : Walked) : Type 0 where
-  pub place : placeOf t (r .spot) ≡ leapt t folds class kind count p
-  pub spot : IsSpot t (r .spot)
+  pub lands : Lands t (r .spot) (leapt t folds class kind count p)
   pub bare : NoFold folds (r .stretch)
 
 -- one jump, and its place in the answers
@@ -71,9 +72,13 @@ pub record Jumped (t folds : List ℕ) (class : ℕ → ℕ) (jumps : List ℕ) 
 
 -- all jumps, and their places
 pub record Ran (t folds : List ℕ) (class : ℕ → ℕ) (jumps answers : List ℕ) (p : Position) (r : Spot) (answers′ : List ℕ) : Type 0 where
-  pub place : placeOf t r ≡ leapEnd t folds class jumps p
-  pub spot : IsSpot t r
+  pub lands : Lands t r (leapEnd t folds class jumps p)
   pub left : Over answers 0 (leapPlaces t folds class jumps p) answers′
+
+-- the same from a caret's place, and the caret at the end
+pub record RanFrom (t folds : List ℕ) (class : ℕ → ℕ) (jumps answers : List ℕ) (k r : Caret) (answers′ : List ℕ) : Type 0 where
+  pub caret : r ≡ put k (leapEnd t folds class jumps (here k))
+  pub left : Over answers 0 (leapPlaces t folds class jumps (here k)) answers′
 
 -- what jumps from a place require: a text that is accepted with its table, and what a round of small words requires
 pub record Footing (t table folds bounds starts lengths : List ℕ) (s : Setting) (p : Spot) : Type 0 where

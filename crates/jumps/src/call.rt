@@ -13,13 +13,12 @@ ghost use Rattle.text_check.specs.Accept.{textRefusal};
 ghost use Rattle.text.specs.Text.{rowCount};
 ghost use Rattle.folds.specs.Folds.{foldRefusal};
 ghost use Rattle.positions.specs.Positions.{Accepted};
-ghost use Rattle.edit_places.specs.Replaced.{Over};
 ghost use Rattle.list_tokens.specs.Tokens.{anyToken};
 ghost use Rattle.keywords.specs.Table.{kept};
 ghost use Rattle.word_kinds.specs.Places.{kindOf};
 ghost use Rattle.word_kinds.specs.Spots.{placeOf, IsSpot};
 ghost use Rattle.motions.specs.Carets.{here, put};
-ghost use Rattle.jumps.specs.Leaps.{IsTable, Course, leapPlaces, leapEnd};
+ghost use Rattle.jumps.specs.Leaps.{IsTable, Course, RanFrom};
 ghost use Rattle.jumps.specs.Jumps.{kindRefusal, lateRefusal, JumpsTo};
 ghost use Rattle.jumps.specs.Jumps.{answerRefusal as Jumps·answerRefusal};
 
@@ -51,8 +50,8 @@ fn answer_refusal(jumps: &[u32], places: usize) -> u32
     0
 }
 
-// What is checked after text, caret, folds and keyword list: the table (15, 16), the kinds (22), the
-// places (14).
+// What is checked after text, caret, folds and keyword list: the table (15, 16), the kinds (22),
+// the places (14).
 fn late_refusal(
     t: &[u32],
     rows: usize,
@@ -100,10 +99,8 @@ fn to_end(
     requires { ⌜ (textRefusal (now t) ≡ 0) × Accepted (now t) (here k) e ×
         (foldRefusal (now folds) (rowCount (now t)) ≡ 0) × (spec .len ≤ 128) ×
         IsTable (now t) (now starts) × Course (now jumps) (now answers) ⌝ }
-    ensures { λ r. ⌜ (r ≡ put k (leapEnd (now (t .entry)) (now (folds .entry))
-        (kindOf (anyToken (kept spec)) false) (now (jumps .entry)) (here k))) ×
-        Over (now (answers .entry)) 0 (leapPlaces (now (t .entry)) (now (folds .entry))
-        (kindOf (anyToken (kept spec)) false) (now (jumps .entry)) (here k))
+    ensures { λ r. ⌜ RanFrom (now (t .entry)) (now (folds .entry))
+        (kindOf (anyToken (kept spec)) false) (now (jumps .entry)) (now (answers .entry)) k r
         (now (answers .exit)) ⌝ }
 {
     let at = e.start + k.col as usize;
@@ -125,8 +122,8 @@ fn to_end(
     caret_of(k, t, starts, r)
 }
 
-// Jumps, each from where the one before ended: `jumps` holds a kind (0 `w`, 1 `b`, 2 `e`, 3 `%`) and
-// a count for each, `answers` takes a row and a column for each, and the caret at the end is
+// Jumps, each from where the one before ended: `jumps` holds a kind (0 `w`, 1 `b`, 2 `e`, 3 `%`)
+// and a count for each, `answers` takes a row and a column for each, and the caret at the end is
 // answered. `starts` and `content` are the text's row starts and its number of rows with content.
 // Refused are what a word motion with a table refuses (1 to 5, 7, 8, 15, 16), then a kind that is
 // none or an odd length (22), then too few places for the answers (14); then nothing is written.

@@ -15,7 +15,7 @@ ghost use Rattle.text.specs.Offsets.{rowStart};
 ghost use Rattle.positions.specs.Positions.{Inside};
 ghost use Rattle.brackets.specs.Find.{keyFrom};
 ghost use Rattle.fold_stretches.specs.Stretches.{NoFold};
-ghost use Rattle.word_kinds.specs.Spots.{placeOf, IsSpot};
+ghost use Rattle.word_kinds.specs.Spots.{placeOf, IsSpot, Lands};
 ghost use Rattle.word_kinds.specs.Lent.{kindBy};
 ghost use Rattle.jumps.specs.Leaps.{motionOf, onPartner, IsTable, Leaps, Footing};
 
@@ -53,7 +53,7 @@ pub fn start_of(t: &[u32], table: &[u32], row: usize) -> usize
 // The spot of a place in the text, by the table.
 fn spot_of(t: &[u32], table: &[u32], q: Position) -> Spot
     requires { ⌜ (textRefusal (now t) ≡ 0) × IsTable (now t) (now table) × Inside (now t) q ⌝ }
-    ensures { λ r. ⌜ (placeOf (now (t .entry)) r ≡ q) × IsSpot (now (t .entry)) r ⌝ }
+    ensures { λ r. ⌜ Lands (now (t .entry)) r q ⌝ }
 {
     let row = q.row;
     let start = start_of(t, table, row);
@@ -66,9 +66,9 @@ fn spot_of(t: &[u32], table: &[u32], q: Position) -> Spot
 // `%`: to the partner of the first bracket at or after the place in its row, or nowhere.
 fn to_partner(t: &[u32], table: &[u32], p: Spot) -> Spot
     requires { ⌜ (textRefusal (now t) ≡ 0) × IsTable (now t) (now table) × IsSpot (now t) p ⌝ }
-    ensures { λ r. ⌜ (placeOf (now (t .entry)) r ≡ onPartner (placeOf (now (t .entry)) p)
-        (keyFrom (now (t .entry)) (p .row) (placeOf (now (t .entry)) p .col))) ×
-        IsSpot (now (t .entry)) r ⌝ }
+    ensures { λ r.
+        ⌜ Lands (now (t .entry)) r (onPartner (placeOf (now (t .entry)) p)
+        (keyFrom (now (t .entry)) (p .row) (placeOf (now (t .entry)) p .col))) ⌝ }
 {
     let row = p.row;
     let start = start_of(t, table, row);
@@ -98,7 +98,8 @@ pub fn leap(
     w: Stretch,
     p: Spot,
 ) -> Walked
-    requires { ⌜ Footing (now t) (now table) (now folds) (now bounds) (now starts) (now lengths) s p ×
+    requires { ⌜ Footing (now t) (now table) (now folds) (now bounds) (now starts)
+        (now lengths) s p ×
         NoFold (now folds) w ⌝ }
     ensures { λ r. ⌜ Leaps (now (t .entry)) (now (folds .entry)) (kindBy (now (bounds .entry)) s)
         kind count (placeOf (now (t .entry)) p) r ⌝ }

@@ -37,7 +37,8 @@ fn jump(
     w: Stretch,
     p: Spot,
 ) -> Walked
-    requires { ⌜ Footing (now t) (now table) (now folds) (now bounds) (now starts) (now lengths) s p ×
+    requires { ⌜ Footing (now t) (now table) (now folds) (now bounds) (now starts)
+        (now lengths) s p ×
         NoFold (now folds) w × (i + 1 < length (now jumps)) × (i + 1 < length (now answers)) ⌝ }
     ensures { λ r. ⌜ Jumped (now (t .entry)) (now (folds .entry)) (kindBy (now (bounds .entry)) s)
         (now (jumps .entry)) i (now (answers .entry)) (placeOf (now (t .entry)) p) r
@@ -76,7 +77,8 @@ fn run(
     answers: &mut [u32],
     p: Spot,
 ) -> Spot
-    requires { ⌜ Footing (now t) (now table) (now folds) (now bounds) (now starts) (now lengths) s p ×
+    requires { ⌜ Footing (now t) (now table) (now folds) (now bounds) (now starts)
+        (now lengths) s p ×
         Course (now jumps) (now answers) ⌝ }
     ensures { λ r. ⌜ Ran (now (t .entry)) (now (folds .entry)) (kindBy (now (bounds .entry)) s)
         (now (jumps .entry)) (now (answers .entry)) (placeOf (now (t .entry)) p) r

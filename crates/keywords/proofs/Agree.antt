@@ -1,12 +1,5 @@
 -- `Agree`: `parse` with `matches`, `is_keyword_char`, the flat form and the set of a list agree. Assumes nothing.
-use Prim.Native.Nat.{ℕ, zero, suc, _≤_}
-use mathlib.Core.Path.{_≡_, refl, ap, sym, _∙_}
-use mathlib.Core.List.{List}
-use mathlib.Core.Bool.{Bool, true, false}
-use native.Mathlib.Omega.{arith}
-use lib.ListN.{length}
-use lib.Dec.{leb}
-use borrow.Author.Tests.{ne-eqb, leb-true}
+use Rattle.lists.proofs.Kit.{_≡_, refl, ap, sym, _∙_, List, Bool, true, false, ℕ, zero, suc, _≤_, arith, length, leb, ne-eqb, leb-true}
 use Rattle.list_tokens.specs.declared.Token.{Token}
 use Rattle.keywords.specs.declared.Parsed.{Parsed}
 use Rattle.list_parts.specs.Refusals.{listRefusal, tableRefusal, lowest}

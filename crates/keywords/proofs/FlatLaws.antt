@@ -1,15 +1,7 @@
 -- Laws of the flat form: one token more, the bounds two at a time, and that it holds what the tokens hold. Assumes nothing.
-use mathlib.Core.Path.{_≡_, refl, ap, sym, _∙_}
-use mathlib.Core.List.{List, [], _∷_, _++_}
-use mathlib.Core.Bool.{Bool, true, false, _&&_, _||_, and-false}
-use Prim.Native.Nat.{ℕ, zero, suc, _+_, _-_, _≤_, _<_}
-use native.Mathlib.Numerals.{add-one}
-use native.Mathlib.Decide.{ℕ-discrete}
-use native.Mathlib.Omega.{arith}
-use lib.Dec.{eqb, leb}
-use lib.ListN.{length, length-append, getD, take, drop, set, replicate, drop-of-length-le}
-use lib.Seq.{length-take-le, take-suc, take-append-seam}
-use borrow.Author.Tests.{ne-eqb, lt-leb}
+use Rattle.lists.proofs.Kit.{_≡_, refl, ap, sym, _∙_, List, [], _∷_, _++_, Bool, true, false, _&&_, _||_, and-false, ℕ, zero, suc, _+_, _-_, _≤_, _<_, add-one}
+use Rattle.lists.proofs.Kit.{ℕ-discrete, arith, length, length-append, getD, take, drop, set, replicate, drop-of-length-le, length-take-le, take-suc}
+use Rattle.lists.proofs.Kit.{take-append-seam, eqb, leb, ne-eqb, lt-leb}
 use Rattle.letters.specs.Letters.{isLetter}
 use Rattle.list_tokens.specs.declared.Token.{Token}
 use Rattle.list_tokens.specs.Grammar.{noToken}
@@ -32,8 +24,7 @@ padded-push : (bs : List ℕ) (n x : ℕ) → length bs ≡ n → n < 256 → se
 padded-push bs n x e h = rw (← e) (fill-push 256 0 bs x (omega arith))
 
 -- the bounds so far, and those of the token at i stored after them
-pub flat-push :
-    (ts : List Token) (bs : List ℕ) (i x y : ℕ) → i < length ts → i < 128 → bs ≡ padded (flat (take i ts)) → x ≡ lowOf (getD ts i noToken) →
+pub flat-push : (ts : List Token) (bs : List ℕ) (i x y : ℕ) → i < length ts → i < 128 → bs ≡ padded (flat (take i ts)) → x ≡ lowOf (getD ts i noToken) →
     y ≡ highOf (getD ts i noToken) → set (set bs (i + i) x) (i + i + 1) y ≡ padded (flat (take (i + 1) ts))
 flat-push ts bs i x y h k e p q =
     let flat-here = flat (take i ts) in
@@ -47,33 +38,24 @@ flat-push ts bs i x y h k e p q =
       q,
       padded-push flat-here (i + i) (lowOf value) size-is (omega arith),
       padded-push (flat-here ++ (lowOf value ∷ [])) (i + i + 1) (highOf value) sum-is (omega arith),
-    )
-    (ap padded (sym (ap flat front-is ∙ flat-snoc (take i ts) value)))
+    ) (ap padded (sym (ap flat front-is ∙ flat-snoc (take i ts) value)))
 
 -- the first bounds of a table are its tokens'
 pub flat-front : (ts : List Token) → take (length ts + length ts) (padded (flat ts)) ≡ flat ts
 flat-front ts = rw (← flat-length ts) (take-append-seam (flat ts) (replicate (256 - length (flat ts)) 0))
 
 -- the bounds, two at a time
-two-at :
-    (bs : List ℕ) (n i : ℕ) → i < n → n + n ≤ length bs →
+two-at : (bs : List ℕ) (n i : ℕ) → i < n → n + n ≤ length bs →
     drop (i + i) (take (n + n) bs) ≡ getD bs (i + i) 0 ∷ getD bs (i + i + 1) 0 ∷ drop (i + 1 + (i + 1)) (take (n + n) bs)
 two-at bs n i h l =
     let sum-is : i + i + 1 + 1 ≡ i + 1 + (i + 1) = omega arith in
     rw (drop-at-take bs (n + n) (i + i) 0 (omega arith) l, drop-at-take bs (n + n) (i + i + 1) 0 (omega arith) l, sum-is)
 
 module _ (bs : List ℕ) (n i c : ℕ) where
-  pub within-hit :
-      i < n → n + n ≤ length bs → (leb (getD bs (i + i) 0) c && leb c (getD bs (i + i + 1) 0)) ≡ true →
-      within (drop (i + i) (take (n + n) bs)) c ≡ true
+  pub within-on : i < n → n + n ≤ length bs → within (drop (i + i) (take (n + n) bs)) c ≡
+      ((leb (getD bs (i + i) 0) c && leb c (getD bs (i + i + 1) 0)) || within (drop (i + 1 + (i + 1)) (take (n + n) bs)) c)
   unfolding within
-  within-hit h l e = rw (two-at bs n i h l, e)
-
-  pub within-on :
-      i < n → n + n ≤ length bs → (leb (getD bs (i + i) 0) c && leb c (getD bs (i + i + 1) 0)) ≡ false →
-      within (drop (i + i) (take (n + n) bs)) c ≡ within (drop (i + 1 + (i + 1)) (take (n + n) bs)) c
-  unfolding within
-  within-on h l e = rw (two-at bs n i h l, e)
+  within-on h l = rw (two-at bs n i h l)
 
   pub within-end : n ≤ i → n + n ≤ length bs → within (drop (i + i) (take (n + n) bs)) c ≡ false
   unfolding within
@@ -100,8 +82,7 @@ unfolding any flat within
 flat-same [] c = refl
 flat-same (t ∷ ts) c = sym (go (ℕ-discrete (t .kind) 1) (ℕ-discrete (t .kind) 2) (sym (flat-same ts c)))
   where
-    go :
-        Dec (t .kind ≡ 1) → Dec (t .kind ≡ 2) → anyToken ts c ≡ flatHolds (flat ts) (anyAlpha ts) c →
+    go : Dec (t .kind ≡ 1) → Dec (t .kind ≡ 2) → anyToken ts c ≡ flatHolds (flat ts) (anyAlpha ts) c →
         (tokenHolds t c || anyToken ts c) ≡ (((eqb (t .kind) 1 || anyAlpha ts) && isLetter c) || ((leb (lowOf t) c && leb c (highOf t)) || within (flat ts) c))
     go (yes e) d v = rw (e, v, nothing c) (letter-first (isLetter c) (anyAlpha ts) (within (flat ts) c))
     go (no n) (yes e) v = rw (e, v) (swap (leb (t .lo) c && leb c (t .hi)) (anyAlpha ts && isLetter c) (within (flat ts) c))

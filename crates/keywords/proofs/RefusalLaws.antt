@@ -1,9 +1,5 @@
 -- Laws of refusals: the number that a call gives, and the lowest where two apply. Assumes nothing.
-use mathlib.Core.Path.{_≡_, refl}
-use mathlib.Core.List.{List}
-use mathlib.Core.Bool.{Bool}
-use Prim.Native.Nat.{ℕ, zero, suc}
-use borrow.Author.Tests.{ne-eqb}
+use Rattle.lists.proofs.Kit.{_≡_, refl, List, Bool, ℕ, zero, suc, ne-eqb}
 use Rattle.list_tokens.specs.declared.Token.{Token}
 use Rattle.keywords.specs.declared.Matched.the-variants.{Refused}
 use Rattle.list_parts.specs.Refusals.{lowest}

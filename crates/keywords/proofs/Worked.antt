@@ -1,11 +1,5 @@
 -- P11 of document 01: the definitions compute the tokens of its lists, and two laws of ranges do the rest. Assumes nothing.
-use Prim.Native.Nat.{ℕ, _<_}
-use mathlib.Core.Path.{_≡_, refl, _∙_}
-use mathlib.Core.Bool.{false, _&&_, and-false, or-false}
-use native.Mathlib.Decide.{decLt, ℕ-discrete}
-use native.Mathlib.Omega.{arith}
-use lib.Dec.{eqb, leb}
-use borrow.Author.Tests.{le-leb, lt-leb, eq-eqb, ne-eqb}
+use Rattle.lists.proofs.Kit.{_≡_, refl, _∙_, false, _&&_, and-false, or-false, ℕ, _<_, decLt, ℕ-discrete, arith, eqb, leb, le-leb, lt-leb, eq-eqb, ne-eqb}
 use Rattle.lists.specs.Lists.{any, upTo, onFirst, split}
 use Rattle.chars.specs.White.{whites, isWhite}
 use Rattle.list_parts.specs.Numbers.{allDigits, value}

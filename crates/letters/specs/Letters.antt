@@ -2,14 +2,19 @@
 -- Document 01, "Character facts". Definitions only. Assumes nothing.
 use Prim.Native.Nat.{ℕ}
 use mathlib.Core.Path.{_≡_}
-use mathlib.Core.Bool.{Bool}
+use mathlib.Core.Bool.{Bool, _&&_}
 use mathlib.Core.List.{List}
+use lib.Dec.{leb, ltb}
 use Rattle.ranges.specs.Ranges.{inTable}
 use Rattle.ranges.specs.Lengths.{startsOf, lengthsOf}
 unfoldable pub use Rattle.letters.specs.LetterTable.{letters}
 
 unfoldable pub isLetter : ℕ → Bool
 isLetter x = inTable x letters
+
+-- the signs between the plain letters and the accented ones
+abbrev pub isSign : ℕ → Bool
+isSign x = leb 0xaa x && ltb x 0xc0
 
 -- what is lent is where the ranges start, and how many code points each has
 pub record LetterRanges (starts lengths : List ℕ) : Type 0 where

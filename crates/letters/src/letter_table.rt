@@ -764,6 +764,7 @@ pub const LETTER_STARTS: [u32; 761] = [
     201552,
 ];
 
+// How many code points each range has, in the order of the starts.
 pub const LETTER_LENGTHS: [u16; 761] = [
     26,
     26,

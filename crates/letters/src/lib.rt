@@ -2,31 +2,30 @@
 // const that a function names is built anew at each call of it, so a loop takes `letter_in` and
 // lends both, the starts of the ranges and their lengths.
 ghost use mathlib.Core.Path.{_≡_};
-ghost use Prim.Native.Nat.{_≤_, _<_};
-ghost use Rattle.letters.specs.Letters.{isLetter, LetterRanges};
+ghost use mathlib.Core.Bool.{true, false};
+ghost use Prim.Native.Nat.{_<_};
+ghost use Rattle.letters.specs.Letters.{isLetter, isSign, LetterRanges};
 
 mod letter_table;
 
 pub use letter_table::LETTER_LENGTHS;
 pub use letter_table::LETTER_STARTS;
 
-// Whether x, below U+00AA, is a letter: A to Z or a to z, compared without a branch.
-fn low_letter(x: u32) -> bool
-    requires { ⌜ x < 0xaa ⌝ }
+// Whether x, from U+00AA up to U+00BF, is a letter: three of these signs are.
+fn sign_letter(x: u32) -> bool
+    requires { ⌜ isSign x ≡ true ⌝ }
     ensures { λ r. ⌜ r ≡ isLetter x ⌝ }
 {
-    ((65 <= x) & (x < 91)) | ((97 <= x) & (x < 123))
+    (x == 0xaa) | ((x == 0xb5) | (x == 0xba))
 }
 
-// Whether x, from U+00AA up to U+02C1, is a letter: the Latin letters beyond ASCII.
+// Whether x, any other up to U+02C1, is a letter: A to Z, a to z, and from U+00C0 on all but two
+// signs. Compared without a branch: plain and accented letters stand beside each other.
 fn latin_letter(x: u32) -> bool
-    requires { ⌜ (0xaa ≤ x) × (x < 0x2c2) ⌝ }
+    requires { ⌜ (x < 0x2c2) × (isSign x ≡ false) ⌝ }
     ensures { λ r. ⌜ r ≡ isLetter x ⌝ }
 {
-    ((0xaa <= x) & (x < 0xab))
-        | (((0xb5 <= x) & (x < 0xb6))
-            | (((0xba <= x) & (x < 0xbb))
-                | (((0xc0 <= x) & (x < 0xd7)) | (((0xd8 <= x) & (x < 0xf7)) | (0xf8 <= x)))))
+    (((65 <= x) & (x < 91)) | ((97 <= x) & (x < 123))) | ((0xc0 <= x) & ((x != 0xd7) & (x != 0xf7)))
 }
 
 // Whether x is a letter, by LETTER_STARTS and LETTER_LENGTHS that are lent.
@@ -34,8 +33,8 @@ pub fn letter_in(starts: &[u32], lengths: &[u16], x: u32) -> bool
     requires { ⌜ LetterRanges (now starts) (now lengths) ⌝ }
     ensures { λ r. ⌜ r ≡ isLetter x ⌝ }
 {
-    if x < 0xaa {
-        return low_letter(x);
+    if (0xaa <= x) & (x < 0xc0) {
+        return sign_letter(x);
     }
     if x < 0x2c2 {
         return latin_letter(x);
@@ -54,8 +53,8 @@ fn high_letter(x: u32) -> bool
 pub fn is_letter(x: u32) -> bool
     ensures { λ r. ⌜ r ≡ isLetter x ⌝ }
 {
-    if x < 0xaa {
-        return low_letter(x);
+    if (0xaa <= x) & (x < 0xc0) {
+        return sign_letter(x);
     }
     if x < 0x2c2 {
         return latin_letter(x);

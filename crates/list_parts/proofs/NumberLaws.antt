@@ -1,12 +1,6 @@
 -- Laws of numbers: reading on by one digit, and where reading stops. Assumes nothing.
-use mathlib.Core.Path.{_≡_, refl, ap}
-use mathlib.Core.List.{List, [], _∷_}
-use mathlib.Core.Bool.{and-false}
-use Prim.Native.Nat.{ℕ, _+_, _*_, _-_, _≤_, _<_}
-use native.Mathlib.Omega.{arith}
-use lib.ListN.{length, getD, take, drop, drop-of-length-le}
-use lib.Seq.{take-all}
-use borrow.Author.Tests.{eq-eqb, ne-eqb, le-leb, lt-leb, le-ltb, lt-ltb}
+use Rattle.lists.proofs.Kit.{_≡_, refl, ap, List, [], _∷_, and-false, ℕ, _+_, _*_, _-_, _≤_, _<_, arith, length, getD, take, drop, drop-of-length-le, take-all}
+use Rattle.lists.proofs.Kit.{eq-eqb, ne-eqb, le-leb, lt-leb, le-ltb, lt-ltb}
 use Rattle.list_parts.specs.declared.numbers.Number.the-variants.{Value, Not}
 use Rattle.list_parts.specs.Numbers.{allDigits, value, numberFrom, digitsOf, numberOf}
 use Rattle.lists.proofs.Lists.{drop-at-of as drop-at}

@@ -1,14 +1,21 @@
 -- Laws of trimming: white space left out from the start on, and from the end back. Assumes nothing.
-use mathlib.Core.Path.{_≡_, refl, ap, sym, _∙_}
-use mathlib.Core.List.{List, [], _∷_, _++_}
-use mathlib.Core.Bool.{true, false}
-use Prim.Native.Nat.{ℕ, zero, suc, _+_, _-_, _≤_, _<_}
-use native.Mathlib.Omega.{arith}
-use lib.ListN.{length, getD, take, drop, drop-of-length-le, length-drop}
-use lib.Seq.{take-all, take-suc}
+use Rattle.lists.proofs.Kit.{_≡_, refl, ap, sym, _∙_, List, [], _∷_, _++_, true, false, ℕ, zero, suc, _+_, _-_, _≤_, _<_, arith, length, getD, take, drop}
+use Rattle.lists.proofs.Kit.{drop-of-length-le, length-drop, take-all, take-suc}
 use Rattle.chars.specs.White.{isWhite}
-use Rattle.list_parts.specs.Parts.{trimStart, keepLast, trimEnd, trim, Begun, Ended}
+use Rattle.list_parts.specs.Parts.{trimStart, keepLast, trimEnd, trim, Trimmed, Begun, Ended}
 use Rattle.lists.proofs.Lists.{drop-at-of as drop-at}
+
+-- a walk in from one end of a part, start or end: it has left out white space alone, up to i
+pub record Trims (trims : List ℕ → List ℕ) (left : ℕ → List ℕ) (p : List ℕ) (i : ℕ) : Type 0 where
+  pub inside : i ≤ length p
+  pub same : trims p ≡ trims (left i)
+
+module _ {trims : List ℕ → List ℕ} {left : ℕ → List ℕ} {p : List ℕ} {i : ℕ} (so-far : Trims trims left p i) where
+  pub trims-on : {j : ℕ} → j ≤ length p → trims (left i) ≡ trims (left j) → Trims trims left p j
+  trims-on h e = record { inside = h; same = so-far .same ∙ e }
+
+  pub trims-stop : trims (left i) ≡ left i → Trimmed trims left p i
+  trims-stop e = record { inside = so-far .inside; is = so-far .same ∙ e }
 
 module _ (p : List ℕ) (i : ℕ) where
   pub trim-start-on : i < length p → isWhite (getD p i 0) ≡ true → trimStart (drop i p) ≡ trimStart (drop (i + 1) p)

@@ -30,12 +30,14 @@ trimEnd (x ∷ p) = keepLast x (trimEnd p)
 abbrev pub trim : List ℕ → List ℕ
 trim p = trimEnd (trimStart p)
 
--- a part trimmed begins at i
-pub record Begun (p : List ℕ) (i : ℕ) : Type 0 where
+-- trimmed at one end, a part is what is left of it at i
+pub record Trimmed (trims : List ℕ → List ℕ) (left : ℕ → List ℕ) (p : List ℕ) (i : ℕ) : Type 0 where
   pub inside : i ≤ length p
-  pub is : trimStart p ≡ drop i p
+  pub is : trims p ≡ left i
 
--- and ends at e
-pub record Ended (p : List ℕ) (e : ℕ) : Type 0 where
-  pub inside : e ≤ length p
-  pub is : trimEnd p ≡ take e p
+-- it begins at i, and ends at e
+abbrev pub Begun : List ℕ → ℕ → Type 0
+Begun p i = Trimmed trimStart (λ j. drop j p) p i
+
+abbrev pub Ended : List ℕ → ℕ → Type 0
+Ended p e = Trimmed trimEnd (λ j. take j p) p e

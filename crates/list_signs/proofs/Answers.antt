@@ -1,12 +1,6 @@
 -- Laws of the answers of `enter` and `without_plus`: each by what the tests found. Assumes nothing.
-use mathlib.Core.Path.{_≡_, refl, ap, sym, _∙_}
-use mathlib.Core.List.{List, _++_}
-use mathlib.Core.Bool.{Bool, true, false, cond}
-use Prim.Native.Nat.{ℕ, _-_, _≤_, _<_}
-use native.Mathlib.Omega.{arith}
-use lib.Dec.{eqb, leb, ltb}
-use lib.ListN.{length, drop, replicate, length-append}
-use borrow.Author.Tests.{eq-eqb, ne-eqb, le-leb, lt-leb, lt-ltb, le-ltb, leb-true}
+use Rattle.lists.proofs.Kit.{_≡_, refl, ap, sym, _∙_, List, _++_, Bool, true, false, cond, ℕ, _-_, _≤_, _<_, arith, length, drop, replicate, length-append, eqb}
+use Rattle.lists.proofs.Kit.{leb, ltb, eq-eqb, ne-eqb, le-leb, lt-leb, lt-ltb, le-ltb, leb-true}
 use Rattle.lists.specs.Lists.{any}
 use Rattle.chars.specs.Scalar.{notScalar}
 use Rattle.list_parts.specs.Refusals.{listRefusal}
@@ -74,8 +68,7 @@ module _ (l : List ℕ) (n : ℕ) (w : n ≡ listRefusal l) where
       pub made-14 : length room < m → PlainMade l room (Refused 14) room
       made-14 h = let by-lt-leb = lt-leb (length (plain l)) (length room) (omega (arith, size)) in (rw (good, by-lt-leb), rw (good, by-lt-leb))
 
-      pub made :
-          (left : List ℕ) → m ≤ length room → left ≡ without l ms ++ drop (length (without l ms)) room → PlainMade l room (Made m) left
+      pub made : (left : List ℕ) → m ≤ length room → left ≡ without l ms ++ drop (length (without l ms)) room → PlainMade l room (Made m) left
       made left h s =
           let by-le-leb = le-leb (length (plain l)) (length room) (omega (arith, size)) in
           (rw (good, by-le-leb) (ap Made size), rw (good, by-le-leb) (s ∙ ap (λ (q : List ℕ). q ++ drop (length q) room) plain-is))

@@ -1,10 +1,6 @@
 -- The parts of a converted list: those of the list without their signs, read as the same tokens, with none left. Assumes nothing.
-use mathlib.Core.Path.{_≡_, refl, ap, sym, _∙_}
-use mathlib.Core.List.{List, [], _∷_, _++_, append-nil}
-use mathlib.Core.Bool.{Bool, true, false, not, true≢false}
-use Prim.Native.Nat.{ℕ, suc, _+_}
-use lib.Dec.{eqb}
-use lib.ListN.{length, replicate, length-replicate, replicate-append-replicate}
+use Rattle.lists.proofs.Kit.{_≡_, refl, ap, sym, _∙_, List, [], _∷_, _++_, append-nil, Bool, true, false, not, true≢false, ℕ, suc, _+_, length, replicate}
+use Rattle.lists.proofs.Kit.{length-replicate, replicate-append-replicate, eqb}
 use Rattle.lists.proofs.Both.{both}
 use Rattle.lists.specs.Lists.{split}
 use Rattle.list_parts.specs.Parts.{trimStart, trim}
@@ -27,8 +23,7 @@ use Rattle.list_signs.proofs.WithoutLaws.{without-none, without-append}
 
 -- a part without its signs: its white space stays around what it is trimmed to
 part-around : (p : List ℕ) → bare p ≡ before p ++ (without (trim p) (keptSigns (trim p)) ++ behind p)
-part-around p =
-    ap (λ (q : List ℕ). without q (partSigns p)) (sym (split-part p))
+part-around p = ap (λ (q : List ℕ). without q (partSigns p)) (sym (split-part p))
     ∙ without-append (before p) (trim p ++ behind p) (none (before p)) (keptSigns (trim p) ++ none (behind p)) (length-replicate (length (before p)) false)
     ∙ rw (
       without-none (before p) (length (before p)),
@@ -54,10 +49,8 @@ part-bare : (p : List ℕ) → partSigns (bare p) ≡ none (bare p)
 part-bare p =
     let bare-here = bare p in
     let kept-signs-is : keptSigns (trim bare-here) ≡ none (trim bare-here) = rw (part-trim p) (same-part p .bare) in
-    rw kept-signs-is
-    (ap (λ (r : List Bool). none (before bare-here) ++ r) (sym (none-append (trim bare-here) (behind bare-here)))
-    ∙ sym (none-append (before bare-here) (trim bare-here ++ behind bare-here))
-    ∙ ap none (split-part bare-here))
+    rw kept-signs-is (ap (λ (r : List Bool). none (before bare-here) ++ r) (sym (none-append (trim bare-here) (behind bare-here)))
+    ∙ sym (none-append (before bare-here) (trim bare-here ++ behind bare-here)) ∙ ap none (split-part bare-here))
 
 -- a part that is dropped has none
 dropped-none : (t : List ℕ) → isToken (tokenOf t) ≡ false → keptSigns t ≡ none t
@@ -96,12 +89,9 @@ bares-no-commas (p ∷ ps) h = let by-both = both (noComma p) (noCommas ps) h in
 bares-joined : (ps : List (List ℕ)) → without (joined ps) (signsIn ps) ≡ joined (bares ps)
 unfolding joined bares signsIn without
 bares-joined [] = refl
-bares-joined (p ∷ []) =
-    ap (λ (q : List ℕ). without q (partSigns p ++ (false ∷ []))) (sym (append-nil p))
-    ∙ without-append p [] (partSigns p) (false ∷ []) (part-length p)
-    ∙ append-nil (bare p)
-bares-joined (p ∷ q ∷ ps) =
-    without-append p (44 ∷ joined (q ∷ ps)) (partSigns p) (false ∷ signsIn (q ∷ ps)) (part-length p)
+bares-joined (p ∷ []) = ap (λ (q : List ℕ). without q (partSigns p ++ (false ∷ []))) (sym (append-nil p))
+    ∙ without-append p [] (partSigns p) (false ∷ []) (part-length p) ∙ append-nil (bare p)
+bares-joined (p ∷ q ∷ ps) = without-append p (44 ∷ joined (q ∷ ps)) (partSigns p) (false ∷ signsIn (q ∷ ps)) (part-length p)
     ∙ ap (λ (r : List ℕ). bare p ++ (44 ∷ r)) (bares-joined (q ∷ ps))
 
 pub bares-tokens : (ps : List (List ℕ)) → tokensIn (bares ps) ≡ tokensIn ps
@@ -121,7 +111,5 @@ bares-none (p ∷ ps) =
 
 -- the parts of a converted list
 pub plain-parts : (l : List ℕ) → split 44 (plain l) ≡ bares (split 44 l)
-plain-parts l =
-    ap (λ (q : List ℕ). split 44 (without q (signs l))) (sym (joined-split l))
-    ∙ ap (split 44) (bares-joined (split 44 l))
+plain-parts l = ap (λ (q : List ℕ). split 44 (without q (signs l))) (sym (joined-split l)) ∙ ap (split 44) (bares-joined (split 44 l))
     ∙ split-joined (bares (split 44 l)) (bares-some (split 44 l) (split-some l)) (bares-no-commas (split 44 l) (split-no-commas l))

@@ -1,13 +1,5 @@
 -- `Converted` and `Entry`: a converted list is read as before and has no retired sign, and 21 comes where there is one. Assumes nothing.
-use mathlib.Core.Path.{_≡_, refl, ap, sym, _∙_}
-use mathlib.Core.List.{List}
-use mathlib.Core.Bool.{false}
-use Prim.Native.Nat.{ℕ}
-use native.Mathlib.Numerals.{add-one}
-use native.Mathlib.Omega.{arith}
-use lib.Dec.{eqb, ltb}
-use lib.ListN.{length, replicate}
-use borrow.Author.Tests.{eq-eqb, lt-ltb, le-ltb, le-leb}
+use Rattle.lists.proofs.Kit.{_≡_, refl, ap, sym, _∙_, List, false, ℕ, add-one, arith, length, replicate, eqb, ltb, eq-eqb, lt-ltb, le-ltb, le-leb}
 use Rattle.chars.specs.Scalar.{notScalar}
 use Rattle.list_parts.specs.Refusals.{listRefusal}
 use Rattle.list_tokens.specs.declared.Token.{Token}
@@ -63,8 +55,7 @@ entry list t =
       retired = λ k h e f.
           let at : firstSign list ≡ k = first-at list (signs list) k h (omega (arith, signs-length list)) e f in
           let inside = lt-ltb (firstSign list) (length list) (omega arith) in
-          cond-yes (eqb (listRefusal list) 0) _ _ (eq-eqb (listRefusal list) 0 t)
-          ∙ cond-yes (ltb (firstSign list) (length list)) _ _ inside
+          cond-yes (eqb (listRefusal list) 0) _ _ (eq-eqb (listRefusal list) 0 t) ∙ cond-yes (ltb (firstSign list) (length list)) _ _ inside
           ∙ ap (refusedAt 21) at;
       parses = λ f. parsed-entry list t (first-none list (signs list) (omega (arith, signs-length list)) f);
       converted = parsed-entry (plain list) (plain-taken list t) (converted list .none-left) ∙ ap enteredBy (same-parse list t);

@@ -1,12 +1,6 @@
 -- Numbers without their sign: digits alone, of the same value, with no white space, comma or `-` among them. Assumes nothing.
-use mathlib.Core.Path.{_≡_, refl, ap, sym}
-use mathlib.Core.List.{List, [], _∷_, _++_}
-use mathlib.Core.Bool.{Bool, true, false, and-false, true≢false}
-use Prim.Native.Nat.{ℕ, suc, _≤_, _<_}
-use native.Mathlib.Omega.{arith}
-use lib.Dec.{eqb, leb}
-use lib.ListN.{length}
-use borrow.Author.Tests.{ne-eqb, leb-true, le-ltb, lt-leb}
+use Rattle.lists.proofs.Kit.{_≡_, refl, ap, sym, List, [], _∷_, _++_, Bool, true, false, and-false, true≢false, ℕ, suc, _≤_, _<_, arith, length, eqb, leb}
+use Rattle.lists.proofs.Kit.{ne-eqb, leb-true, le-ltb, lt-leb}
 use Rattle.lists.proofs.Both.{both}
 use Rattle.lists.specs.Codes.{isDigit}
 use Rattle.lists.specs.Lists.{upTo}

@@ -1,12 +1,6 @@
 -- Parts joined by commas: a list is its parts joined, and parts without a comma are those of what they are joined to. Assumes nothing.
-use mathlib.Core.Path.{_≡_, refl, ap, sym, _∙_}
-use mathlib.Core.List.{List, [], _∷_, _++_}
-use mathlib.Core.Bool.{Bool, true, false, cond, not, _&&_}
-use Prim.Native.Nat.{ℕ, _+_}
-use native.Mathlib.Omega.{arith}
-use lib.Dec.{eqb}
-use lib.ListN.{length, length-append}
-use borrow.Author.Tests.{eqb-true, not-true}
+use Rattle.lists.proofs.Kit.{_≡_, refl, ap, sym, _∙_, List, [], _∷_, _++_, Bool, true, false, cond, not, _&&_, ℕ, _+_, arith, length, length-append, eqb}
+use Rattle.lists.proofs.Kit.{eqb-true, not-true}
 use Rattle.lists.proofs.Both.{both}
 use Rattle.lists.specs.Lists.{onFirst, split}
 use Rattle.list_signs.specs.Signs.{partSigns, signsIn, signs}
@@ -50,9 +44,7 @@ unfolding split joined
 joined-split [] = refl
 joined-split (y ∷ l) = go (eqb y 44) refl (split-some l) (joined-split l)
   where
-    go :
-        (b : Bool) → eqb y 44 ≡ b → Some (split 44 l) → joined (split 44 l) ≡ l →
-        joined (cond b ([] ∷ split 44 l) (onFirst y (split 44 l))) ≡ y ∷ l
+    go : (b : Bool) → eqb y 44 ≡ b → Some (split 44 l) → joined (split 44 l) ≡ l → joined (cond b ([] ∷ split 44 l) (onFirst y (split 44 l))) ≡ y ∷ l
     go true e s h = joined-comma (split 44 l) s ∙ ap (λ (q : List ℕ). 44 ∷ q) h ∙ ap (λ (x : ℕ). x ∷ l) (sym (eqb-true y 44 e))
     go false e s h = joined-first y (split 44 l) s ∙ ap (λ (q : List ℕ). y ∷ q) h
 
@@ -102,8 +94,7 @@ joined-length : (ps : List (List ℕ)) → Some ps → length (signsIn ps) ≡ l
 unfolding joined signsIn Some
 joined-length [] s = absurd (s refl)
 joined-length (p ∷ []) s = length-append (partSigns p) (false ∷ []) ∙ ap (λ (n : ℕ). n + 1) (part-length p)
-joined-length (p ∷ q ∷ ps) s =
-    length-append (partSigns p) (false ∷ signsIn (q ∷ ps))
+joined-length (p ∷ q ∷ ps) s = length-append (partSigns p) (false ∷ signsIn (q ∷ ps))
     ∙ omega (arith, part-length p, length-append p (44 ∷ joined (q ∷ ps)), joined-length (q ∷ ps) (no-cons q ps))
 
 pub signs-length : (l : List ℕ) → length (signs l) ≡ length l + 1

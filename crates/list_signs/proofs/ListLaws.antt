@@ -1,13 +1,6 @@
 -- Laws of the loops over marks: the first that is true, and what has none, from an index on. Assumes nothing.
-use mathlib.Core.Path.{_≡_, refl, ap, sym, _∙_}
-use mathlib.Core.List.{List, [], _∷_, _++_}
-use mathlib.Core.Bool.{Bool, true, false}
-use Prim.Native.Nat.{ℕ, suc, _+_, _≤_, _<_}
-use native.Mathlib.Nat.{zero-add}
-use native.Mathlib.Numerals.{add-one}
-use native.Mathlib.Omega.{arith}
-use lib.ListN.{length, getD, take, drop, set, drop-of-length-le, length-drop, length-set}
-use lib.Seq.{drop-drop, getD-drop, take-length, paste-suc}
+use Rattle.lists.proofs.Kit.{_≡_, refl, ap, sym, _∙_, List, [], _∷_, _++_, Bool, true, false, ℕ, suc, _+_, _≤_, _<_, zero-add, add-one, arith, length, getD}
+use Rattle.lists.proofs.Kit.{take, drop, set, drop-of-length-le, length-drop, length-set, drop-drop, getD-drop, take-length, paste-suc}
 use Rattle.lists.proofs.Lists.{drop-at-of as drop-at}
 use Rattle.list_signs.specs.Plain.{firstIn, without}
 
@@ -28,8 +21,7 @@ module _ (l : List ℕ) (ms : List Bool) (i : ℕ) where
   unfolding without
   without-skip h k e = rw (drop-at l i 0 h, drop-at ms i false k, e)
 
-  pub without-keep :
-      i < length l → i < length ms → getD ms i false ≡ false →
+  pub without-keep : i < length l → i < length ms → getD ms i false ≡ false →
       without (drop i l) (drop i ms) ≡ getD l i 0 ∷ without (drop (i + 1) l) (drop (i + 1) ms)
   unfolding without
   without-keep h k e = rw (drop-at l i 0 h, drop-at ms i false k, e)

@@ -1,14 +1,7 @@
 -- Laws of marks by their places: those that the code sets in a part are those of `partSigns`. Assumes nothing.
-use mathlib.Core.Path.{_≡_, refl, ap, sym, _∙_}
-use mathlib.Core.List.{List, [], _∷_, _++_}
-use mathlib.Core.Bool.{Bool, true, false, cond, _&&_, and-true, and-false, true≢false}
-use Prim.Native.Nat.{ℕ, suc, _+_, _<_}
-use native.Mathlib.Nat.{add-zero}
-use native.Mathlib.Decide.{decLt}
-use native.Mathlib.Omega.{arith}
-use lib.Dec.{eqb}
-use lib.ListN.{length, getD, take, drop, set, replicate, length-append, length-replicate, length-drop, length-set, replicate-append-replicate}
-use lib.Seq.{length-take-le, getD-take, getD-drop, set-append-left}
+use Rattle.lists.proofs.Kit.{_≡_, refl, ap, sym, _∙_, List, [], _∷_, _++_, Bool, true, false, cond, _&&_, and-true, and-false, true≢false, ℕ, suc, _+_, _<_}
+use Rattle.lists.proofs.Kit.{add-zero, decLt, arith, length, getD, take, drop, set, replicate, length-append, length-replicate, length-drop, length-set}
+use Rattle.lists.proofs.Kit.{replicate-append-replicate, length-take-le, getD-take, getD-drop, set-append-left, eqb}
 use Rattle.lists.proofs.Both.{both}
 use Rattle.lists.specs.Lists.{upTo}
 use Rattle.list_parts.specs.Numbers.{numberOf}
@@ -87,8 +80,7 @@ kept-range p e =
     let next : getD rest 0 0 ≡ getD p (up-to + 1) 0 = getD-drop (up-to + 1) p 0 0 ∙ ap (λ (k : ℕ). getD p k 0) (add-zero (up-to + 1)) in
     let second : leading rest ≡ marked next-test 0 (none rest) = rw (leading-marked rest, next) in
     let size : length (marked test 0 (none front)) ≡ up-to = length-marked test 0 (none front) ∙ length-replicate (length front) false ∙ size-is in
-    rw (e, and-true test, and-true next-test, parts, first, second)
-    (ap (marked next-test (up-to + 1))
+    rw (e, and-true test, and-true next-test, parts, first, second) (ap (marked next-test (up-to + 1))
     (marked-left test (none front) (false ∷ none rest) 0 (λ _. omega (arith, by-range-inside .0, size-is, length-replicate (length front) false)))
     ∙ marked-past next-test (marked test 0 (none front)) (false ∷ none rest) up-to 1 size
     ∙ ap (λ (r : List Bool). marked test 0 (none front) ++ r) (marked-right next-test (false ∷ []) (none rest) 0))
@@ -109,8 +101,5 @@ kept-signs p = go (isToken (rangeOf p)) refl
 
 -- a mark for each code point
 pub kept-length : (p : List ℕ) → length (keptSigns p) ≡ length p
-kept-length p =
-    ap length (sym (kept-signs p))
-    ∙ length-marked (seconds p) (upTo 45 p + 1) (marked (leads p) 0 (none p))
-    ∙ length-marked (leads p) 0 (none p)
+kept-length p = ap length (sym (kept-signs p)) ∙ length-marked (seconds p) (upTo 45 p + 1) (marked (leads p) 0 (none p)) ∙ length-marked (leads p) 0 (none p)
     ∙ length-replicate (length p) false

@@ -1,11 +1,6 @@
 -- The loop of `marks_of`: part by part, the marks of a list are its signs. Assumes nothing.
-use mathlib.Core.Path.{_≡_, refl, ap, sym, _∙_}
-use mathlib.Core.List.{List, [], _∷_, _++_, append-assoc, append-nil}
-use mathlib.Core.Bool.{Bool, false}
-use Prim.Native.Nat.{ℕ, suc, _+_, _-_, _≤_}
-use native.Mathlib.Omega.{arith}
-use lib.ListN.{length, take, drop, replicate, length-append, length-replicate, length-drop, replicate-append-replicate}
-use lib.Seq.{length-take-le}
+use Rattle.lists.proofs.Kit.{_≡_, refl, ap, sym, _∙_, List, [], _∷_, _++_, append-assoc, append-nil, Bool, false, ℕ, suc, _+_, _-_, _≤_, arith, length, take}
+use Rattle.lists.proofs.Kit.{drop, replicate, length-append, length-replicate, length-drop, replicate-append-replicate, length-take-le}
 use Rattle.lists.specs.Lists.{upTo}
 use Rattle.lists.proofs.Splits.{splitFrom, split-from-start, split-from-end, split-from-step, next-most}
 use Rattle.list_parts.specs.Parts.{trim}
@@ -28,8 +23,7 @@ pub marking-start : (l : List ℕ) → Marking l (replicate 1026 false) 0
 marking-start l = record { done = []; size = refl; rest = ap signsIn (sym (split-from-start 44 l)); is = refl }
 
 pub marking-length : (l : List ℕ) (ms : List Bool) (i : ℕ) → Marking l ms i → i ≤ 1026 → length ms ≡ 1026
-marking-length l ms i m h =
-    ap length (m .is) ∙ length-append (m .done) (replicate (1026 - i) false) ∙ omega (arith, m .size, length-replicate (1026 - i) false)
+marking-length l ms i m h = ap length (m .is) ∙ length-append (m .done) (replicate (1026 - i) false) ∙ omega (arith, m .size, length-replicate (1026 - i) false)
 
 pub marking-end : (l : List ℕ) (ms : List Bool) (i : ℕ) → Marking l ms i → i ≡ length l + 1 → ms ≡ signs l ++ replicate (1025 - length l) false
 unfolding signsIn
@@ -39,8 +33,7 @@ marking-end l ms i m h =
     let difference-is : 1026 - i ≡ 1025 - length l = omega arith in
     rw (none-left, ← difference-is) (m .is)
 
-pub marking-step :
-    (l : List ℕ) (ms ms₁ : List Bool) (i e : ℕ) → i ≤ length l → length l ≤ 1024 → e ≡ i + upTo 44 (drop i l) → Marking l ms i →
+pub marking-step : (l : List ℕ) (ms ms₁ : List Bool) (i e : ℕ) → i ≤ length l → length l ≤ 1024 → e ≡ i + upTo 44 (drop i l) → Marking l ms i →
     ms₁ ≡ partMarked (take (e - i) (drop i l)) i ms → Marking l ms₁ (e + 1)
 unfolding signsIn
 marking-step l ms ms₁ i e h k w m s =
@@ -54,9 +47,7 @@ marking-step l ms ms₁ i e h k w m s =
     ap (λ (j : ℕ). replicate j false) more ∙ sym (replicate-append-replicate (length front) (suc (1026 - (e + 1))) false) in
     let one : i + upTo 45 front + 1 ≡ i + (upTo 45 front + 1) = omega arith in
     let left : ms₁ ≡ m .done ++ (partSigns front ++ (false ∷ blank)) =
-    s
-    ∙ ap (partMarked front i) (m .is ∙ ap (λ (q : List Bool). m .done ++ q) free)
-    ∙ ap (marked (seconds (trim front)) (i + upTo 45 front + 1))
+    s ∙ ap (partMarked front i) (m .is ∙ ap (λ (q : List Bool). m .done ++ q) free) ∙ ap (marked (seconds (trim front)) (i + upTo 45 front + 1))
     (marked-past (leads (trim front)) (m .done) (none front ++ (false ∷ blank)) i (upTo 43 front) (m .size))
     ∙ ap (λ (j : ℕ). marked (seconds (trim front)) j (m .done ++ marked (leads (trim front)) (upTo 43 front) (none front ++ (false ∷ blank)))) one
     ∙ marked-past (seconds (trim front)) (m .done) (marked (leads (trim front)) (upTo 43 front) (none front ++ (false ∷ blank))) i (upTo 45 front + 1) (m .size)

@@ -1,13 +1,6 @@
 -- A trimmed part without its signs is the same token, has none left and is trimmed. Assumes nothing.
-use mathlib.Core.Path.{_≡_, refl, ap, sym, _∙_}
-use mathlib.Core.List.{List, [], _∷_, _++_}
-use mathlib.Core.Bool.{Bool, true, false, cond, true≢false}
-use Prim.Native.Nat.{ℕ, suc, _<_}
-use native.Mathlib.Omega.{arith}
-use lib.Dec.{eqb}
-use lib.ListN.{length, getD, length-append, length-replicate}
-use lib.Seq.{take-append-seam, drop-append-add}
-use borrow.Author.Tests.{eqb-true, lt-ltb}
+use Rattle.lists.proofs.Kit.{_≡_, refl, ap, sym, _∙_, List, [], _∷_, _++_, Bool, true, false, cond, true≢false, ℕ, suc, _<_, arith, length, getD, length-append}
+use Rattle.lists.proofs.Kit.{length-replicate, take-append-seam, drop-append-add, eqb, eqb-true, lt-ltb}
 use Rattle.lists.specs.Lists.{upTo}
 use Rattle.list_parts.specs.declared.numbers.Number.{Number}
 use Rattle.list_parts.specs.declared.numbers.Number.the-variants.{Value, Not}

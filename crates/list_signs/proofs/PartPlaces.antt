@@ -1,19 +1,11 @@
 -- Where the signs of a part are: white space is neither `+` nor `-`, so each is found without trimming the part. Assumes nothing.
-use mathlib.Core.Path.{_≡_, refl, ap, sym, _∙_}
-use mathlib.Core.List.{List, [], _∷_, _++_}
-use mathlib.Core.Bool.{Bool, true, false, cond, true≢false}
-use Prim.Native.Nat.{ℕ, suc, _+_, _<_}
-use native.Mathlib.Omega.{arith}
-use native.Mathlib.Nat.{zero-add}
-use lib.Dec.{eqb}
-use lib.ListN.{length, getD, List·getD-eq-default}
-use borrow.Author.Tests.{ne-eqb}
+use Rattle.lists.proofs.Kit.{_≡_, refl, ap, sym, _∙_, List, [], _∷_, _++_, Bool, true, false, cond, true≢false, ℕ, suc, _+_, _<_, zero-add, decLt, arith}
+use Rattle.lists.proofs.Kit.{length, getD, List·getD-eq-default, eqb, ne-eqb}
 use Rattle.lists.proofs.Both.{both}
 use Rattle.lists.specs.Lists.{upTo}
 use Rattle.chars.specs.White.{whites, isWhite}
 use Rattle.list_parts.specs.Parts.{trim}
 use Rattle.list_signs.specs.Signs.{before, behind}
-use native.Mathlib.Decide.{decLt}
 use Rattle.list_signs.specs.Marks.{leads, seconds}
 use Rattle.list_signs.proofs.WhiteLaws.{allWhite, before-white, split-part}
 
@@ -33,16 +25,13 @@ unfolding upTo
 up-to-front x [] w h = absurd (omega arith)
 up-to-front x (y ∷ t) w h = go (eqb y x) refl (λ (m : upTo x t < length t). up-to-front x t w m)
   where
-    go :
-        (b : Bool) → eqb y x ≡ b → (upTo x t < length t → upTo x (t ++ w) ≡ upTo x t) →
+    go : (b : Bool) → eqb y x ≡ b → (upTo x t < length t → upTo x (t ++ w) ≡ upTo x t) →
         cond (eqb y x) 0 (suc (upTo x (t ++ w))) ≡ cond (eqb y x) 0 (suc (upTo x t))
     go true e f = rw e
     go false e f = let one-more-below : suc (upTo x t) < suc (length t) = rw e at h in rw (e, f (omega arith))
 
 pub part-place : (x : ℕ) (p : List ℕ) → isWhite x ≡ false → upTo x (trim p) < length (trim p) → upTo x p ≡ length (before p) + upTo x (trim p)
-part-place x p n h =
-    ap (upTo x) (sym (split-part p))
-    ∙ up-to-white x (before p) (trim p ++ behind p) n (before-white p)
+part-place x p n h = ap (upTo x) (sym (split-part p)) ∙ up-to-white x (before p) (trim p ++ behind p) n (before-white p)
     ∙ ap (λ (k : ℕ). length (before p) + k) (up-to-front x (trim p) (behind p) h)
 
 pub plus-not-white : isWhite 43 ≡ false
@@ -65,17 +54,14 @@ lead-place p e = go (trim p) refl e
         let some : 0 < length (trim p) = rw w (omega arith) in
         (part-place 43 p plus-not-white (omega arith) ∙ ap (λ (k : ℕ). length (before p) + k) up-to-is, some)
 
-pub second-place :
-    (p : List ℕ) → seconds (trim p) ≡ true →
+pub second-place : (p : List ℕ) → seconds (trim p) ≡ true →
     (upTo 45 p + 1 ≡ length (before p) + (upTo 45 (trim p) + 1)) × (upTo 45 (trim p) + 1 < length (trim p))
 second-place p e = go (decLt (upTo 45 (trim p) + 1) (length (trim p)))
   where
     plus : eqb (getD (trim p) (upTo 45 (trim p) + 1) 0) 43 ≡ true
     plus = both _ _ e .0
 
-    go :
-        Dec (upTo 45 (trim p) + 1 < length (trim p)) →
-        (upTo 45 p + 1 ≡ length (before p) + (upTo 45 (trim p) + 1)) × (upTo 45 (trim p) + 1 < length (trim p))
+    go : Dec (upTo 45 (trim p) + 1 < length (trim p)) → (upTo 45 p + 1 ≡ length (before p) + (upTo 45 (trim p) + 1)) × (upTo 45 (trim p) + 1 < length (trim p))
     go (yes h) = (omega (arith, part-place 45 p minus-not-white (omega arith)), h)
     go (no n) =
         let value-is : getD (trim p) (upTo 45 (trim p) + 1) 0 ≡ 0 = List·getD-eq-default (trim p) 0 (omega arith) in

@@ -1,13 +1,6 @@
 -- Only plus signs are retired: every mark of `signs` that is true stands at a `+`. Assumes nothing.
-use mathlib.Core.Path.{_≡_, refl, ap, sym, _∙_}
-use mathlib.Core.List.{List, [], _∷_, _++_, append-nil}
-use mathlib.Core.Bool.{Bool, true, false, true≢false}
-use Prim.Native.Nat.{ℕ, zero, suc, _+_}
-use native.Mathlib.Numerals.{add-one}
-use native.Mathlib.Omega.{arith}
-use lib.ListN.{length, getD, take, drop, replicate, length-replicate}
-use lib.Seq.{split-at}
-use borrow.Author.Tests.{eqb-true}
+use Rattle.lists.proofs.Kit.{_≡_, refl, ap, sym, _∙_, List, [], _∷_, _++_, append-nil, Bool, true, false, true≢false, ℕ, zero, suc, _+_, add-one, arith, length}
+use Rattle.lists.proofs.Kit.{getD, take, drop, replicate, length-replicate, split-at, eqb-true}
 use Rattle.lists.specs.Lists.{upTo, split}
 use Rattle.list_parts.specs.Numbers.{numberOf}
 use Rattle.list_parts.specs.Parts.{trim}
@@ -85,11 +78,9 @@ pluses-part p =
 pluses-joined : (ps : List (List ℕ)) → Pluses (joined ps) (signsIn ps)
 unfolding joined signsIn
 pluses-joined [] = pluses-none [] 0
-pluses-joined (p ∷ []) =
-    pluses-of p (p ++ []) (partSigns p ++ (false ∷ [])) (partSigns p ++ (false ∷ [])) (sym (append-nil p)) refl
+pluses-joined (p ∷ []) = pluses-of p (p ++ []) (partSigns p ++ (false ∷ [])) (partSigns p ++ (false ∷ [])) (sym (append-nil p)) refl
     (pluses-append p [] (partSigns p) (false ∷ []) (part-length p) (pluses-part p) (pluses-none [] 1))
-pluses-joined (p ∷ q ∷ ps) =
-    pluses-append p (44 ∷ joined (q ∷ ps)) (partSigns p) (false ∷ signsIn (q ∷ ps)) (part-length p) (pluses-part p)
+pluses-joined (p ∷ q ∷ ps) = pluses-append p (44 ∷ joined (q ∷ ps)) (partSigns p) (false ∷ signsIn (q ∷ ps)) (part-length p) (pluses-part p)
     (pluses-skip 44 (joined (q ∷ ps)) (signsIn (q ∷ ps)) (pluses-joined (q ∷ ps)))
 
 pub signs-pluses : (l : List ℕ) → Pluses l (signs l)

@@ -1,13 +1,6 @@
 -- Laws of a part as a range, and of its signs as the code tests them. Assumes nothing.
-use mathlib.Core.Path.{_≡_, refl, ap, _∙_}
-use mathlib.Core.List.{List}
-use mathlib.Core.Bool.{true, false, _&&_}
-use Prim.Native.Nat.{ℕ, _+_, _-_, _≤_, _<_}
-use native.Mathlib.Omega.{arith}
-use lib.Dec.{eqb}
-use lib.ListN.{length, getD, take, drop, length-drop, List·getD-eq-default}
-use lib.Seq.{take-all}
-use borrow.Author.Tests.{le-ltb, lt-ltb}
+use Rattle.lists.proofs.Kit.{_≡_, refl, ap, _∙_, List, true, false, _&&_, ℕ, _+_, _-_, _≤_, _<_, arith, length, getD, take, drop, length-drop}
+use Rattle.lists.proofs.Kit.{List·getD-eq-default, take-all, eqb, le-ltb, lt-ltb}
 use Rattle.lists.specs.Lists.{upTo}
 use Rattle.list_parts.specs.declared.numbers.Number.{Number}
 use Rattle.list_parts.specs.declared.numbers.Number.the-variants.{Value, Not}
@@ -47,7 +40,6 @@ pub leads-none : (p : List ℕ) → length p ≡ 0 → leads p ≡ false
 leads-none p h = rw (List·getD-eq-default p 0 {n = 0} (omega arith))
 
 -- a range is two numbers
-pub range-both :
-    (p : List ℕ) → upTo 45 p < length p →
+pub range-both : (p : List ℕ) → upTo 45 p < length p →
     isToken (rangeOf p) ≡ (isValue (numberOf (take (upTo 45 p) p)) && isValue (numberOf (drop (upTo 45 p + 1) p)))
 range-both p h = rw (lt-ltb _ _ h) (between-both (numberOf (take (upTo 45 p) p)) (numberOf (drop (upTo 45 p + 1) p)))

@@ -1,12 +1,6 @@
 -- Every trimmed part stays the same token without its signs, and so does a part with white space around it. Assumes nothing.
-use mathlib.Core.Path.{_≡_, refl, ap, sym, _∙_}
-use mathlib.Core.List.{List, [], _∷_, _++_}
-use mathlib.Core.Bool.{Bool, true, false, not}
-use Prim.Native.Nat.{ℕ, _+_}
-use native.Mathlib.Numerals.{add-one}
-use native.Mathlib.Omega.{arith}
-use lib.ListN.{length, take, drop}
-use lib.Seq.{split-at, length-take-le}
+use Rattle.lists.proofs.Kit.{_≡_, refl, ap, sym, _∙_, List, [], _∷_, _++_, Bool, true, false, not, ℕ, _+_, add-one, arith, length, take, drop, split-at}
+use Rattle.lists.proofs.Kit.{length-take-le}
 use Rattle.lists.proofs.Both.{both}
 use Rattle.lists.specs.Lists.{upTo}
 use Rattle.chars.specs.White.{isWhite}
@@ -26,8 +20,7 @@ use Rattle.list_signs.proofs.WhiteLaws.{noWhite}
 use Rattle.list_signs.proofs.WithoutLaws.{without-none, without-append}
 
 -- the same of u, which is t without its signs
-same-by :
-    (t u : List ℕ) → without t (keptSigns t) ≡ u → tokenOf u ≡ tokenOf t → keptSigns u ≡ none u → trim u ≡ u → trimStart u ≡ u → Same t
+same-by : (t u : List ℕ) → without t (keptSigns t) ≡ u → tokenOf u ≡ tokenOf t → keptSigns u ≡ none u → trim u ≡ u → trimStart u ≡ u → Same t
 same-by t u w a b c d = record { token = rw w a; bare = rw w b; trimmed = rw w c; starts = rw w d }
 
 no-white-range : (a b : List ℕ) → noWhite a ≡ true → noWhite b ≡ true → noWhite (a ++ (45 ∷ b)) ≡ true
@@ -44,8 +37,7 @@ same-range a b lo hi u x y =
     let joined = by-plain-number .digits ++ (45 ∷ by-plain-number-b .digits) in
     let by-digits-no-minus = digits-no-minus (by-plain-number .digits) (by-plain-number-b .digits) (by-plain-number .are) in
     let without-is : without (a ++ (45 ∷ b)) (keptSigns (a ++ (45 ∷ b))) ≡ joined =
-    ap (without (a ++ (45 ∷ b))) (range-signs a b lo hi u x y)
-    ∙ without-append a (45 ∷ b) (leading a) (false ∷ leading b) (leading-length a)
+    ap (without (a ++ (45 ∷ b))) (range-signs a b lo hi u x y) ∙ without-append a (45 ∷ b) (leading a) (false ∷ leading b) (leading-length a)
     ∙ rw (by-plain-number .is, by-plain-number-b .is) in
     let bare : keptSigns joined ≡ none joined =
     range-signs (by-plain-number .digits) (by-plain-number-b .digits) lo hi by-digits-no-minus (by-plain-number .same) (by-plain-number-b .same)
@@ -54,8 +46,7 @@ same-range a b lo hi u x y =
     (digits-no-white (by-plain-number-b .digits) (by-plain-number-b .are)) in
     same-by (a ++ (45 ∷ b)) joined without-is
     (range-token (by-plain-number .digits) (by-plain-number-b .digits) lo hi by-digits-no-minus (by-plain-number .same) (by-plain-number-b .same)
-    ∙ sym (range-token a b lo hi u x y)) bare
-    (trim-none joined clear) (start-none joined clear)
+    ∙ sym (range-token a b lo hi u x y)) bare (trim-none joined clear) (start-none joined clear)
 
 same-number : (t : List ℕ) (n : ℕ) → isToken (rangeOf t) ≡ false → numberOf t ≡ Value n → Same t
 same-number t n r e =
@@ -65,8 +56,7 @@ same-number t n r e =
     let none-in : isToken (rangeOf digits) ≡ false = no-range digits (upTo 45 digits) up-to-is (omega (arith, digits-up-to digits (by-plain-number .are))) in
     let clear = digits-no-white digits (by-plain-number .are) in
     same-by t digits (rw (r, e) (by-plain-number .is)) (number-token digits n (by-plain-number .same) none-in ∙ sym (number-token t n e r))
-    (rw (none-in, by-plain-number .same) (by-plain-number .bare))
-    (trim-none digits clear) (start-none digits clear)
+    (rw (none-in, by-plain-number .same) (by-plain-number .bare)) (trim-none digits clear) (start-none digits clear)
 
 same-other : (t : List ℕ) → isToken (rangeOf t) ≡ false → isValue (numberOf t) ≡ false → trim t ≡ t → trimStart t ≡ t → Same t
 same-other t r e a b = same-by t t (rw (r, e) (without-none t (length t))) refl (rw (r, e)) a b

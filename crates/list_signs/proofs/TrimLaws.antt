@@ -1,11 +1,5 @@
 -- Trimming a part: once is enough, what has no white space stays, and white space around what is trimmed goes again. Assumes nothing.
-use mathlib.Core.Path.{_≡_, refl, ap, sym, _∙_}
-use mathlib.Core.List.{List, [], _∷_, _++_}
-use mathlib.Core.Bool.{Bool, true, false, cond, not}
-use Prim.Native.Nat.{ℕ, suc, _≤_}
-use native.Mathlib.Omega.{arith}
-use lib.ListN.{length, drop}
-use borrow.Author.Tests.{not-true}
+use Rattle.lists.proofs.Kit.{_≡_, refl, ap, sym, _∙_, List, [], _∷_, _++_, Bool, true, false, cond, not, ℕ, suc, _≤_, arith, length, drop, not-true}
 use Rattle.lists.proofs.Both.{both}
 use Rattle.chars.specs.White.{isWhite}
 use Rattle.list_parts.specs.Parts.{trimStart, keepLast, trimEnd, trim}
@@ -45,9 +39,7 @@ unfolding trimStart
 start-twice [] = refl
 start-twice (x ∷ p) = go (isWhite x) refl (start-twice p)
   where
-    go :
-        (b : Bool) → isWhite x ≡ b → trimStart (trimStart p) ≡ trimStart p →
-        trimStart (cond b (trimStart p) (x ∷ p)) ≡ cond b (trimStart p) (x ∷ p)
+    go : (b : Bool) → isWhite x ≡ b → trimStart (trimStart p) ≡ trimStart p → trimStart (cond b (trimStart p) (x ∷ p)) ≡ cond b (trimStart p) (x ∷ p)
     go true e h = h
     go false e h = rw e
 
@@ -75,8 +67,7 @@ pub trim-twice : (p : List ℕ) → trim (trim p) ≡ trim p
 trim-twice p =
     let trim-start = trimStart p in
     ap trimEnd (start-of-end trim-start (start-twice p))
-    ∙ sym (end-skip (trimEnd trim-start) (drop (length (trimEnd trim-start)) trim-start) (end-white trim-start))
-    ∙ ap trimEnd (split-end trim-start)
+    ∙ sym (end-skip (trimEnd trim-start) (drop (length (trimEnd trim-start)) trim-start) (end-white trim-start)) ∙ ap trimEnd (split-end trim-start)
 
 -- what is trimmed, with white space around it
 pub trim-around : (w t v : List ℕ) → allWhite w ≡ true → allWhite v ≡ true → trim t ≡ t → trimStart t ≡ t → trim (w ++ (t ++ v)) ≡ t

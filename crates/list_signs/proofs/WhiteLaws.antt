@@ -1,10 +1,5 @@
 -- White space around a part: it is all before and behind what the part is trimmed to, and a value that is none is sought past it. Assumes nothing.
-use mathlib.Core.Path.{_≡_, refl, ap, _∙_}
-use mathlib.Core.List.{List, [], _∷_, _++_}
-use mathlib.Core.Bool.{Bool, true, false, cond, not, _&&_}
-use Prim.Native.Nat.{ℕ}
-use native.Mathlib.Omega.{arith}
-use lib.ListN.{length, drop}
+use Rattle.lists.proofs.Kit.{_≡_, refl, ap, _∙_, List, [], _∷_, _++_, Bool, true, false, cond, not, _&&_, ℕ, length, drop}
 use Rattle.lists.proofs.Both.{both}
 use Rattle.chars.specs.White.{isWhite}
 use Rattle.list_parts.specs.Parts.{trimStart, keepLast, trimEnd, trim}
@@ -47,8 +42,7 @@ unfolding trimEnd allWhite
 end-of [] = record { joined = refl; white = refl }
 end-of (x ∷ q) = go (trimEnd q) (isWhite x) refl refl (end-of q .joined) (end-of q .white)
   where
-    go :
-        (t : List ℕ) (b : Bool) → trimEnd q ≡ t → isWhite x ≡ b → trimEnd q ++ drop (length (trimEnd q)) q ≡ q →
+    go : (t : List ℕ) (b : Bool) → trimEnd q ≡ t → isWhite x ≡ b → trimEnd q ++ drop (length (trimEnd q)) q ≡ q →
         allWhite (drop (length (trimEnd q)) q) ≡ true → End (x ∷ q)
     go [] true t b j w = record { joined = rw (t, b); white = rw (t, b) (rw b (rw t at w)) }
     go [] false t b j w = record { joined = rw (t, b); white = rw (t, b) (rw t at w) }

@@ -1,10 +1,6 @@
 -- Laws of marks: what has none that is true, and where the first is, over any list and any marks. Assumes nothing.
-use mathlib.Core.Path.{_≡_, refl, ap}
-use mathlib.Core.List.{List, [], _∷_, _++_}
-use mathlib.Core.Bool.{Bool, true, false, _||_, true≢false}
-use Prim.Native.Nat.{ℕ, zero, suc, _≤_, _<_}
-use native.Mathlib.Omega.{arith}
-use lib.ListN.{length, getD, take, drop, replicate}
+use Rattle.lists.proofs.Kit.{_≡_, refl, ap, List, [], _∷_, _++_, Bool, true, false, _||_, true≢false, ℕ, zero, suc, _≤_, _<_, arith, length, getD, take, drop}
+use Rattle.lists.proofs.Kit.{replicate}
 use Rattle.lists.specs.Lists.{any}
 use Rattle.list_signs.specs.Plain.{firstIn, without}
 
@@ -42,8 +38,7 @@ without-append (x ∷ p) q [] b h = absurd (omega arith)
 without-append (x ∷ p) q (true ∷ a) b h = without-append p q a b (omega arith)
 without-append (x ∷ p) q (false ∷ a) b h = ap (λ (r : List ℕ). x ∷ r) (without-append p q a b (omega arith))
 
-pub without-at :
-    (l : List ℕ) (ms : List Bool) (k : ℕ) → k < length l → k < length ms → getD ms k false ≡ false →
+pub without-at : (l : List ℕ) (ms : List Bool) (k : ℕ) → k < length l → k < length ms → getD ms k false ≡ false →
     without l ms ≡ without (take k l) (take k ms) ++ (getD l k 0 ∷ without (drop (suc k) l) (drop (suc k) ms))
 unfolding without
 without-at [] ms k h m e = absurd (omega arith)
@@ -59,8 +54,7 @@ without-least (x ∷ l) [] = omega arith
 without-least (x ∷ l) (true ∷ ms) = omega (arith, without-least l ms)
 without-least (x ∷ l) (false ∷ ms) = omega (arith, without-least l ms)
 
-pub first-at :
-    (l : List ℕ) (ms : List Bool) (k : ℕ) → k < length l → k < length ms → getD ms k false ≡ true →
+pub first-at : (l : List ℕ) (ms : List Bool) (k : ℕ) → k < length l → k < length ms → getD ms k false ≡ true →
     ((j : ℕ) → j < k → getD ms j false ≡ false) → firstIn l ms ≡ k
 unfolding firstIn
 first-at [] ms k h m e f = absurd (omega arith)

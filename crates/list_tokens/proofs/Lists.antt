@@ -1,10 +1,6 @@
 -- Laws of lists that the other files of this folder share. Assumes nothing.
-use mathlib.Core.Path.{_≡_, sym, _∙_}
-use mathlib.Core.List.{List, [], _∷_, _++_, map, append-assoc}
-use Prim.Native.Nat.{ℕ, suc, _+_, _-_, _≤_, _<_}
-use native.Mathlib.Omega.{arith}
-use lib.ListN.{length, getD, take, drop, set, replicate, length-map, length-append}
-use lib.Seq.{getD-take, length-take-le, set-append-seam}
+use Rattle.lists.proofs.Kit.{_≡_, sym, _∙_, List, [], _∷_, _++_, map, append-assoc, ℕ, suc, _+_, _-_, _≤_, _<_, arith, length, getD, take, drop, set, replicate}
+use Rattle.lists.proofs.Kit.{length-map, length-append, getD-take, length-take-le, set-append-seam}
 use Rattle.lists.proofs.Lists.{drop-at-of as drop-at}
 
 -- what stands at i among the first n, and what stands after it
@@ -16,8 +12,7 @@ pub places : {X Y : Type 0} (f : X → Y) (l : List X) (n : ℕ) → length (map
 places f l n e = sym (length-map l f) ∙ e
 
 -- a list that is filled up to n places with d, and one more in its first free place
-pub fill-push :
-    {X : Type 0} (n : ℕ) (d : X) (l : List X) (x : X) → length l < n →
+pub fill-push : {X : Type 0} (n : ℕ) (d : X) (l : List X) (x : X) → length l < n →
     set (l ++ replicate (n - length l) d) (length l) x ≡ (l ++ (x ∷ [])) ++ replicate (n - length (l ++ (x ∷ []))) d
 fill-push n d l x h =
     let size-is : length (l ++ (x ∷ [])) ≡ length l + 1 = length-append l (x ∷ []) in

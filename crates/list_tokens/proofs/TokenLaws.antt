@@ -1,14 +1,6 @@
 -- Laws of tokens: what a part is, and the tokens of one part more. Assumes nothing.
-use mathlib.Core.Path.{_≡_, refl, ap, _∙_}
-use mathlib.Core.List.{List, [], _∷_}
-use mathlib.Core.Bool.{Bool, true, false, _||_}
-use Prim.Native.Nat.{ℕ, _+_, _-_, _≤_, _<_}
-use native.Mathlib.Decide.{ℕ-discrete}
-use native.Mathlib.Omega.{arith}
-use lib.Dec.{eqb}
-use lib.ListN.{length, getD, take, drop, length-drop, drop-of-length-le}
-use lib.Seq.{take-all, length-take-le}
-use borrow.Author.Tests.{eq-eqb, ne-eqb, le-ltb, lt-ltb}
+use Rattle.lists.proofs.Kit.{_≡_, refl, ap, _∙_, List, [], _∷_, Bool, false, _||_, ℕ, _+_, _-_, _≤_, _<_, ℕ-discrete, arith, length, getD, take, drop}
+use Rattle.lists.proofs.Kit.{length-drop, drop-of-length-le, take-all, length-take-le, eqb, eq-eqb, ne-eqb, le-ltb, lt-ltb}
 use Rattle.list_tokens.specs.declared.Token.{Token}
 use Rattle.list_tokens.specs.declared.tokens.Step.{Step}
 use Rattle.list_parts.specs.declared.numbers.Number.{Number}
@@ -74,8 +66,7 @@ module _ (p : List ℕ) (ps : List (List ℕ)) where
       go (no n) = rw (tokens-keep n)
 
 -- the part that begins at i: s is its token and where the next begins
-pub step-is :
-    (l : List ℕ) (i e : ℕ) (t : Token) → e ≡ i + upTo 44 (drop i l) → t ≡ tokenOf (trim (take (e - i) (drop i l))) →
+pub step-is : (l : List ℕ) (i e : ℕ) (t : Token) → e ≡ i + upTo 44 (drop i l) → t ≡ tokenOf (trim (take (e - i) (drop i l))) →
     record { token = t; next = e + 1 } ≡ stepOf l i
 step-is l i e t h w =
     let difference-is : e - i ≡ upTo 44 (drop i l) = omega arith in
@@ -101,13 +92,9 @@ parts-none l i c h = rw (split-from-end 44 l i h)
 
 -- the tokens of a table's first n places, one after the other
 module _ (f : Token → Bool) (ts : List Token) (n i : ℕ) where
-  pub any-hit : i < n → n ≤ length ts → f (getD ts i noToken) ≡ true → any f (drop i (take n ts)) ≡ true
+  pub any-on : i < n → n ≤ length ts → any f (drop i (take n ts)) ≡ (f (getD ts i noToken) || any f (drop (i + 1) (take n ts)))
   unfolding any
-  any-hit h l e = rw (drop-at-take ts n i noToken h l, e)
-
-  pub any-on : i < n → n ≤ length ts → f (getD ts i noToken) ≡ false → any f (drop i (take n ts)) ≡ any f (drop (i + 1) (take n ts))
-  unfolding any
-  any-on h l e = rw (drop-at-take ts n i noToken h l, e)
+  any-on h l = rw (drop-at-take ts n i noToken h l)
 
   pub any-end : n ≤ i → n ≤ length ts → any f (drop i (take n ts)) ≡ false
   unfolding any

@@ -1,15 +1,7 @@
 -- The blanks that a row begins with, read from the front, and the characters up to its last that is no white space, read from the back.
 -- Assumes nothing.
-use mathlib.Core.Path.{_≡_, refl, ap, sym, _∙_}
-use mathlib.Core.List.{List, [], _∷_, _++_}
-use mathlib.Core.Bool.{Bool, true, false, cond}
-use Prim.Native.Nat.{ℕ, suc, _+_, _-_, _≤_, _<_}
-use native.Mathlib.Numerals.{add-one}
-use native.Mathlib.Omega.{arith}
-use lib.Dec.{eqb}
-use lib.ListN.{length, getD, take, drop, drop-of-length-le}
-use lib.Seq.{take-suc, length-take-le}
-use borrow.Author.Tests.{ne-eqb}
+use Rattle.lists.proofs.Kit.{_≡_, refl, ap, sym, _∙_, List, [], _∷_, _++_, Bool, true, false, cond, ℕ, suc, _+_, _-_, _≤_, _<_, add-one, arith, length, getD}
+use Rattle.lists.proofs.Kit.{take, drop, drop-of-length-le, take-suc, take-length, length-take-le, eqb, ne-eqb}
 use Rattle.chars.specs.White.{isWhite}
 use Rattle.lists.proofs.Lists.{drop-at}
 use Rattle.margins.specs.Margins.{isBlank, indentOf, solidOf}
@@ -55,8 +47,21 @@ module _ (row : List ℕ) (n : ℕ) (p : 0 < n) (h : n ≤ length row) where
       let long : length (take (n - 1) row) + 1 ≡ n = omega (arith, length-take-le (n - 1) row (omega arith)) in
       rw one at (ap solidOf (take-suc row (n - 1) 0 (omega arith))) ∙ solid-snoc (take (n - 1) row) (getD row (n - 1) 0) ∙ rw long
 
-  pub solid-white : isWhite (getD row (n - 1) 0) ≡ true → solidOf (take n row) ≡ solidOf (take (n - 1) row)
-  solid-white e = solid-last ∙ rw e
+-- from n on all is white space
+pub record SolidTo (row : List ℕ) (n : ℕ) : Type 0 where
+  pub inside : n ≤ length row
+  pub same : solidOf row ≡ solidOf (take n row)
 
-  pub solid-stop : isWhite (getD row (n - 1) 0) ≡ false → solidOf (take n row) ≡ n
-  solid-stop e = solid-last ∙ rw e
+pub solid-start : (row : List ℕ) → SolidTo row (length row)
+solid-start row = record { inside = omega arith; same = ap solidOf (sym (take-length row)) }
+
+module _ {row : List ℕ} {n : ℕ} (so-far : SolidTo row n) where
+  pub solid-on : 0 < n → isWhite (getD row (n - 1) 0) ≡ true → SolidTo row (n - 1)
+  solid-on p e = record { inside = omega (arith, so-far .inside); same = so-far .same ∙ solid-last row n p (so-far .inside) ∙ rw e }
+
+  pub solid-stop : 0 < n → isWhite (getD row (n - 1) 0) ≡ false → n ≡ solidOf row
+  solid-stop p e = sym (so-far .same ∙ solid-last row n p (so-far .inside) ∙ rw e)
+
+  pub solid-end : n ≤ 0 → n ≡ solidOf row
+  unfolding solidOf
+  solid-end h = let none : n ≡ 0 = omega arith in none ∙ sym (so-far .same ∙ rw none)

@@ -1,6 +1,7 @@
 -- The first and the last character of a row that is no blank, as motions.rs has them.
 -- Definitions only; the laws are in `proofs/Edging.antt`. Assumes nothing.
-use Prim.Native.Nat.{ℕ, zero, suc, _-_, min}
+use mathlib.Core.Path.{_≡_}
+use Prim.Native.Nat.{ℕ, zero, suc, _-_, min, _≤_}
 use mathlib.Core.List.{List, [], _∷_}
 use mathlib.Core.Bool.{Bool, cond, _||_}
 use lib.Dec.{eqb}
@@ -27,3 +28,8 @@ solidOf (x ∷ row) = let rest = solidOf row in cond (eqb rest 0) (cond (isWhite
 -- the last column that is no white space, or column 0 where there is none
 abbrev pub lastNonBlank : List ℕ → ℕ → ℕ
 lastNonBlank t r = solidOf (rowAt t r) - 1
+
+-- r is the column n of a text's row
+pub record ColumnIs (n r : ℕ) : Type 0 where
+  pub column : r ≡ n
+  pub small : r ≤ 1048576

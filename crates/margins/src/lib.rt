@@ -8,9 +8,10 @@ ghost use Prim.Native.Nat.{_≤_};
 ghost use lib.ListN.{length};
 ghost use Rattle.text.specs.Offsets.{IsLine};
 ghost use Rattle.chars.specs.White.{whites};
-ghost use Rattle.margins.specs.Margins.{isBlank, indentOf, firstNonBlank};
+ghost use Rattle.margins.specs.Margins.{isBlank, indentOf, firstNonBlank, ColumnIs};
 ghost use Rattle.margins.specs.Margins.{solidOf, lastNonBlank};
 
+// Whether x is a space or a tab.
 fn is_blank(x: u32) -> bool
     ensures { λ r. ⌜ r ≡ isBlank x ⌝ }
 {
@@ -34,7 +35,7 @@ fn indent(row: &[u32]) -> usize
 // The first column of a row that is no blank, or its last column where there is none.
 pub fn first_non_blank(t: &[u32], l: Line) -> usize
     requires { ⌜ IsLine (now t) l × (length (now t) ≤ 1048576) ⌝ }
-    ensures { λ r. ⌜ (r ≡ firstNonBlank (now (t .entry)) (l .row)) × (r ≤ 1048576) ⌝ }
+    ensures { λ r. ⌜ ColumnIs (firstNonBlank (now (t .entry)) (l .row)) r ⌝ }
 {
     let row = text::offsets::row(t, l);
     least(indent(row), minus(row.len(), 1))
@@ -59,7 +60,7 @@ fn solid(white: &[u32], row: &[u32]) -> usize
 // The last column of a row that is no white space, or column 0 where there is none.
 pub fn last_non_blank(t: &[u32], l: Line) -> usize
     requires { ⌜ IsLine (now t) l × (length (now t) ≤ 1048576) ⌝ }
-    ensures { λ r. ⌜ (r ≡ lastNonBlank (now (t .entry)) (l .row)) × (r ≤ 1048576) ⌝ }
+    ensures { λ r. ⌜ ColumnIs (lastNonBlank (now (t .entry)) (l .row)) r ⌝ }
 {
     let row = text::offsets::row(t, l);
     minus(solid(&chars::WHITE, row), 1)

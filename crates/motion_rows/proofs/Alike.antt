@@ -1,9 +1,5 @@
 -- Where the table is the text's, the second entry of a motion answers what the first does, for all motions. Assumes nothing.
-use mathlib.Core.Path.{_≡_, refl}
-use mathlib.Core.List.{List}
-use Prim.Native.Nat.{ℕ}
-use lib.Dec.{eqb}
-use borrow.Author.Tests.{eq-eqb}
+use Rattle.lists.proofs.Kit.{_≡_, refl, List, ℕ, eq-eqb}
 use Rattle.text.specs.Text.{rowCount}
 use Rattle.row_table.specs.Table.{tableRefusal}
 use Rattle.motions.specs.declared.Caret.{Caret}

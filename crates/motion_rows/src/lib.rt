@@ -1,5 +1,5 @@
-// Every motion with a table of row starts, its second entry: the rows of the text and the row of the
-// caret come from the table, and the walks are those of the first. From document 02, #106.
+// Every motion with a table of row starts, its second entry: the rows of the text and the row of
+// the caret come from the table, and the walks are those of the first. From document 02, #106.
 use motions::Caret;
 use motions::Move;
 use motions::Sought;
@@ -29,8 +29,8 @@ fn or_table(g: u32, answer: Sought) -> Sought
 }
 
 // Any motion, with the text's row starts and its number of rows with content. Refused are what the
-// first entry, `Caret::go`, refuses, then a table with fewer places than the text has rows (15), and
-// one that is not the text's, or that stands beside another number (16).
+// first entry, `Caret::go`, refuses, then a table with fewer places than the text has rows (15),
+// and one that is not the text's, or that stands beside another number (16).
 pub fn go_rows(
     k: Caret,
     t: &[u32],
@@ -42,7 +42,8 @@ pub fn go_rows(
     m: Move,
     count: u32,
 ) -> Sought
-    ensures { λ r. ⌜ r ≡ goesRows (now (t .entry)) (now (starts .entry)) content (now (folds .entry))
+    ensures { λ r. ⌜ r ≡ goesRows (now (t .entry)) (now (starts .entry)) content
+        (now (folds .entry))
         (now (list .entry)) tabstop m count k ⌝ }
 {
     let c = text_rows::checked(t, starts, content);

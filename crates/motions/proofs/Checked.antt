@@ -1,11 +1,5 @@
 -- The checks of a move: where they refuse nothing the walk has what it requires. Assumes nothing.
-use mathlib.Core.Path.{_≡_, refl, ap, sym, _∙_}
-use mathlib.Core.List.{List, [], _∷_}
-use mathlib.Core.Bool.{Bool, true, false, cond}
-use Prim.Native.Nat.{ℕ, _≤_}
-use native.Mathlib.Omega.{arith}
-use lib.Dec.{eqb, ltb}
-use borrow.Author.Tests.{eqb-true, eqb-false, ltb-false}
+use Rattle.lists.proofs.Kit.{_≡_, refl, ap, sym, _∙_, List, [], _∷_, Bool, true, false, cond, ℕ, _≤_, arith, eqb, ltb, eqb-true, eqb-false, ltb-false}
 use Rattle.chars.specs.Scalar.{isScalar}
 use Rattle.text_check.specs.Accept.{textRefusal}
 use Rattle.text.specs.Text.{rowCount}
@@ -36,8 +30,7 @@ stop-none f tabstop = go (eqb f 0) (ltb 1000 tabstop) refl refl
 module _ (t folds : List ℕ) (tabstop : ℕ) (k : Caret) (e : Entry) (is : e ≡ entryOf t k) where
   pub stop-number : orStop (orFolds e folds) tabstop ≡ verticalRefusal t folds tabstop k
   unfolding orStop
-  stop-number =
-      ap (λ (f : ℕ). cond (eqb f 0) (stopRefusal tabstop) f) (folds-number t (here k) e is folds)
+  stop-number = ap (λ (f : ℕ). cond (eqb f 0) (stopRefusal tabstop) f) (folds-number t (here k) e is folds)
       ∙ lowest-then (textRefusal t ∷ caretRefusal t k ∷ foldRefusal folds (rowCount t) ∷ []) (stopRefusal tabstop)
 
   ready : (m : Move) → e .refusal ≡ 0 → Takes t folds tabstop m → Ready t folds tabstop e m k

@@ -1,9 +1,5 @@
 -- Laws over every move: what it answers is the refusal of its checks, or what its walk answers. Assumes nothing.
-use mathlib.Core.Path.{_≡_, refl, ap, sym, _∙_}
-use mathlib.Core.List.{List, [], _∷_}
-use mathlib.Core.Bool.{Bool, true, false, cond}
-use Prim.Native.Nat.{ℕ}
-use lib.Dec.{eqb}
+use Rattle.lists.proofs.Kit.{_≡_, refl, ap, sym, _∙_, List, [], _∷_, Bool, true, false, cond, ℕ, eqb}
 use Rattle.text_check.specs.Accept.{textRefusal}
 use Rattle.text.specs.Text.{rowCount}
 use Rattle.folds.specs.Folds.{foldRefusal}
@@ -56,10 +52,8 @@ module _ (t folds list : List ℕ) (tabstop : ℕ) (n : ℕ) (k : Caret) (e : En
 
   -- text, caret and folds, and then the list
   listed : (own : List ℕ) (s : Sought) → seeking (wordRefusal t own list k) s ≡ seeking (orFolds e own) (seeking (parseOf list .refusal) s)
-  listed own s =
-      numbered s (lowest-then (textRefusal t ∷ caretRefusal t k ∷ foldRefusal own (rowCount t) ∷ []) (parseOf list .refusal))
-      ∙ seeking-then _ (parseOf list .refusal) s
-      ∙ numbered (seeking (parseOf list .refusal) s) (folds-number t (here k) e is own)
+  listed own s = numbered s (lowest-then (textRefusal t ∷ caretRefusal t k ∷ foldRefusal own (rowCount t) ∷ []) (parseOf list .refusal))
+      ∙ seeking-then _ (parseOf list .refusal) s ∙ numbered (seeking (parseOf list .refusal) s) (folds-number t (here k) e is own)
 
   pub goes-by : (m : Move) → goes t folds list tabstop m n k ≡ seeking (checked e folds tabstop m) (walks t folds list tabstop m n k)
   goes-by (By w) = found-moving _ _ ∙ numbered _ (entry-number t (here k) e is)

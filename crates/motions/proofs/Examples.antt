@@ -1,8 +1,6 @@
 -- Worked examples of the definitions, as theorems: each holds by computation.
 -- `_` from the last empty row, and from outside the text. Assumes nothing.
-use mathlib.Core.Path.{_≡_, refl}
-use mathlib.Core.List.{[], _∷_}
-use Prim.Native.Nat.{ℕ}
+use Rattle.lists.proofs.Kit.{_≡_, refl, [], _∷_, ℕ}
 use Rattle.lists.specs.Lists.{any}
 use Rattle.text_check.specs.Accept.{textRefusal}
 use Rattle.text.specs.Text.{onFirst, rows}

@@ -1,9 +1,5 @@
 -- A position in the text, and where the % key goes: its numbers fit a u32. And the length of a slice's beginning. Assumes nothing.
-use mathlib.Core.Path.{_≡_, sym, subst}
-use mathlib.Core.List.{List}
-use Prim.Native.Nat.{ℕ, _≤_, _<_, _^_}
-use native.Mathlib.Omega.{arith}
-use lib.ListN.{length, take, length-take}
+use Rattle.lists.proofs.Kit.{_≡_, sym, subst, List, ℕ, _≤_, _<_, _^_, arith, length, take, length-take}
 use Rattle.text.specs.declared.Position.{Position}
 use Rattle.positions.specs.Positions
 use Rattle.text_check.specs.Accept.{textRefusal}

@@ -1,12 +1,6 @@
 -- The law that every motion shares: the caret that it answers with stands in the text.
 -- Assumes nothing.
-use mathlib.Core.Path.{_≡_, refl}
-use mathlib.Core.List.{List, _∷_}
-use mathlib.Core.Bool.{Bool, true, false, cond}
-use Prim.Native.Nat.{ℕ}
-use native.Mathlib.Omega.{arith}
-use lib.Dec.{eqb}
-use borrow.Author.Tests.{eqb-true}
+use Rattle.lists.proofs.Kit.{_≡_, refl, List, _∷_, Bool, true, false, cond, ℕ, arith, eqb, eqb-true}
 use Rattle.positions.specs.Positions.{lowest}
 use Rattle.positions.proofs.Lowest.{lowest-none}
 use Rattle.positions.proofs.Checks.{inside, inside-at}

@@ -1,8 +1,5 @@
 -- The caret of an accepted vertical, screen or viewport motion stands in the text. Assumes nothing.
-use mathlib.Core.Path.{_≡_}
-use mathlib.Core.List.{List, [], _∷_}
-use mathlib.Core.Bool.{Bool}
-use Prim.Native.Nat.{ℕ}
+use Rattle.lists.proofs.Kit.{_≡_, List, [], _∷_, Bool, ℕ}
 use Rattle.widths.specs.declared.Ambiguous.{Ambiguous}
 use Rattle.widths.specs.Widths.{widthAs}
 use Rattle.text_check.specs.Accept.{textRefusal}
@@ -26,25 +23,21 @@ module _ (t folds : List ℕ) (tabstop : ℕ) (k : Caret) where
   own z = caret-in t k (textRefusal t) (foldRefusal folds (rowCount t) ∷ stopRefusal tabstop ∷ []) z
 
   pub rows-lands : (a : Ambiguous) (down : Bool) (count : ℕ) → Lands t (moveRows a t folds tabstop down count k)
-  rows-lands a down count =
-      moving-lands t (verticalRefusal t folds tabstop k) _ (λ z.
+  rows-lands a down count = moving-lands t (verticalRefusal t folds tabstop k) _ (λ z.
       let by-own = own z in
       let by-rows-inside = rows-inside (widthAs a) t folds tabstop (k .row) (k .col) (k .sticky) (deltaOf down count)
       (record { in-row = by-own .in-row; in-col = by-own .in-col }) in
       record { in-row = by-rows-inside .in-row; in-col = by-rows-inside .in-col })
 
   pub screen-lands : (a : Ambiguous) (mode : Wrap) (width : ℕ) (down : Bool) (count : ℕ) → Lands t (moveScreenRows a t folds tabstop mode width down count k)
-  screen-lands a mode width down count =
-      moving-lands t (verticalRefusal t folds tabstop k) _ (λ z.
+  screen-lands a mode width down count = moving-lands t (verticalRefusal t folds tabstop k) _ (λ z.
       let by-own = own z in
       let by-move-inside = move-inside (widthAs a) t folds tabstop (k .row) (k .col) (k .sticky) mode width down count
       (record { in-row = by-own .in-row; in-col = by-own .in-col }) in
       record { in-row = by-move-inside .in-row; in-col = by-move-inside .in-col })
 
-  pub kept-lands : (a : Ambiguous) (mode : Wrap) (width : ℕ) (down : Bool) (count : ℕ) →
-      Lands t (moveScreenRowsKept a t folds tabstop mode width down count k)
-  kept-lands a mode width down count =
-      moving-lands t (verticalRefusal t folds tabstop k) _ (λ z.
+  pub kept-lands : (a : Ambiguous) (mode : Wrap) (width : ℕ) (down : Bool) (count : ℕ) → Lands t (moveScreenRowsKept a t folds tabstop mode width down count k)
+  kept-lands a mode width down count = moving-lands t (verticalRefusal t folds tabstop k) _ (λ z.
       let by-own = own z in
       let by-kept-inside = kept-inside (widthAs a) t folds tabstop (k .row) (k .col) (k .sticky) (k .offset) mode width down count
       (record { in-row = by-own .in-row; in-col = by-own .in-col }) in

@@ -1,9 +1,5 @@
 -- What a vertical motion goes by once its checks are done, and the caret that it answers with. Assumes nothing.
-use mathlib.Core.Path.{_≡_, ap}
-use mathlib.Core.List.{List}
-use mathlib.Core.Bool.{Bool}
-use Prim.Native.Nat.{ℕ, _≤_, _<_, _^_}
-use native.Mathlib.Omega.{arith}
+use Rattle.lists.proofs.Kit.{_≡_, ap, List, Bool, ℕ, _≤_, _<_, _^_, arith}
 use Rattle.widths.specs.declared.Ambiguous.{Ambiguous}
 use Rattle.widths.specs.Widths.{widthAs}
 use Rattle.text.specs.Text.{rowCount}

@@ -1,8 +1,5 @@
 -- From a call that no check refuses, a word motion leads to a caret in the text. Assumes nothing.
-use mathlib.Core.Path.{_≡_}
-use mathlib.Core.List.{List, [], _∷_}
-use mathlib.Core.Bool.{Bool}
-use Prim.Native.Nat.{ℕ}
+use Rattle.lists.proofs.Kit.{_≡_, List, [], _∷_, Bool, ℕ}
 use Rattle.text_check.specs.Accept.{textRefusal}
 use Rattle.text.specs.Text.{rowCount, position}
 use Rattle.folds.specs.Folds.{foldRefusal}

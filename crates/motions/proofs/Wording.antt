@@ -1,9 +1,5 @@
 -- The spot of an accepted caret, and the caret of a spot that a word motion ended on. Assumes nothing.
-use mathlib.Core.Path.{_≡_, ap, subst, _∙_}
-use mathlib.Core.List.{List}
-use Prim.Native.Nat.{ℕ, _+_, _-_, _≤_, _<_, _^_}
-use native.Mathlib.Omega.{arith}
-use lib.ListN.{length}
+use Rattle.lists.proofs.Kit.{_≡_, ap, subst, _∙_, List, ℕ, _+_, _-_, _≤_, _<_, _^_, arith, length}
 use Rattle.text.specs.Offsets.{rowStart, Stands}
 use Rattle.text.specs.Text.{rowCount, position}
 use Rattle.text.specs.declared.Position.{Position}

@@ -1,6 +1,8 @@
 -- The word motions on carets: the refusals of a call, and where the walks of `words` lead to. Motions.rs, "Word motions".
 -- Definitions only. Assumes nothing.
-use Prim.Native.Nat.{ℕ}
+use lib.ListN.{length, take}
+use mathlib.Core.Path.{_≡_}
+use Prim.Native.Nat.{ℕ, _≤_}
 use mathlib.Core.List.{List, [], _∷_}
 use mathlib.Core.Bool.{Bool}
 use Rattle.text_check.specs.Accept.{textRefusal}
@@ -39,3 +41,8 @@ wordCaret t folds word big m stop count k = atPlace k (wordMotion t folds (kindO
 
 abbrev pub moveWord : List ℕ → List ℕ → List ℕ → Bool → Motion → Bool → ℕ → Caret → Moved
 moveWord t folds list big m stop count k = moving (wordRefusal t folds list k) (wordCaret t folds (inList list) big m stop count k)
+
+-- r is how many of the folds' numbers a motion takes
+pub record Taken (m : Motion) (folds : List ℕ) (r : ℕ) : Type 0 where
+  pub inside : r ≤ length folds
+  pub part : take r folds ≡ foldsOf m folds

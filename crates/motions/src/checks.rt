@@ -6,15 +6,12 @@ use positions::or_folds;
 use positions::or_sought;
 use word_rounds::Motion;
 ghost use mathlib.Core.Path.{_≡_};
-ghost use Prim.Native.Nat.{_≤_};
-ghost use lib.ListN.{length, take};
-ghost use Rattle.motions.specs.WordMoves.{foldsOf};
+ghost use Rattle.motions.specs.WordMoves.{Taken};
 ghost use Rattle.motions.specs.Checks.{orStop, checked};
 
 // How many of the folds' numbers a word motion takes: all of them, but none for `ge`.
 pub fn taken(motion: Motion, folds: &[u32]) -> usize
-    ensures { λ r. ⌜ (r ≤ length (now (folds .entry))) ×
-        (take r (now (folds .entry)) ≡ foldsOf motion (now (folds .entry))) ⌝ }
+    ensures { λ r. ⌜ Taken motion (now (folds .entry)) r ⌝ }
 {
     match motion {
         Motion::Fwd => folds.len(),

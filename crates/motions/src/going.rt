@@ -172,9 +172,9 @@ impl Caret {
     }
 }
 
-// Any motion of a caret, by what the checks of it and of its text have found out, in whatever way. A
-// move takes only the inputs that it needs: a wrong list refuses no `j`. A motion that is no search has
-// found where it leads to.
+// Any motion of a caret, by what the checks of it and of its text have found out, in whatever way.
+// A move takes only the inputs that it needs: a wrong list refuses no `j`. A motion that is no
+// search has found where it leads to.
 pub fn go_from(
     k: Caret,
     t: &[u32],

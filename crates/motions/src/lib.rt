@@ -30,8 +30,8 @@ pub use checks::taken;
 pub use going::go_from;
 
 // A row, a column in it, which may be the row's character count, the sticky column, and the offset
-// within a segment that the screen moves which remember keep. Every other motion that is not refused
-// leaves no offset, moved or not.
+// within a segment that the screen moves which remember keep. Every other motion that is not
+// refused leaves no offset, moved or not.
 pub struct Caret {
     pub row: u32,
     pub col: u32,

@@ -12,6 +12,7 @@ ghost use Rattle.text.specs.Text.{rowCount, contentRows};
 ghost use Rattle.vertical.specs.Moves.{Accepted};
 ghost use Rattle.screen.specs.Keeping.{moveScreenKept};
 
+// A walk where characters of class A take one cell: names the table of these widths.
 fn narrow_walk(
     t: &[u32],
     folds: &[u32],
@@ -51,6 +52,7 @@ fn narrow_walk(
     )
 }
 
+// A walk where characters of class A take two cells: names the table of these widths.
 fn wide_walk(
     t: &[u32],
     folds: &[u32],

@@ -1,6 +1,7 @@
 // `j`, `k`, `gj` and `gk`: motions.rs, "Vertical motions". The walks are those of `screen`, which
-// are lent the tables of a setting. `j` and `k` are the screen moves of a viewport that doesn't wrap.
-// And the screen moves that remember their offset within a segment (document 02, #110).
+// are lent the tables of a setting. `j` and `k` are the screen moves of a viewport that doesn't
+// wrap. And the screen moves that remember their offset within a segment (document 02, #110). Long
+// by its lists of parameters, a line for each.
 use crate::Caret;
 use crate::Move;
 use crate::Moved;
@@ -249,9 +250,9 @@ impl Caret {
     }
 
     // `gk` that remembers: so many segments up, each at the offset that the caret keeps. While it
-    // keeps none a closed fold is left first, as `gk` does, and the offset is the one that the caret
-    // then has in its segment; with one the steps start from the caret itself. In a viewport that
-    // doesn't wrap, or that is 0 cells wide, as `k`, and the offset is cleared.
+    // keeps none a closed fold is left first, as `gk` does, and the offset is the one that the
+    // caret then has in its segment; with one the steps start from the caret itself. In a viewport
+    // that doesn't wrap, or that is 0 cells wide, as `k`, and the offset is cleared.
     pub fn move_screen_up_kept(
         self,
         t: &[u32],

@@ -1,12 +1,7 @@
 -- What the checks of a call say: when they refuse, and what is known where they do not.
 -- Assumes nothing.
-use mathlib.Core.Path.{_≡_, refl, ap, sym, _∙_}
-use mathlib.Core.List.{List, [], _∷_}
-use mathlib.Core.Bool.{Bool, true, false, cond, _&&_}
-use Prim.Native.Nat.{ℕ, _+_, _≤_, _<_}
-use native.Mathlib.Omega.{arith}
-use lib.Dec.{eqb, ltb, leb}
-use borrow.Author.Tests.{eq-eqb, ne-eqb, eqb-true, ltb-true, leb-true, lt-ltb, le-ltb, le-leb, lt-leb}
+use Rattle.lists.proofs.Kit.{_≡_, refl, ap, sym, _∙_, List, [], _∷_, Bool, true, false, cond, _&&_, ℕ, _+_, _≤_, _<_, arith, eqb, ltb, leb, eq-eqb, ne-eqb}
+use Rattle.lists.proofs.Kit.{eqb-true, ltb-true, leb-true, lt-ltb, le-ltb, le-leb, lt-leb}
 use Rattle.text_check.specs.Accept.{textRefusal}
 use Rattle.text.specs.Text.{rowCount, rowLen}
 use Rattle.text.specs.Offsets.{rowStart}

@@ -1,12 +1,5 @@
 -- What a call goes by once its checks, those of a character sought or of folds among them, have not refused it. Assumes nothing.
-use mathlib.Core.Path.{_≡_, refl, ap, sym, _∙_}
-use mathlib.Core.List.{List, [], _∷_}
-use mathlib.Core.Bool.{Bool, true, false, cond}
-use Prim.Native.Nat.{ℕ, _+_, _≤_, _<_}
-use native.Mathlib.Omega.{arith}
-use native.Mathlib.Decide.{ℕ-discrete}
-use lib.Dec.{eqb}
-use borrow.Author.Tests.{eq-eqb, ne-eqb}
+use Rattle.lists.proofs.Kit.{_≡_, ap, _∙_, List, [], _∷_, Bool, true, false, cond, ℕ, _+_, _≤_, _<_, ℕ-discrete, arith, eqb, eq-eqb, ne-eqb}
 use Rattle.chars.specs.Scalar.{isScalar}
 use Rattle.text_check.specs.Accept.{textRefusal}
 use Rattle.text.specs.Text.{rowCount}
@@ -49,8 +42,7 @@ module _ (t : List ℕ) (k : Position) (e : Entry) (is : e ≡ entryOf t k) wher
       n : e .refusal ≡ refusalAt t k
       n = entry-number t k e is
 
-      go :
-          Dec (e .refusal ≡ 0) → cond (eqb (e .refusal) 0) (foldRefusal folds (e .rows)) (e .refusal) ≡
+      go : Dec (e .refusal ≡ 0) → cond (eqb (e .refusal) 0) (foldRefusal folds (e .rows)) (e .refusal) ≡
           cond (eqb (refusalAt t k) 0) (foldRefusal folds (rowCount t)) (refusalAt t k)
       go (yes z) = rw (← n, eq-eqb (e .refusal) 0 z, entered t k e is z .all-rows)
       go (no m) = rw (← n, ne-eqb (e .refusal) 0 m)

@@ -1,11 +1,5 @@
 -- Laws of the lowest of a list of refusals. Assumes nothing.
-use mathlib.Core.Path.{_≡_, refl, sym}
-use mathlib.Core.List.{List, [], _∷_, _++_}
-use mathlib.Core.Bool.{Bool, true, false, cond}
-use Prim.Native.Nat.{ℕ}
-use native.Mathlib.Decide.{ℕ-discrete}
-use lib.Dec.{eqb}
-use borrow.Author.Tests.{eq-eqb, ne-eqb, eqb-true, eqb-false}
+use Rattle.lists.proofs.Kit.{_≡_, refl, sym, List, [], _∷_, _++_, Bool, true, false, cond, ℕ, ℕ-discrete, eqb, eq-eqb, ne-eqb, eqb-true, eqb-false}
 use Rattle.positions.specs.Positions.{lowest}
 
 pub lowest-none : (f : ℕ) (rest : List ℕ) → lowest (f ∷ rest) ≡ 0 → (f ≡ 0) × (lowest rest ≡ 0)

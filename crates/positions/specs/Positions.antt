@@ -1,5 +1,5 @@
--- Positions: when a text and a position in it are refused, and what is known where they are not.
--- From document 01, "Text, rows, carets" and "Refusal numbers". Definitions only; the laws are in `proofs/Checks.antt`. Assumes nothing.
+-- Positions: when a text and a position in it are refused, and what is known where they are not. From document 01, "Text, rows, carets" and "Refusal
+-- numbers". Definitions only; the laws are in `proofs/Checks.antt`. Long by its refusals: each in its turn. Assumes nothing.
 use Prim.Native.Nat.{ℕ, _+_, _≤_, _<_}
 use mathlib.Core.Path.{_≡_}
 use mathlib.Core.List.{List, [], _∷_}

@@ -1,16 +1,6 @@
 -- Laws of what is written: one piece after another, bytes one by one, and a number digit by digit. Assumes nothing.
-use mathlib.Core.Path.{_≡_, refl, ap, sym, subst, _∙_}
-use mathlib.Core.List.{List, [], _∷_, _++_}
-use mathlib.Core.Bool.{Bool, true, false, cond}
-use Prim.Native.Nat.{ℕ, zero, suc, _+_, _/_, _%_, _^_, _≤_, _<_}
-use native.Mathlib.Numerals.{add-one}
-use native.Mathlib.Nat.{add-zero, pow-suc}
-use native.Mathlib.Decide.{decLt}
-use native.Mathlib.Omega.{arith}
-use lib.Dec.{ltb}
-use lib.ListN.{length, getD, set, take, length-append, length-set}
-use lib.Seq.{sets, take-suc, take-all}
-use borrow.Author.Tests.{lt-ltb, le-ltb}
+use Rattle.lists.proofs.Kit.{_≡_, refl, ap, sym, subst, _∙_, List, [], _∷_, _++_, Bool, true, false, cond, ℕ, zero, suc, _+_, _/_, _%_, _^_, _≤_, _<_, add-zero}
+use Rattle.lists.proofs.Kit.{pow-suc, add-one, decLt, arith, length, getD, set, take, length-append, length-set, sets, take-suc, take-all, ltb, lt-ltb, le-ltb}
 use Rattle.print.specs.Print.{Wrote, spell, decimal}
 
 -- one after another
@@ -73,14 +63,12 @@ length-more n h k = ap length (decimal-more n h k) ∙ length-append (decimal (n
 pub wrote-small : {out : List ℕ} {at n b : ℕ} {o : List ℕ} → n < 10 → Wrote out at ((48 + n) ∷ []) b o → Wrote out at (decimal n) b o
 wrote-small {out} {at} {n} {b} {o} h w = subst (λ (s : List ℕ). Wrote out at s b o) (sym (decimal-small n h)) w
 
-pub wrote-more :
-    {out : List ℕ} {at n b c : ℕ} {o p : List ℕ} → 10 ≤ n → n < 2 ^ 32 → Wrote out at (decimal (n / 10)) b o → Wrote o b ((48 + n % 10) ∷ []) c p →
+pub wrote-more : {out : List ℕ} {at n b c : ℕ} {o p : List ℕ} → 10 ≤ n → n < 2 ^ 32 → Wrote out at (decimal (n / 10)) b o → Wrote o b ((48 + n % 10) ∷ []) c p →
     Wrote out at (decimal n) c p
 wrote-more {out} {at} {n} {b} {c} {o} {p} h k v w = subst (λ (s : List ℕ). Wrote out at s c p) (sym (decimal-more n h k)) (wrote-then v w)
 
 -- one byte more of s
-pub wrote-byte :
-    {out o : List ℕ} {at : ℕ} (s : List ℕ) (i : ℕ) → Wrote out at (take i s) (at + i) o → i < length s →
+pub wrote-byte : {out o : List ℕ} {at : ℕ} (s : List ℕ) (i : ℕ) → Wrote out at (take i s) (at + i) o → i < length s →
     Wrote out at (take (i + 1) s) (at + (i + 1)) (set o (at + i) (getD s i 0))
 wrote-byte {out} {o} {at} s i w h =
     let wrote : Wrote o (at + i) (getD s i 0 ∷ []) (at + (i + 1)) (set o (at + i) (getD s i 0)) =

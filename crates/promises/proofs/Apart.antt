@@ -1,6 +1,5 @@
 -- The table of `specs/Apart.antt` by one computation over what the contracts cite. Assumes nothing.
-use mathlib.Core.Path.{_≡_, refl, ap, sym, _∙_}
-use native.Mathlib.Omega.{arith}
+use Rattle.lists.proofs.Kit.{_≡_, refl, ap, sym, _∙_, arith}
 use Rattle.lists.specs.Lists.{any, upTo, onFirst, split, isSame}
 use Rattle.lists.specs.Codes.{codes}
 use Rattle.lists.specs.Rounds.{rounds}

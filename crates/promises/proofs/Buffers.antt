@@ -21,7 +21,7 @@ use Rattle.edit_checks.specs.Refusals.{lower, heldRefusal, heldFolds, stretchRe
 use Rattle.edit_checks.specs.Refusals.{roomRefusal as Refusals·roomRefusal}
 use Rattle.edits.specs.Edits.{editedBy, keptBy}
 use Rattle.call_fold_file.specs.FoldFiles.{toldWritten, toldLoaded}
-use Rattle.promises.specs.Calls.{judged, good}
+use Rattle.promises.specs.Cases.{judged, good}
 use Rattle.promises.specs.Buffers.{editCases, fileCases}
 
 -- each gives the right reply of its case, and neither of the two wrong ones

@@ -21,7 +21,7 @@ use Rattle.positions.specs.Positions.{positionRefusal, lowest}
 use Rattle.motions.specs.Carets.{moving}
 use Rattle.call_texts.specs.Carets.{moved}
 use Rattle.call_classes.specs.ByTerm.{termOf, byTerm, leftBy}
-use Rattle.promises.specs.Calls.{judged, good}
+use Rattle.promises.specs.Cases.{judged, good}
 use Rattle.promises.specs.ByClass.{classed}
 
 -- each gives the right reply of its case, and neither of the two wrong ones

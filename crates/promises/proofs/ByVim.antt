@@ -22,7 +22,7 @@ use Rattle.vim_words.specs.ByVim.{byRead, wordByVim}
 use Rattle.call_texts.specs.Carets.{moved}
 use Rattle.call_classes.specs.ByTerm.{termOf}
 use Rattle.call_vim_words.specs.ByTerm.{byVimTerm, vimMoved}
-use Rattle.promises.specs.Calls.{judged, good}
+use Rattle.promises.specs.Cases.{judged, good}
 use Rattle.promises.specs.ByVim.{vimWords}
 
 -- each gives the right reply of its case, and neither of the two wrong ones

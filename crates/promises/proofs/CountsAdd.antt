@@ -1,9 +1,6 @@
 -- Counts add: the statement of `specs/CountsAdd.antt` holds of every move that is named. No check of a call looks at its count, and where the first call leads
 -- to stands in the text, so that the second is accepted; the rest is the law of rounds of each motion. Assumes nothing.
-use mathlib.Core.Path.{ap, sym}
-use mathlib.Core.List.{List, [], _∷_}
-use mathlib.Core.Bool.{Bool, false}
-use Prim.Native.Nat.{ℕ, _+_, _<_}
+use Rattle.lists.proofs.Kit.{ap, sym, List, [], _∷_, Bool, false, ℕ, _+_, _<_}
 use Rattle.widths.specs.declared.Ambiguous.{Ambiguous}
 use Rattle.widths.specs.Widths.{widthAs}
 use Rattle.text_check.specs.Accept.{textRefusal}

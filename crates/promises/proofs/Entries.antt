@@ -10,7 +10,8 @@ use Rattle.list_signs.specs.Signs.{before, signsIn}
 use Rattle.list_signs.specs.Plain.{firstIn, without}
 use Rattle.call_signs.specs.Entry.{enteredCount, byEntry, enteredMatches, entering}
 use Rattle.call_signs.specs.Plain.{plainTold}
-use Rattle.promises.specs.Calls.{entries, judged, good}
+use Rattle.promises.specs.Cases.{judged, good}
+use Rattle.promises.specs.ListCalls.{entries}
 
 -- each gives the right reply of its case, and neither of the two wrong ones
 pub entries-alone : judged entries ≡ good entries

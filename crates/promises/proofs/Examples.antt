@@ -32,7 +32,7 @@ use Rattle.row_search.specs.Nearest.{firstFrom, lastBelow}
 use Rattle.bracket_walks.specs.Pairs.{count, stretch}
 use Rattle.bracket_walks.specs.Matching.{nearestOf, placed}
 use Rattle.brackets.specs.Matching.{matchingBracketPos}
-use Rattle.row_search.specs.Find.{landing, findAhead}
+use Rattle.row_search.specs.Find.{landing}
 use Rattle.brackets.specs.Find.{keyTo}
 use Rattle.bracket_inner.specs.Inner.{reaches, paired, pairFrom, answered}
 use Rattle.row_walks.specs.Paragraphs.{roundFrom, paragraphs}
@@ -64,14 +64,15 @@ use Rattle.call_folds.specs.Upright.{uprightOf, upright, vertical}
 use Rattle.call_folds.specs.Kept.{keptOf, remembered, screenKept}
 use Rattle.call_rows.specs.Wraps.{toldSegment, toldSegments, offsetUnder, modeOf, segmentedUnder, leftUnder}
 use Rattle.promises.specs.Table.{table, given, asked, Examples}
-use Rattle.promises.specs.Calls.{calls, judged, good}
+use Rattle.promises.specs.Cases.{judged, good}
+use Rattle.promises.specs.Calls.{calls}
 
 computed : given table ≡ asked table
 unfolding table
     letters isLetter whites isWhite zeroWidths doubleWidths widthBy widthOf widthAs rowRefusal columnAt columnRefusal stopOf visualFrom charFrom
     fits afterWhite firstSegment segmentsFrom segmentsOf wrapRefusal countOf roomRefusal any textRefusal onFirst rows startIn rowOf
     anyFold foldRefusal visibleFrom allDigits value split trimStart trimEnd upTo tokensIn codes
-    sideOf keyBracket firstFrom lastBelow count stretch nearestOf placed matchingBracketPos reaches paired pairFrom answered surrounded innerBy keyTo landing findAhead
+    sideOf keyBracket firstFrom lastBelow count stretch nearestOf placed matchingBracketPos reaches paired pairFrom answered surrounded innerBy keyTo landing
     roundFrom paragraphs kindOf kindAt onEmptyRow nextRow stepForward endOfBuffer walk goesOn nextWordStart roundOf counted wordMotion
     positionRefusal lowest moving partnerTo seeking landsOn orSought
     moved keyword moveAs seekAs wayOf motion partnered sought seekOf seek toldColumn tabColumnUnder wordOf word toldSegments modeOf segmentedUnder leftUnder
@@ -88,7 +89,7 @@ unfolding calls
     rowRefusal columnAt columnRefusal stopOf visualFrom charFrom leadingFrom
     fits afterWhite firstSegment segmentsFrom segmentsOf wrapRefusal cellsIn pairsBefore countOf roomRefusal any textRefusal onFirst rows startIn rowOf
     anyFold foldRefusal visibleFrom prevVisible rounds verticalRow landed stepScreen allDigits value split trimStart trimEnd upTo tokensIn codes isSame
-    sideOf keyBracket firstFrom lastBelow count stretch nearestOf placed matchingBracketPos reaches paired pairFrom answered surrounded innerBy keyTo landing findAhead
+    sideOf keyBracket firstFrom lastBelow count stretch nearestOf placed matchingBracketPos reaches paired pairFrom answered surrounded innerBy keyTo landing
     roundFrom paragraphs sectionUp sectionDown kindOf kindAt onEmptyRow nextRow stepForward inc dec endOfBuffer walk goesOn
     nextWordStart prevWordStart nextWordEnd prevWordEnd atWordEnd roundOf counted wordMotion
     positionRefusal lowest moving indentOf solidOf spaceFwd backspaceBack partnerTo seeking landsOn orSought

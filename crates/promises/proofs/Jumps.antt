@@ -28,7 +28,7 @@ use Rattle.motions.specs.Finds.{partnerTo, seeking, landsOn}
 use Rattle.row_table.specs.Table.{startsFrom, tableRefusal}
 use Rattle.call_texts.specs.Carets.{movedSix}
 use Rattle.jumps.specs.Jumps.{placesAfter, caretAtEnd, kindRefusal}
-use Rattle.promises.specs.Calls.{judged, good}
+use Rattle.promises.specs.Cases.{judged, good}
 use Rattle.promises.specs.Jumps.{leaps}
 
 -- each gives the right reply of its case, and neither of the two wrong ones

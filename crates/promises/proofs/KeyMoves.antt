@@ -1,11 +1,6 @@
 -- The % key: the statement of `specs/KeyMoves.antt` holds of every text and caret. Where no check refuses the call, its answer is where the key
 -- goes to from the caret's row and column, and the laws of `bracket_laws` say where that is. Assumes nothing.
-use mathlib.Core.Path.{_≡_, refl, sym, _∙_, ap, subst}
-use mathlib.Core.List.{List, [], _∷_}
-use Prim.Native.Nat.{ℕ}
-use native.Mathlib.Decide.{ℕ-discrete}
-use native.Mathlib.Omega.{arith}
-use borrow.Author.Tests.{eq-eqb, ne-eqb}
+use Rattle.lists.proofs.Kit.{_≡_, refl, sym, _∙_, ap, subst, List, [], _∷_, ℕ, ℕ-discrete, arith, eq-eqb, ne-eqb}
 use Rattle.text_check.specs.Accept.{textRefusal}
 use Rattle.text.specs.declared.Position.{Position}
 use Rattle.bracket_walks.specs.declared.Partner.{Partner}
@@ -93,8 +88,7 @@ module _ (t : List ℕ) (k : Caret) where
 
   lands-only : (k′ : Caret) → OnPartner t k k′ → matchBracket t k ≡ Found k′
   unfolding partnerTo
-  lands-only k′ a =
-      accepted-is (a .accepted) ∙ ap (partnerTo k) (goes-to k′ a) ∙
+  lands-only k′ a = accepted-is (a .accepted) ∙ ap (partnerTo k) (goes-to k′ a) ∙
       (λ i. Found (record { row = k′ .row; col = k′ .col; sticky = sym (a .sticky-kept) i; offset = sym (a .offset-cleared) i }))
 
   moves : (k′ : Caret) → matchBracket t k ≡ Found k′ → here k′ ≡ here k → ⊥

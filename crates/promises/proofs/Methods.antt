@@ -1,8 +1,5 @@
 -- What the contracts of the methods cite is what `CountsAdd` speaks of: each holds by definition. Assumes nothing.
-use mathlib.Core.Path.{refl}
-use mathlib.Core.List.{List}
-use mathlib.Core.Bool.{Bool}
-use Prim.Native.Nat.{ℕ}
+use Rattle.lists.proofs.Kit.{refl, List, Bool, ℕ}
 use Rattle.widths.specs.declared.Ambiguous.{Ambiguous}
 use Rattle.motions.specs.declared.Caret.{Caret}
 use Rattle.promises.specs.Methods.{Methods}

@@ -52,8 +52,7 @@ every-inside (remembers op mode width n tabstop folds) k t =
     (record { fits = λ c e. once t c (kept-numbers-land t op mode width n tabstop folds k c e) }) in
     record { inside = by-kept .0; last = by-kept .1 }
 every-inside (edge op top height offset) k t =
-    let by-kept = kept t (viewport op top height offset k t) byRow
-    (record { fits = λ c e. by-row t c (edge-lands t op top height offset k c e) }) in
+    let by-kept = kept t (viewport op top height offset k t) byRow (record { fits = λ c e. by-row t c (edge-lands t op top height offset k c e) }) in
     record { inside = by-kept .0; last = by-kept .1 }
 every-inside (search op x) k t = record { inside = seek-sits t k op x; last = last-sought (seek op x k t) }
 every-inside partner k t = record { inside = pair-sits t (k .row) (k .col); last = last-partner (matchingBracketPos t (k .row) (k .col)) }

@@ -1,10 +1,5 @@
 -- What the screen moves that remember do with the offset, and that every other motion clears it. Assumes nothing.
-use mathlib.Core.Path.{_≡_, refl, ap, sym, subst}
-use mathlib.Core.List.{List}
-use mathlib.Core.Bool.{Bool, true, false, cond}
-use Prim.Native.Nat.{ℕ, max}
-use native.Mathlib.Omega.{arith}
-use lib.Dec.{eqb}
+use Rattle.lists.proofs.Kit.{_≡_, refl, ap, sym, subst, List, Bool, true, false, cond, ℕ, max, arith, eqb}
 use Rattle.lists.specs.Rounds.{rounds}
 use Rattle.chars.specs.White.{isWhite}
 use Rattle.widths.specs.declared.Ambiguous.{Ambiguous}
@@ -27,7 +22,7 @@ use Rattle.motions.specs.declared.Move.the-variants.{By, Word, Rows, Screen, Sc
 use Rattle.motions.specs.declared.Moved.{Moved}
 use Rattle.motions.specs.declared.Moved.the-variants.{To, Refused}
 use Rattle.motions.specs.declared.Sought.{Sought}
-use Rattle.motions.specs.declared.Sought.the-variants.{Found, Missing, Refused as Sought·Refused}
+use Rattle.motions.specs.declared.Sought.the-variants.{Refused as Sought·Refused}
 use Rattle.motions.specs.Carets.{here, moving}
 use Rattle.motions.specs.Finds.{partnerTo, landsOn, seeking}
 use Rattle.motions.specs.UpDown.{verticalRefusal, atTarget, atKept}
@@ -114,11 +109,9 @@ module _ (t folds list : List ℕ) (tabstop n : ℕ) (k : Caret) where
     from-itself : unbroken mode width ≡ false → (x : ℕ) → k .offset ≡ At x → (c : Caret) →
         movedBy t folds list tabstop (ScreenKept mode width down a) n k ≡ To c →
         here c ≡ rounds (stepScreen t folds (segmentsOf (widthAs a) isWhite mode width) down x) (max n 1) (here k)
-    from-itself b x e =
-        led (λ c. here c ≡ rounds (stepScreen t folds (segmentsOf (widthAs a) isWhite mode width) down x) (max n 1) (here k)) (At x) e (rw b)
+    from-itself b x e = led (λ c. here c ≡ rounds (stepScreen t folds (segmentsOf (widthAs a) isWhite mode width) down x) (max n 1) (here k)) (At x) e (rw b)
 
-    as-rows : unbroken mode width ≡ true →
-        movedBy t folds list tabstop (ScreenKept mode width down a) n k ≡ movedBy t folds list tabstop (Rows down a) n k
+    as-rows : unbroken mode width ≡ true → movedBy t folds list tabstop (ScreenKept mode width down a) n k ≡ movedBy t folds list tabstop (Rows down a) n k
     as-rows b = rw b
 
   pub remembering : Remembering t folds list tabstop n k

@@ -1,7 +1,5 @@
 -- No call on a table of row starts has two results. Assumes nothing.
-use Prim.Native.Nat.{ℕ}
-use mathlib.Core.Path.{_≡_, sym, _∙_}
-use mathlib.Core.List.{List}
+use Rattle.lists.proofs.Kit.{_≡_, sym, _∙_, List, ℕ}
 use Rattle.text.specs.declared.Position.{Position}
 use Rattle.call_bytes.specs.Reply.{unfitOne}
 use Rattle.call_row_table.specs.Bytes.{FillsFilled, KeepsFilled}

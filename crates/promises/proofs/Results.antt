@@ -1,9 +1,5 @@
 -- No input of a public call has two results. Assumes nothing.
-use Prim.Native.Nat.{ℕ}
-use mathlib.Core.Path.{_≡_, ap, sym, _∙_}
-use mathlib.Core.List.{List, _++_}
-use native.Mathlib.Decide.{ℕ-discrete}
-use lib.ListN.{drop}
+use Rattle.lists.proofs.Kit.{_≡_, ap, sym, _∙_, List, _++_, ℕ, ℕ-discrete, drop}
 use Rattle.text.specs.declared.Position.{Position}
 use Rattle.call_bytes.specs.Reply.{unfitOne}
 use Rattle.call_edits.specs.Bytes.{EditsFilled}

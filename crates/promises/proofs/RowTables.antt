@@ -58,7 +58,7 @@ use Rattle.call_folds.specs.Upright.{uprightOf, upright, vertical}
 use Rattle.call_folds.specs.Kept.{keptOf, remembered, screenKept}
 use Rattle.call_row_table.specs.Tables.{sizesReply}
 use Rattle.call_motion_rows.specs.Asks.{repliedBy}
-use Rattle.promises.specs.Calls.{judged, good}
+use Rattle.promises.specs.Cases.{judged, good}
 use Rattle.promises.specs.RowTables.{tabled}
 
 -- each gives the right reply of its case, and neither of the two wrong ones

@@ -42,7 +42,8 @@ use Rattle.session_input.specs.Parts.{commandRows, hasStop, textAt, isBad, isRe
 use Rattle.session_presses.specs.Pressed.{actOf, acted}
 use Rattle.session.specs.Session.{shownOf, lineOf, linesOf, sessionOf}
 use Rattle.session.specs.Session.{counted as turned}
-use Rattle.promises.specs.Calls.{sessions, judged, good}
+use Rattle.promises.specs.Cases.{judged, good}
+use Rattle.promises.specs.Sessions.{sessions}
 
 -- the session prints what document 01 says, and neither of the two wrong outputs
 pub session-alone : judged sessions ≡ good sessions

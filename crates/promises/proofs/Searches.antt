@@ -1,11 +1,5 @@
 -- Where a search by number leads to is in the text, and so are a partner and the ranges of the innermost pair. Assumes nothing.
-use mathlib.Core.Path.{_≡_, refl, sym, subst}
-use mathlib.Core.List.{List}
-use mathlib.Core.Bool.{Bool, true, false, cond}
-use Prim.Native.Nat.{ℕ, _≤_}
-use native.Mathlib.Omega.{arith}
-use lib.Dec.{eqb}
-use borrow.Author.Tests.{eqb-true}
+use Rattle.lists.proofs.Kit.{_≡_, refl, sym, subst, List, Bool, true, false, cond, ℕ, _≤_, arith, eqb, eqb-true}
 use Rattle.chars.specs.Scalar.{isScalar}
 use Rattle.text.specs.Text.{rowAt, rowLen}
 use Rattle.row_search.specs.declared.Found.{Found as Spotted}
@@ -77,8 +71,7 @@ module _ (t : List ℕ) where
     found-sits Nothing h w = stands k w
 
     find-sits : (x : ℕ) (forward till skip : Bool) → Sits (findCharOnLine t x forward till skip k)
-    find-sits x forward till skip =
-        seeking-sits (refusalWith t (here k) x) _
+    find-sits x forward till skip = seeking-sits (refusalWith t (here k) x) _
         (λ z. let by-inside = inside t (here k) (sought-none (refusalOf t k) (isScalar x) z) in
         found-sits (findOnRow (rowAt t (k .row)) (k .col) x forward till skip)
         (λ i e. find-within (rowAt t (k .row)) (k .col) x forward till skip (by-inside .in-col) e) by-inside)
@@ -87,15 +80,10 @@ module _ (t : List ℕ) where
     unfolding seek seekOf seekAs
     seek-sits op x =
         let P : Asked → Type 0 = λ a. Sits (seekAs a k t) in
-        either P (eqb op 0) _ _ key-sits
-        (either P (eqb op 1) _ _ (find-sits x false false false)
-        (either P (eqb op 2) _ _ (find-sits x true false false)
-        (either P (eqb op 3) _ _ (find-sits x false true false)
-        (either P (eqb op 4) _ _ (find-sits x true true false)
-        (either P (eqb op 5) _ _ (find-sits x false false true)
-        (either P (eqb op 6) _ _ (find-sits x true false true)
-        (either P (eqb op 7) _ _ (find-sits x false true true)
-        (either P (eqb op 8) _ _ (find-sits x true true true) tt))))))))
+        either P (eqb op 0) _ _ key-sits (either P (eqb op 1) _ _ (find-sits x false false false) (either P (eqb op 2) _ _ (find-sits x true false false)
+        (either P (eqb op 3) _ _ (find-sits x false true false) (either P (eqb op 4) _ _ (find-sits x true true false)
+        (either P (eqb op 5) _ _ (find-sits x false false true) (either P (eqb op 6) _ _ (find-sits x true false true)
+        (either P (eqb op 7) _ _ (find-sits x false true true) (either P (eqb op 8) _ _ (find-sits x true true true) tt))))))))
 
   -- a partner, of an accepted text alone
   pub pair-sits : (row col : ℕ) → AllIn t (inPartner (matchingBracketPos t row col))
@@ -111,11 +99,8 @@ module _ (t : List ℕ) where
 -- the ranges of a pair
 pub every-range-inside : EveryRangeInside
 unfolding innerBy
-every-range-inside kind row col t =
-    either Sit (eqb kind 0) _ _ (sits Round)
-    (either Sit (eqb kind 1) _ _ (sits Square)
-    (either Sit (eqb kind 2) _ _ (sits Curly)
-    (either Sit (eqb kind 3) _ _ (sits Angle) tt)))
+every-range-inside kind row col t = either Sit (eqb kind 0) _ _ (sits Round) (either Sit (eqb kind 1) _ _ (sits Square)
+    (either Sit (eqb kind 2) _ _ (sits Curly) (either Sit (eqb kind 3) _ _ (sits Angle) tt)))
   where
     Sit : Inner → Type 0
     Sit m = AllIn t (inInner m)

@@ -1,11 +1,6 @@
 -- Two calls against one, by their refusals and the carets that they lead to: no check looks at a count, and a caret in the text is taken as the first one was.
 -- Assumes nothing.
-use mathlib.Core.Path.{_≡_, ap, sym, _∙_}
-use mathlib.Core.List.{List, _∷_}
-use Prim.Native.Nat.{ℕ}
-use native.Mathlib.Decide.{ℕ-discrete}
-use native.Mathlib.Omega.{arith}
-use borrow.Author.Tests.{eq-eqb, ne-eqb}
+use Rattle.lists.proofs.Kit.{_≡_, ap, sym, _∙_, List, _∷_, ℕ, ℕ-discrete, arith, eq-eqb, ne-eqb}
 use Rattle.text_check.specs.Accept.{textRefusal}
 use Rattle.positions.specs.Positions.{lowest}
 use Rattle.positions.proofs.Lowest.{lowest-other}
@@ -40,10 +35,7 @@ moving-sums f first once refusal second h = go (ℕ-discrete f 0)
           let same : first ≡ c = to-once (sym (moving-yes f first z) ∙ e) in
           record {
             caret = once;
-            twice-there =
-                ap (λ (x : Caret). moving (refusal x) (second x)) (sym same)
-                ∙ moving-yes (refusal first) (second first) (h z .0)
-                ∙ ap To (h z .1);
+            twice-there = ap (λ (x : Caret). moving (refusal x) (second x)) (sym same) ∙ moving-yes (refusal first) (second first) (h z .0) ∙ ap To (h z .1);
             once-there = moving-yes f once z;
           };
       refused = λ g e. absurd (to-refused (sym (moving-yes f first z) ∙ e));

@@ -1,10 +1,6 @@
 -- The positions of a counted motion stand in the text, and the last of them is where the motion leads to. Assumes nothing.
-use mathlib.Core.Path.{_≡_, refl, ap}
-use mathlib.Core.List.{List, [], _∷_}
-use mathlib.Core.Bool.{Bool, true, false, cond, _&&_}
-use Prim.Native.Nat.{ℕ, zero, suc, _-_, _<_, max}
-use native.Mathlib.Omega.{arith}
-use Rattle.word_kinds.specs.Places.{Went, To, Nowhere}
+use Rattle.lists.proofs.Kit.{_≡_, refl, ap, List, [], _∷_, Bool, true, false, cond, _&&_, ℕ, zero, suc, _-_, _<_, max, arith}
+use Rattle.word_kinds.specs.Places.{Step, To, Nowhere}
 use Rattle.word_loops.proofs.Within
 use Rattle.word_edges.specs.Words
 use Rattle.word_rounds.specs.declared.Motion.{Motion}
@@ -64,7 +60,7 @@ module _ (from : Position → Position) (round : Position → Turn) where
       )
 
 -- a round that finds no word ends where it began, out of the fold
-turn-off : (from : Position) (w : Went) (q : Position) → turn from w ≡ Off q → from ≡ q
+turn-off : (from : Position) (w : Step) (q : Position) → turn from w ≡ Off q → from ≡ q
 turn-off from (To x) q e = let never : _≡_ {A = ℕ} 0 1 = cc in absurd (omega arith)
 turn-off from Nowhere q e = cc
 
@@ -91,9 +87,7 @@ module _ (t folds : List ℕ) where
     pub word-last : (m : Motion) (stop : Bool) (n : ℕ) (p : Position) →
         lastOf (wordWrites t folds kind big m stop n p) ≡ atPlace (wordMotion t folds kind big m stop n p) ∷ []
     unfolding wordWrites wordMotion
-    word-last m stop n p =
-        ap (λ (q : Position). q ∷ [])
-        (found-ends (origin t folds m p) _ (roundOf t folds kind big m stop p) _ (round-off m stop p)
+    word-last m stop n p = ap (λ (q : Position). q ∷ []) (found-ends (origin t folds m p) _ (roundOf t folds kind big m stop p) _ (round-off m stop p)
         (counted-ends (origin t folds m) (roundOf t folds kind big m false) (round-off m false) (max n 1 - 1)))
 
     pub word-in : (m : Motion) (stop : Bool) (n : ℕ) (p : Position) → Within.In t p → AllIn t (wordWrites t folds kind big m stop n p)

@@ -1,9 +1,5 @@
 -- What up, down and the screen moves write stands in the text, and the last position written is that of the answer. Assumes nothing.
-use mathlib.Core.Path.{ap}
-use mathlib.Core.List.{List, [], _∷_}
-use mathlib.Core.Bool.{Bool, true, false, cond, _||_}
-use Prim.Native.Nat.{ℕ, max}
-use lib.Dec.{eqb, leb}
+use Rattle.lists.proofs.Kit.{ap, List, [], _∷_, Bool, true, false, cond, _||_, ℕ, max, eqb, leb}
 use Rattle.chars.specs.White.{isWhite}
 use Rattle.widths.specs.declared.Ambiguous.{Ambiguous}
 use Rattle.widths.specs.Widths.{widthAs}
@@ -54,8 +50,7 @@ module _ (t : List ℕ) (k : Caret) (n : ℕ) (folds : List ℕ) (tabstop : ℕ)
 
     by-screen : (down : Bool) → Keeps t (moveScreenRows a t folds tabstop mode width down n k) (screenMoves a mode width down n k t folds)
     by-screen down = record {
-      fits =
-          moving-to (λ c. Fits t (screenMoves a mode width down n k t folds c) c) (verticalRefusal t folds tabstop k)
+      fits = moving-to (λ c. Fits t (screenMoves a mode width down n k t folds c) c) (verticalRefusal t folds tabstop k)
           (screenCaret a t folds tabstop mode width down n k)
           (λ z. let by-own = own t folds tabstop k z in go (eqb width 0 || isNone mode) (record { in-row = by-own .in-row; in-col = by-own .in-col }));
     }
@@ -81,8 +76,7 @@ module _ (t : List ℕ) (k : Caret) (n : ℕ) (folds : List ℕ) (tabstop : ℕ)
       let setting = settingOf op in
       let plain = plainOf op in
       let answer : Asked → Moved = λ m. moveAs m n k t folds [] tabstop in
-      both t answer (eqb plain 0) (rows-once setting false)
-      (both t answer (eqb plain 1) (rows-once setting true)
+      both t answer (eqb plain 0) (rows-once setting false) (both t answer (eqb plain 1) (rows-once setting true)
       (both t answer (eqb plain 2) (by-screen setting mode width false)
       (either (λ (m : Asked). Keeps t (answer m) (screenMoves setting mode width true n k t folds)) (eqb plain 3) _ _ (by-screen setting mode width true)
       (refused t 100 _))))

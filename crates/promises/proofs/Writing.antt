@@ -1,12 +1,5 @@
 -- What a motion by number writes stands in the text, and the last position written is that of its answer. Assumes nothing.
-use mathlib.Core.Path.{_≡_, refl}
-use mathlib.Core.List.{List, []}
-use mathlib.Core.Bool.{Bool, true, false, cond}
-use Prim.Native.Nat.{ℕ}
-use native.Mathlib.Decide.{ℕ-discrete}
-use native.Mathlib.Omega.{arith}
-use lib.Dec.{eqb, leb}
-use borrow.Author.Tests.{ne-eqb}
+use Rattle.lists.proofs.Kit.{_≡_, refl, List, [], Bool, true, false, cond, ℕ, ℕ-discrete, arith, eqb, leb, ne-eqb}
 use Rattle.text.specs.Text.{position}
 use Rattle.lists.specs.Rounds.{rounds}
 use Rattle.list_tokens.specs.Tokens.{inList}
@@ -70,12 +63,10 @@ module _ (t : List ℕ) where
     by-steps : (f : Position → Position) → ((p : Position) → Inside t p → Inside t (f p)) →
         Keeps t (leads t k (rounds f (times n) (here k))) (λ c. trail (λ p. p) f (times n) (here k))
     by-steps f h = record {
-      fits =
-          moving-to (Fits t (trail (λ p. p) f (times n) (here k))) (refusalOf t k) (put k (rounds f (times n) (here k)))
-          (λ z. (
-            trail-in (λ p. p) f t h (times n) (here k) (inside t (here k) z),
-            trail-last (λ p. p) f (times n) (here k) (omega arith),
-          ));
+      fits = moving-to (Fits t (trail (λ p. p) f (times n) (here k))) (refusalOf t k) (put k (rounds f (times n) (here k))) (λ z. (
+        trail-in (λ p. p) f t h (times n) (here k) (inside t (here k) z),
+        trail-last (λ p. p) f (times n) (here k) (omega arith),
+      ));
     }
 
     space : Keeps t (motion 3 n k t) (plainWrites 3 n k t)
@@ -110,10 +101,8 @@ module _ (t : List ℕ) where
       by-words : (folds : List ℕ) (m : Motion) (stop : Bool) →
           Keeps t (moveWord t folds list big m stop n k) (λ c. wordWrites t folds (kindOf (inList list) big) big m stop n (position (k .row) (k .col)))
       by-words folds m stop = record {
-        fits =
-            moving-to (Fits t (wordWrites t folds (kindOf (inList list) big) big m stop n (position (k .row) (k .col)))) (wordRefusal t folds list k)
-            (wordCaret t folds (inList list) big m stop n k)
-            (λ z.
+        fits = moving-to (Fits t (wordWrites t folds (kindOf (inList list) big) big m stop n (position (k .row) (k .col)))) (wordRefusal t folds list k)
+            (wordCaret t folds (inList list) big m stop n k) (λ z.
             let by-caret-in = caret-in t k _ _ z in (
               word-in t folds (kindOf (inList list) big) big m stop n (position (k .row) (k .col))
                   (record { in-row = by-caret-in .in-row; in-col = by-caret-in .in-col }),
@@ -125,11 +114,7 @@ module _ (t : List ℕ) where
       unfolding word wordOf moveAs termWrites
       term-keeps op folds =
           let answer : Asked → Moved = λ a. moveAs a n k t folds list 0 in
-          both answer (eqb op 0) (by-words folds Fwd false)
-          (both answer (eqb op 1) (by-words folds Back false)
-          (both answer (eqb op 2) (by-words folds End false)
-          (both answer (eqb op 3) (by-words folds End true)
-          (either
-          (λ (a : Asked). Keeps t (answer a) (λ c. wordWrites t [] (kindOf (inList list) big) big EndBack false n (position (k .row) (k .col))))
-          (eqb op 4) _ _
+          both answer (eqb op 0) (by-words folds Fwd false) (both answer (eqb op 1) (by-words folds Back false)
+          (both answer (eqb op 2) (by-words folds End false) (both answer (eqb op 3) (by-words folds End true) (either
+          (λ (a : Asked). Keeps t (answer a) (λ c. wordWrites t [] (kindOf (inList list) big) big EndBack false n (position (k .row) (k .col)))) (eqb op 4) _ _
           (by-words [] EndBack false) (refused 100 _)))))

@@ -1,4 +1,5 @@
--- The moves whose counts add, document 02's #109 and #110, and the move and the caret of the second call. Cited by `specs/CountsAdd.antt`. Definitions only. Assumes nothing.
+-- The moves whose counts add, document 02's #109 and #110, and the move and the caret of the second call. Cited by `specs/CountsAdd.antt`. Definitions
+-- only. Assumes nothing.
 use mathlib.Core.Bool.{false}
 use Rattle.vertical.specs.declared.Sticky.the-variants.{Absent}
 use Rattle.text_moves.specs.declared.Way.{Way}

@@ -1,5 +1,6 @@
 -- Counts that don't add: a call and then a second on the caret that it returned, against one call with the sum, over the replies of the exported calls.
--- Document 02, #109; told in docs/COUNTS.md. Definitions only; `proofs/Apart.antt` computes the table. Assumes nothing.
+-- Document 02, #109; told in docs/COUNTS.md. Definitions only; `proofs/Apart.antt` computes the table. Long by its table: a row for each call. Assumes
+-- nothing.
 use Prim.Native.Nat.{ℕ}
 use Prim.Native.String.{String}
 use mathlib.Core.Path.{_≡_}
@@ -15,7 +16,7 @@ use Rattle.call_texts.specs.Carets.{caretOf, moved}
 use Rattle.call_texts.specs.Moves.{motion}
 use Rattle.call_folds.specs.Terms.{word}
 use Rattle.call_folds.specs.Upright.{vertical}
-use Rattle.promises.specs.Calls.{same, caret, caretTo}
+use Rattle.promises.specs.Cases.{same, caret, caretTo}
 use Rattle.promises.specs.Adding.{whole, dropped}
 use Rattle.promises.specs.CountsAdd.{Sums}
 

@@ -1,4 +1,4 @@
--- The calls of the tables by what they ask, and their replies in short. Definitions only. Assumes nothing.
+-- The calls of the tables by what they ask, and their replies in short. Definitions only. Long by its calls: a short name for each. Assumes nothing.
 use Prim.Native.Nat.{ℕ, _+_, _-_}
 use Prim.Native.String.{String}
 use mathlib.Core.List.{List, [], _∷_}

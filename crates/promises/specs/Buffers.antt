@@ -1,4 +1,5 @@
--- A case of each call on lent buffers, edits and fold files, as in `Calls`. Definitions only; `proofs/Buffers.antt` computes them. Assumes nothing.
+-- A case of each call on lent buffers, edits and fold files, as in `Cases`. Definitions only; `proofs/Buffers.antt` computes them. Long by its calls: a
+-- case for each. Assumes nothing.
 use Prim.Native.Nat.{ℕ, _*_, _/_}
 use Prim.Native.String.{String}
 use mathlib.Core.List.{List, [], _∷_, _++_}
@@ -15,7 +16,7 @@ use Rattle.edits.specs.Edits.{newText, newFolds, keptBy, refusalOf}
 use Rattle.call_bytes.specs.Reply.{Reply, answer, refused}
 use Rattle.call_edits.specs.Edits.{caretIn, sizesIn, editOf}
 use Rattle.call_fold_file.specs.FoldFiles.{writes, reads}
-use Rattle.promises.specs.Calls.{Case, case}
+use Rattle.promises.specs.Cases.{Case, case}
 
 -- an edit: the caret, the sizes, and both buffers
 abbrev pub editShown : Edited → List ℕ → List ℕ → Reply

@@ -10,7 +10,7 @@ use Rattle.call_bytes.specs.Reply.{Reply, answer, refused}
 use Rattle.call_texts.specs.Carets.{caretOf}
 use Rattle.call_classes.specs.Classed.{classing, classesIn}
 use Rattle.call_classes.specs.ByTerm.{wordsByClass, slicesLeft}
-use Rattle.promises.specs.Calls.{Case, case, value, caret}
+use Rattle.promises.specs.Cases.{Case, case, value, caret}
 
 -- a motion by the classes, once, into a slice of n places that hold 7; and that slice afterwards
 abbrev pub byClass : ℕ → String → ℕ → ℕ → ℕ → Reply

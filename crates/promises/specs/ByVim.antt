@@ -8,7 +8,7 @@ use Rattle.lists.specs.Codes.{codes}
 use Rattle.call_bytes.specs.Reply.{Reply, refused}
 use Rattle.call_texts.specs.Carets.{caretOf}
 use Rattle.call_vim_words.specs.ByTerm.{wordsVim}
-use Rattle.promises.specs.Calls.{Case, case, caret}
+use Rattle.promises.specs.Cases.{Case, case, caret}
 
 -- a motion by a list, once, from a column of the first row
 abbrev pub byVim : ℕ → String → ℕ → List ℕ → String → Reply

@@ -1,10 +1,9 @@
--- A case of every public call, by the name that the Rust has for it, and of the session: its reply, and two replies that its contract
--- rules out. Definitions only; `proofs/Examples.antt` and `proofs/Runs.antt` compute them. Assumes nothing.
-use Prim.Native.Nat.{ℕ, _+_, _*_}
+-- A case of every public call on characters, rows, texts and folds, as in `Cases`. Definitions only; `proofs/Examples.antt` computes them. Long by its
+-- calls: a case for each. Assumes nothing.
+use Prim.Native.Nat.{ℕ}
 use Prim.Native.String.{String}
-use mathlib.Core.List.{List, [], _∷_, _++_}
-use mathlib.Core.Bool.{Bool, true, false}
-use lib.Dec.{eqb}
+use mathlib.Core.List.{List, [], _∷_}
+use mathlib.Core.Bool.{false}
 use Rattle.call_bytes.specs.Reply.{Reply, answer, refused, told}
 use Rattle.call_texts.specs.Carets.{caretOf, caretSix}
 use Rattle.call_rows.specs.Characters.{fact}
@@ -17,55 +16,9 @@ use Rattle.call_texts.specs.Viewports.{viewports}
 use Rattle.call_folds.specs.Upright.{verticals}
 use Rattle.call_folds.specs.Kept.{screensKept}
 use Rattle.call_rows.specs.Wraps.{offsets, segmentOf}
-use Rattle.call_utf8.specs.Utf8.{decodes, encodes}
-use Rattle.utf8.specs.Encoding.{utf8}
-use Rattle.session.specs.Session.{sessionOf}
-use Rattle.lists.specs.Lists.{isSame}
 use Rattle.lists.specs.Codes.{codes}
-use Rattle.promises.specs.Asking.{pair, inside, key, till, byWord, entered, enteredHolds, plainly, vimRead, vimHolds, vimAgain, with, none, spans, alone, at, found, yes, no}
-
-pub record Case : Type 0 where
-  pub call : String
-  pub gives : Reply
-  pub right : Reply
-  pub wrong : Reply
-  pub wrong′ : Reply
-
-abbrev pub case : String → Reply → Reply → Reply → Reply → Case
-case call gives right wrong wrong′ = record { call = call; gives = gives; right = right; wrong = wrong; wrong′ = wrong′ }
-
--- replies, told apart
-abbrev pub same : Reply → Reply → Bool
-same (answer v) (answer w) = isSame v w
-same (answer v) (refused f) = false
-same (refused f) (answer w) = false
-same (refused f) (refused g) = eqb f g
-
--- the right reply is given, and neither of the wrong ones
-pub record Judged : Type 0 where
-  pub call : String
-  pub right : Bool
-  pub wrong : Bool
-  pub wrong′ : Bool
-
-abbrev pub judged : List Case → List Judged
-judged [] = []
-judged (c ∷ l) =
-    record { call = c .call; right = same (c .gives) (c .right); wrong = same (c .gives) (c .wrong); wrong′ = same (c .gives) (c .wrong′) } ∷ judged l
-
-abbrev pub good : List Case → List Judged
-good [] = []
-good (c ∷ l) = record { call = c .call; right = true; wrong = false; wrong′ = false } ∷ good l
-
--- values, a caret and a search that found nothing as replies
-abbrev pub value : ℕ → Reply
-value n = answer (n ∷ [])
-
-abbrev pub caret : ℕ → ℕ → Reply
-caret r c = answer (at r c)
-
-abbrev pub missing : ℕ → ℕ → Reply
-missing r c = answer (0 ∷ at r c)
+use Rattle.promises.specs.Asking.{pair, inside, key, till, byWord, with, none, spans, alone, found, yes, no}
+use Rattle.promises.specs.Cases.{Case, case, value, caret, missing, caretTo, caretKept}
 
 -- the calls by what they ask: a motion, from a caret without a sticky column, with a count
 abbrev pub motion : ℕ → String → ℕ → ℕ → ℕ → Reply
@@ -82,14 +35,8 @@ upright op width t r c = verticals op 1 width 1 8 (caretOf r c 0 0) (codes t) []
 abbrev pub remembering : ℕ → ℕ → ℕ → List ℕ → String → ℕ → ℕ → ℕ → ℕ → Reply
 remembering op mode width folds t r c kept offset = screensKept op mode width 1 8 (caretSix r c 1 9 kept offset) (codes t) folds
 
-abbrev pub caretKept : ℕ → ℕ → ℕ → ℕ → Reply
-caretKept r c kept offset = answer (r ∷ c ∷ 1 ∷ 9 ∷ kept ∷ offset ∷ [])
-
 abbrev pub viewport : ℕ → ℕ → ℕ → Reply
 viewport op top height = viewports op top height 0 (caretOf 0 0 0 0) (codes "a\nb\nc")
-
-abbrev pub caretTo : ℕ → ℕ → ℕ → Reply
-caretTo r c sticky = answer (r ∷ c ∷ 1 ∷ sticky ∷ [])
 
 unfoldable pub calls : List Case
 calls =
@@ -157,58 +104,4 @@ calls =
     case "inner_pair" (inside 4 "()" 0 3) (refused 100) (refused 4) (answer alone) ∷
     case "match_bracket" (key "<(>)" 0 0) (answer (found 0 3)) (missing 0 0) (answer (found 0 2)) ∷
     case "find_char_on_line" (till false "axx") (answer (found 0 0)) (missing 0 0) (answer (found 0 1)) ∷
-    []
-
--- UTF-8 from and to code points: `é`, a surrogate, whose second byte can't stand there, and an arrow
-unfoldable pub codings : List Case
-codings =
-    case "utf8_decode" (decodes (0xc3 ∷ 0xa9 ∷ []) (9 ∷ [])) (value 1) (value 2) (refused 13) ∷
-    case "utf8_decode" (decodes (0xed ∷ 0xa0 ∷ 0x80 ∷ []) []) (refused (13 + 4294967296 * 1)) (refused 13) (refused 14) ∷
-    case "utf8_encode" (encodes (0x2192 ∷ []) (9 ∷ 9 ∷ 9 ∷ [])) (value 3) (value 1) (refused 14) ∷
-    case "utf8_encode" (encodes (0xd800 ∷ []) []) (refused 2) (value 3) (refused 14) ∷
-    []
-
--- keyword lists where plus signs are retired: a sign in the second part, what is kept and dropped with its plus, a sign in a range that falls; the list
--- written out with its white space and what is dropped, and a place short
-unfoldable pub entries : List Case
-entries =
-    case "enter" (entered "5,+48") (refused (21 + 4294967296 * 2)) (refused 21) (value 2) ∷
-    case "enter" (entered "++4,+, 5") (value 2) (value 3) (refused 21) ∷
-    case "enter" (enteredHolds "57-+48" 50) (refused (21 + 4294967296 * 3)) (answer no) (refused 21) ∷
-    case "enter" (enteredHolds "+" 43) (answer yes) (answer no) (refused 21) ∷
-    case "enter" (enteredHolds "+4" 0xd800) (refused 2) (refused 21) (answer no) ∷
-    case "without_plus" (plainly " +4-+5") (answer (4 ∷ (codes " 4-5" ++ (9 ∷ 9 ∷ [])))) (answer (3 ∷ (codes "4-5" ++ (9 ∷ 9 ∷ 9 ∷ []))))
-    (answer (5 ∷ (codes " 4-+5" ++ (9 ∷ [])))) ∷
-    case "without_plus" (plainly "++4,+") (answer (5 ∷ (codes "++4,+" ++ (9 ∷ [])))) (answer (2 ∷ (codes "4," ++ (9 ∷ 9 ∷ 9 ∷ 9 ∷ []))))
-    (answer (4 ∷ (codes "++4," ++ (9 ∷ 9 ∷ [])))) ∷
-    case "without_plus" (plainly "+444444,") (refused 14) (answer (6 ∷ codes "444444")) (answer (7 ∷ codes "444444")) ∷
-    []
-
--- Vim's own lists: commas as characters, what is excluded later, an at sign by its code, the end of the longest beginning, and a character that is no
--- scalar value; the list written as it was spelt, without leading zeros, a place short, and gone wrong
-unfoldable pub vims : List Case
-vims =
-    case "vim_list" (vimRead "a,,,b") (value 3) (value 2) (refused (17 + 4294967296 * 2)) ∷
-    case "vim_list" (vimRead "26-3,") (refused (17 + 4294967296 * 4)) (refused (17 + 4294967296 * 5)) (refused (17 + 4294967296 * 3)) ∷
-    case "vim_list" (vimHolds "a-z,^b" 98) (answer no) (answer yes) (refused (17 + 4294967296 * 4)) ∷
-    case "vim_list" (vimHolds "64" 97) (answer no) (answer yes) (refused (17 + 4294967296 * 0)) ∷
-    case "vim_list" (vimHolds "a," 97) (refused (17 + 4294967296 * 2)) (refused 17) (answer yes) ∷
-    case "vim_list" (vimHolds "a," 0xdfff) (refused 2) (refused (17 + 4294967296 * 2)) (answer no) ∷
-    case "vim_write" (vimAgain "+-045") (answer (4 ∷ (codes "+-45" ++ (9 ∷ 9 ∷ [])))) (answer (5 ∷ (codes "+-045" ++ (9 ∷ []))))
-    (answer (3 ∷ (codes "+--" ++ (9 ∷ 9 ∷ 9 ∷ [])))) ∷
-    case "vim_write" (vimAgain "a,^,,^^") (refused 14) (answer (6 ∷ codes "a,^,,^")) (answer (7 ∷ codes "a,^,,^")) ∷
-    case "vim_write" (vimAgain "^-~") (refused (17 + 4294967296 * 2)) (answer (3 ∷ (codes "^-~" ++ (9 ∷ 9 ∷ 9 ∷ [])))) (refused 17) ∷
-    []
-
--- document 01's printed session: what it prints, that with `j` left out, and what a refused input prints. Document 02's #104: after `$`, `j` goes
--- to the end of each row, and not to the column of the first row, nor to that of the row before. And one with an accent and an arrow, whose columns
--- are code points
-unfoldable pub sessions : List Case
-sessions =
-    case "session" (answer (sessionOf (codes "w 1\nj 1\n% 1\n.\nif (n) {\nx (y)\n}\n")))
-    (answer (codes "w 0 3\nj 1 3\n% 1 2\n")) (answer (codes "w 0 3\n% 1 2\n")) (answer (codes "refused\n")) ∷
-    case "session" (answer (sessionOf (codes "$\nj\nj\nj\n.\nabc\nd\n\nefgh\n")))
-    (answer (codes "$ 0 2\nj 1 0\nj 2 0\nj 3 3\n")) (answer (codes "$ 0 2\nj 1 0\nj 2 0\nj 3 2\n"))
-    (answer (codes "$ 0 2\nj 1 0\nj 2 0\nj 3 0\n")) ∷
-    case "session" (answer (sessionOf (utf8 (codes "$\n.\né→\n")))) (answer (codes "$ 0 1\n")) (answer (codes "$ 0 4\n")) (answer (codes "refused\n")) ∷
     []

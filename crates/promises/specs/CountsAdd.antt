@@ -1,6 +1,6 @@
--- A motion with count m and then the same with count n end where one with count m + n does. Document 02, #109 and #110: for the moves of `specs/Adding.antt`, over what
--- the public calls answer (`movedBy`: the definition that each one's contract cites). Definitions only; `counts-add` is in `proofs/CountsAdd.antt`, and
--- examples of counts that don't add are in `specs/Apart.antt`. Assumes nothing.
+-- A motion with count m and then the same with count n end where one with count m + n does. Document 02, #109 and #110: for the moves of
+-- `specs/Adding.antt`, over what the public calls answer (`movedBy`: the definition that each one's contract cites). Definitions only; `counts-add` is
+-- in `proofs/CountsAdd.antt`, and examples of counts that don't add are in `specs/Apart.antt`. Assumes nothing.
 use Prim.Native.Nat.{ℕ, _+_, _≤_, _<_, _^_}
 use mathlib.Core.Path.{_≡_}
 use mathlib.Core.List.{List}
@@ -17,7 +17,8 @@ pub record Meets (twice once : Moved) : Type 0 where
   pub twice-there : twice ≡ To caret
   pub once-there : once ≡ To caret
 
--- a second call on the whole caret that the first returned, its sticky column and its offset with it, against one call; where the first is refused so is the one
+-- a second call on the whole caret that the first returned, its sticky column and its offset with it, against one call; where the first is refused so is
+-- the one
 pub record Sums (first : Moved) (second : Caret → Moved) (once : Moved) : Type 0 where
   pub accepted : (c : Caret) → first ≡ To c → Meets (second c) once
   pub refused : (f : ℕ) → first ≡ Refused f → once ≡ Refused f

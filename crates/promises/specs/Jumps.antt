@@ -1,4 +1,4 @@
--- Cases of the call that makes jumps (document 02, #114), as in `Calls`: over P1's text, a `%` that finds nothing, no jump at all, and its own
+-- Cases of the call that makes jumps (document 02, #114), as in `Cases`: over P1's text, a `%` that finds nothing, no jump at all, and its own
 -- refusals. Definitions only; `proofs/Jumps.antt` computes them. Assumes nothing.
 use Prim.Native.Nat.{ℕ}
 use Prim.Native.String.{String}
@@ -10,7 +10,7 @@ use Rattle.call_texts.specs.Carets.{caretSix}
 use Rattle.jumps.specs.Jumps.{placesLeft}
 use Rattle.call_jumps.specs.Jumping.{jumping}
 use Rattle.promises.specs.Asking.{branch}
-use Rattle.promises.specs.Calls.{Case, case}
+use Rattle.promises.specs.Cases.{Case, case}
 use Rattle.promises.specs.Buffers.{shown}
 
 -- jumps from the start, by a caret with sticky column 9 that keeps offset 3, into places that hold 8s: the caret and the places

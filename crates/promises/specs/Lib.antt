@@ -1,6 +1,10 @@
 pub mod Asking
 pub mod Table
+pub mod Cases
 pub mod Calls
+pub mod Codings
+pub mod ListCalls
+pub mod Sessions
 pub mod Buffers
 pub mod Results
 pub mod Positions

@@ -1,5 +1,6 @@
 -- The offset within a segment: what the screen moves that remember do with it, and that every other motion clears it. Document 02, #110, over what the
--- public calls answer (`movedBy`). Their counts add by `specs/CountsAdd.antt`. Definitions only; `remembering` is in `proofs/Remembering.antt`. Assumes nothing.
+-- public calls answer (`movedBy`). Their counts add by `specs/CountsAdd.antt`. Definitions only; `remembering` is in `proofs/Remembering.antt`. Assumes
+-- nothing.
 use Prim.Native.Nat.{ℕ, max}
 use mathlib.Core.Path.{_≡_}
 use mathlib.Core.List.{List}

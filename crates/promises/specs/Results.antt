@@ -29,7 +29,8 @@ abbrev pub One : {A : Type 0} → (A → Type 0) → Type 0
 One {A = A} allows = (x y : A) → allows x → allows y → x ≡ y
 
 pub record OneResult : Type 1 where
-  -- `r ≡ definition`: every method of `Caret`; the calls of `chars`, `widths`, `letters`, `keywords`, `list_signs`, `row_tabs`, `row_columns`, `row_offsets`, `text`, `brackets` and `bracket_inner`
+  -- `r ≡ definition`: every method of `Caret`; the calls of `chars`, `widths`, `letters`, `keywords`, `list_signs`, `row_tabs`, `row_columns`,
+  -- `row_offsets`, `text`, `brackets` and `bracket_inner`
   pub equal : {A : Type 0} (v : A) → One (λ (r : A). r ≡ v)
   -- `wrap_segments`: the answer, and the slice lent for segments
   pub wraps : (a : Ambiguous) (mode : Wrap) (width : ℕ) (row out : List ℕ) → One (λ (x : Segments × List ℕ). Wraps a mode width row out (x .0) (x .1))
@@ -39,8 +40,8 @@ pub record OneResult : Type 1 where
   pub answered : (s room out : List ℕ) (m : Reply) → One (λ (x : ℕ × List ℕ × List ℕ). Answered s room out m (x .0) (x .1) (x .2))
   -- an export on several byte strings, which share the room
   pub answered-all : (l : List (List ℕ)) (room out : List ℕ) (m : Reply) → One (λ (x : ℕ × List ℕ × List ℕ). AnsweredAll l room out m (x .0) (x .1) (x .2))
-  -- `wrap_segments`, UTF-8, `without_plus` and `vim_write` for hosts, on code points and on bytes: another clause says what is left in the slice lent for segments,
-  -- code points or bytes
+  -- `wrap_segments`, UTF-8, `without_plus` and `vim_write` for hosts, on code points and on bytes: another clause says what is left in the slice lent
+  -- for segments, code points or bytes
   pub replied-leaving : (m : Reply) (out left : List ℕ) → One (λ (x : ℕ × List ℕ × List ℕ). Replied m out (x .0) (x .1) × (x .2 ≡ left))
   pub answered-leaving : (s room out : List ℕ) (m : Reply) (left : List ℕ) →
       One (λ (x : ℕ × List ℕ × List ℕ × List ℕ). Answered s room out m (x .0) (x .1) (x .2) × (x .3 ≡ left))
@@ -64,4 +65,5 @@ pub record OneResult : Type 1 where
   pub host-kept : (buf fold table : List ℕ) (p q : Position) (c caret sizes : List ℕ) →
       One (λ (x : ℕ × List ℕ × List ℕ × List ℕ × List ℕ × List ℕ). HostKeeps buf fold table p q c caret sizes (x .0) (x .1) (x .2) (x .3) (x .4) (x .5))
   pub kept-filled : (buf fold at : List ℕ) (p : Position) (s room k z : List ℕ) →
-      One (λ (x : ℕ × List ℕ × List ℕ × List ℕ × List ℕ × List ℕ × List ℕ). KeepsFilled buf fold at p s room k z (x .0) (x .1) (x .2) (x .3) (x .4) (x .5) (x .6))
+      One (λ (x : ℕ × List ℕ × List ℕ × List ℕ × List ℕ × List ℕ × List ℕ). KeepsFilled buf fold at p s room k z (x .0) (x .1) (x .2) (x .3) (x .4) (x .5)
+      (x .6))

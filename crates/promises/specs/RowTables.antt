@@ -1,9 +1,8 @@
--- A case of each call on row starts that are kept (document 02, #106): the fill, the edits with a table, and the motions with one, as in `Calls`.
+-- A case of each call on row starts that are kept (document 02, #106): the fill, the edits with a table, and the motions with one, as in `Cases`.
 -- Definitions only; `proofs/RowTables.antt` computes them. Assumes nothing.
 use Prim.Native.Nat.{ℕ}
 use Prim.Native.String.{String}
 use mathlib.Core.List.{List, [], _∷_, _++_}
-use mathlib.Core.Bool.{false}
 use lib.ListN.{length, replicate}
 use Rattle.lists.specs.Codes.{codes}
 use Rattle.text.specs.Text.{rowCount, position}
@@ -14,12 +13,12 @@ use Rattle.row_table.specs.Fill.{fillRefusal, tableOf}
 use Rattle.edits.specs.Edits.{newText, keptBy}
 use Rattle.call_bytes.specs.Reply.{Reply, answer, refused, told}
 use Rattle.call_texts.specs.Rows.{toldRows}
-use Rattle.call_texts.specs.Carets.{caretOf}
 use Rattle.call_edits.specs.Edits.{sizesIn}
 use Rattle.call_row_table.specs.Tables.{fillOf, sizesReply, numberOf, editOf}
 use Rattle.call_motion_rows.specs.Asks.{byTable}
 use Rattle.promises.specs.Asking.{key, found}
-use Rattle.promises.specs.Calls.{Case, case, caret, missing, caretTo, caretKept, motion, word, upright, remembering, viewport}
+use Rattle.promises.specs.Cases.{Case, case, caret, missing, caretTo, caretKept}
+use Rattle.promises.specs.Calls.{motion, word, upright, remembering, viewport}
 use Rattle.promises.specs.Buffers.{shown}
 
 -- a fill of n places that hold 9s: the rows with content, and the places

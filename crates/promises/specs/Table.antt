@@ -1,5 +1,5 @@
--- Document 01's examples P1 to P12 in one table, over the replies of the exported calls: what each gives, by their definitions.
--- Definitions only; `proofs/Examples.antt` computes it. Assumes nothing.
+-- Document 01's examples P1 to P12 in one table, over the replies of the exported calls: what each gives, by their definitions. Definitions only;
+-- `proofs/Examples.antt` computes it. Long by its table: a row for each example. Assumes nothing.
 use Prim.Native.Nat.{ℕ}
 use Prim.Native.String.{String}
 use mathlib.Core.Path.{_≡_}
@@ -9,7 +9,8 @@ use Rattle.keywords.specs.Worked.{P11}
 use Rattle.call_bytes.specs.Reply.{Reply, answer}
 use Rattle.call_texts.specs.Rows.{rowCount}
 use Rattle.lists.specs.Codes.{codes}
-use Rattle.promises.specs.Asking.{pair, inside, key, till, byChar, byWord, cursor, cell, paragraph, word, holds, with, none, spans, at, found, yes, no, branch}
+use Rattle.promises.specs.Asking.{pair, inside, key, till, byChar, byWord, cursor, cell, paragraph, word, holds, with, none, spans, at, found, yes, no}
+use Rattle.promises.specs.Asking.{branch}
 
 -- a call's reply, and what it is to be
 pub record Row : Type 0 where

@@ -1,5 +1,6 @@
--- Every position that a call writes stands in the text, those in the middle of a call among them. Document 01: "every position written has row < rows and
--- column at most the row's character count". Definitions only; `every-inside` is in `proofs/Positions.antt`. Assumes nothing.
+-- Every position that a call writes stands in the text, those in the middle of a call among them. Document 01: "every position written has row < rows
+-- and column at most the row's character count". Definitions only; `every-inside` is in `proofs/Positions.antt`. Long by its calls: a clause for each.
+-- Assumes nothing.
 use Prim.Native.Nat.{ℕ}
 use mathlib.Core.Path.{_≡_}
 use mathlib.Core.List.{List, [], _∷_}

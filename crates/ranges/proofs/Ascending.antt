@@ -1,13 +1,6 @@
 -- Laws of an ascending table: each bound is below each later one. Assumes nothing.
-use mathlib.Core.Path.{ap}
-use mathlib.Core.Logic.{⊎-elim}
-use mathlib.Core.Bool.{Bool, true, false, _&&_}
-use mathlib.Core.List.{List, [], _∷_}
-use Prim.Native.Nat.{ℕ, zero, suc, _≤_, _<_}
-use native.Mathlib.Nat.{le-of-suc-le-suc, not-suc-le-zero, eq-or-lt-of-le, le-of-eq, le-of-lt}
-use native.Mathlib.Omega.{arith}
-use lib.Dec.{T, ltb, ltb→lt}
-use lib.ListN.{length, getD}
+use Rattle.lists.proofs.Kit.{ap, List, [], _∷_, Bool, true, false, _&&_, ⊎-elim, ℕ, zero, suc, _≤_, _<_, le-of-suc-le-suc, not-suc-le-zero, eq-or-lt-of-le}
+use Rattle.lists.proofs.Kit.{le-of-eq, le-of-lt, arith, length, getD, T, ltb, ltb→lt}
 use Rattle.ranges.specs.Ranges.{climbs, ascending}
 
 pub and-left : (a b : Bool) → T (a && b) → T a
@@ -36,5 +29,4 @@ ascending-lt (b ∷ bs) t (suc p) zero l h = absurd (not-suc-le-zero l)
 ascending-lt (b ∷ bs) t (suc p) (suc q) l h = ascending-lt bs (ascending-tail b bs t) p q (le-of-suc-le-suc l) (le-of-suc-le-suc h)
 
 pub ascending-le : (bs : List ℕ) → T (ascending bs) → (p q : ℕ) → p ≤ q → q < length bs → getD bs p 0 ≤ getD bs q 0
-ascending-le bs t p q l h =
-    ⊎-elim (λ e. le-of-eq (ap (λ (k : ℕ). getD bs k 0) e)) (λ m. le-of-lt (ascending-lt bs t p q m h)) (eq-or-lt-of-le l)
+ascending-le bs t p q l h = ⊎-elim (λ e. le-of-eq (ap (λ (k : ℕ). getD bs k 0) e)) (λ m. le-of-lt (ascending-lt bs t p q m h)) (eq-or-lt-of-le l)

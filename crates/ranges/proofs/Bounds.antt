@@ -1,14 +1,7 @@
 -- Laws of a table of bounds: how many bounds are at most x says whether x lies in a range (odd) or not (even); and the bounds from one on
 -- that is above x do not matter. Assumes nothing.
-use mathlib.Core.Path.{_≡_, refl, _∙_, sym, ap}
-use mathlib.Core.Bool.{Bool, true, false, _&&_, _||_}
-use mathlib.Core.List.{List, [], _∷_, _++_}
-use Prim.Native.Nat.{ℕ, zero, suc, _%_, _≤_, _<_}
-use native.Mathlib.Nat.{le-of-suc-le-suc, not-suc-le-zero}
-use native.Mathlib.Omega.{arith}
-use lib.Dec.{T, leb, ltb, eqb}
-use lib.ListN.{length, getD}
-use borrow.Author.Tests.{le-ltb, lt-ltb, le-leb, lt-leb}
+use Rattle.lists.proofs.Kit.{_≡_, refl, _∙_, sym, ap, List, [], _∷_, _++_, Bool, true, false, _&&_, _||_, ℕ, zero, suc, _%_, _≤_, _<_, le-of-suc-le-suc}
+use Rattle.lists.proofs.Kit.{not-suc-le-zero, arith, length, getD, T, leb, ltb, eqb, le-ltb, lt-ltb, le-leb, lt-leb}
 use Rattle.ranges.specs.Ranges.{inTable, climbs, ascending, UpTo}
 use Rattle.ranges.proofs.Ascending.{and-right, climbs-all, ascending-tail}
 
@@ -45,10 +38,8 @@ odd-in x (s ∷ []) (suc zero) h = simp (le-leb _ _ (h .below 0 (omega arith)))
 odd-in x (s ∷ []) (suc (suc r)) h = absurd (not-suc-le-zero (le-of-suc-le-suc (h .inside)))
 odd-in x (s ∷ e ∷ bs) zero h = simp (lt-leb _ _ (h .above 0 (omega arith) (omega arith)))
     (odd-in x bs zero (none (λ k m. h .above (suc (suc k)) (omega arith) (omega arith))))
-odd-in x (s ∷ e ∷ bs) (suc zero) h =
-    simp (le-leb _ _ (h .below 0 (omega arith)), lt-ltb _ _ (h .above 1 (omega arith) (omega arith)))
-odd-in x (s ∷ e ∷ bs) (suc (suc r)) h =
-    simp (le-leb _ _ (h .below 0 (omega arith)), le-ltb _ _ (h .below 1 (omega arith))) (odd-in x bs r (rest h))
+odd-in x (s ∷ e ∷ bs) (suc zero) h = simp (le-leb _ _ (h .below 0 (omega arith)), lt-ltb _ _ (h .above 1 (omega arith) (omega arith)))
+odd-in x (s ∷ e ∷ bs) (suc (suc r)) h = simp (le-leb _ _ (h .below 0 (omega arith)), le-ltb _ _ (h .below 1 (omega arith))) (odd-in x bs r (rest h))
 
 pub up-to-odd : {bs : List ℕ} {x : ℕ} (r : ℕ) → UpTo bs x r → eqb (r % 2) 1 ≡ inTable x bs
 up-to-odd {bs} {x} r h = odd-mod r ∙ odd-in x bs r h
@@ -66,8 +57,7 @@ in-table-front x (s ∷ []) b bs t h = rw (lt-ltb x b h, none-in x b bs (and-rig
     alone : (p : Bool) → ((p && true) || false) ≡ p
     alone true = refl
     alone false = refl
-in-table-front x (s ∷ e ∷ front) b bs t h =
-    ap (λ (r : Bool). (leb s x && ltb x e) || r)
+in-table-front x (s ∷ e ∷ front) b bs t h = ap (λ (r : Bool). (leb s x && ltb x e) || r)
     (in-table-front x front b bs (ascending-tail e (front ++ (b ∷ bs)) (ascending-tail s (e ∷ front ++ (b ∷ bs)) t)) h)
 
 -- the same of a table that goes on from b after a front

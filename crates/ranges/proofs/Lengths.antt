@@ -1,15 +1,7 @@
 -- Laws of ranges by starts and lengths: their bounds ascend, and so do their starts; the last range that starts at x or before says whether
 -- x lies in one. Assumes nothing.
-use mathlib.Core.Path.{_≡_, refl, ap}
-use mathlib.Core.Bool.{Bool, true, false, _&&_, and-false, or-false}
-use mathlib.Core.List.{List, [], _∷_}
-use Prim.Native.Nat.{ℕ, zero, suc, _+_, _-_, _≤_, _<_}
-use native.Mathlib.Nat.{le-of-suc-le-suc, not-suc-le-zero}
-use native.Mathlib.Decide.{decLt}
-use native.Mathlib.Omega.{arith}
-use lib.Dec.{T, leb, ltb, ltb→lt, lt→ltb}
-use lib.ListN.{length, getD}
-use borrow.Author.Tests.{le-ltb, lt-ltb, le-leb, lt-leb}
+use Rattle.lists.proofs.Kit.{_≡_, refl, ap, List, [], _∷_, Bool, true, false, _&&_, and-false, or-false, ℕ, zero, suc, _+_, _-_, _≤_, _<_, not-suc-le-zero}
+use Rattle.lists.proofs.Kit.{decLt, arith, length, getD, T, leb, ltb, ltb→lt, lt→ltb, le-ltb, lt-ltb, le-leb, lt-leb}
 use Rattle.ranges.specs.Ranges.{inTable, climbs, ascending, UpTo}
 use Rattle.ranges.specs.Lengths.{boundsOf, before, apart}
 use Rattle.ranges.proofs.Ascending.{and-left, and-right}
@@ -78,8 +70,7 @@ rest-up-to h =
 pub before-all : (starts lengths : List ℕ) {x : ℕ} → UpTo starts x 0 → inTable x (boundsOf starts lengths) ≡ false
 before-all [] lengths h = refl
 before-all (s ∷ starts) [] h = refl
-before-all (s ∷ starts) (n ∷ lengths) h =
-    rw (lt-leb _ _ (h .above 0 (omega arith) (omega arith)))
+before-all (s ∷ starts) (n ∷ lengths) h = rw (lt-leb _ _ (h .above 0 (omega arith) (omega arith)))
     (before-all starts lengths (none (λ k m. h .above (suc k) (omega arith) (omega arith))))
 
 -- x, from s on, is one of the n numbers there
@@ -91,8 +82,7 @@ within s n x h = go (decLt (x - s) n)
     go (no l) = rw (le-ltb (x - s) n (omega arith), le-ltb x (s + n) (omega arith))
 
 -- the last range that starts at x or before decides
-last-decides :
-    (starts lengths : List ℕ) {x : ℕ} (k : ℕ) → T (apart starts lengths) → UpTo starts x (suc k) →
+last-decides : (starts lengths : List ℕ) {x : ℕ} (k : ℕ) → T (apart starts lengths) → UpTo starts x (suc k) →
     ltb (x - getD starts k 0) (getD lengths k 0) ≡ inTable x (boundsOf starts lengths)
 last-decides [] lengths k t h = absurd (not-suc-le-zero (h .inside))
 last-decides (s ∷ starts) [] k t h = absurd t
@@ -108,8 +98,7 @@ last-decides (s ∷ starts) (n ∷ lengths) {x} (suc k) t h =
     past [] e u = absurd (not-suc-le-zero (u .inside))
     past (a ∷ starts) e u = omega (arith, ltb→lt (s + n) a e, u .below 0 (omega arith))
 
-pub last-of :
-    (starts lengths : List ℕ) {x : ℕ} (r : ℕ) → 0 < r → T (apart starts lengths) → UpTo starts x r →
+pub last-of : (starts lengths : List ℕ) {x : ℕ} (r : ℕ) → 0 < r → T (apart starts lengths) → UpTo starts x r →
     ltb (x - getD starts (r - 1) 0) (getD lengths (r - 1) 0) ≡ inTable x (boundsOf starts lengths)
 last-of starts lengths zero p t h = absurd (not-suc-le-zero p)
 last-of starts lengths {x} (suc k) p t h =

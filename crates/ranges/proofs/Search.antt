@@ -1,9 +1,5 @@
 -- The search in an ascending table: what is known between two places, and what is left where they meet. Assumes nothing.
-use mathlib.Core.List.{List}
-use Prim.Native.Nat.{ℕ, _+_, _≤_, _<_}
-use native.Mathlib.Omega.{arith}
-use lib.Dec.{T}
-use lib.ListN.{length, getD}
+use Rattle.lists.proofs.Kit.{List, ℕ, _+_, _≤_, _<_, arith, length, getD, T}
 use Rattle.ranges.specs.Ranges.{ascending, UpTo}
 use Rattle.ranges.proofs.Ascending.{ascending-le}
 

@@ -1,9 +1,5 @@
 -- Laws of the verdicts of rows and of counting them. Assumes nothing.
-use mathlib.Core.Path.{_≡_, refl, ap, sym, _∙_}
-use mathlib.Core.List.{List}
-use Prim.Native.Nat.{ℕ, _+_, _-_, _≤_, _<_}
-use native.Mathlib.Omega.{arith}
-use lib.ListN.{length, take, drop, drop-of-length-le}
+use Rattle.lists.proofs.Kit.{_≡_, refl, ap, sym, _∙_, List, ℕ, _+_, _-_, _≤_, _<_, arith, length, take, drop, drop-of-length-le}
 use Rattle.replay_rows.specs.declared.Numbers.{Numbers}
 use Rattle.replay_rows.specs.declared.Numbers.the-variants.{Count, Malformed as Numbers·Malformed}
 use Rattle.replay_verdicts.specs.declared.Tally.{Tally}
@@ -44,11 +40,7 @@ module _ {bytes room : List ℕ} {t : Tally} {at : ℕ} (so : Tallying bytes roo
   pub tallying-countable : at < length bytes → length bytes ≤ 18446744073709551615 → Countable t
   tallying-countable h l = record { below = omega (arith, so .below); ordered = so .ordered }
 
-  pub tallying-on :
-      at < length bytes →
-      (e : ℕ) →
-      e ≡ at + rowLength (drop at bytes) →
-      {room′ : List ℕ} {v : Verdict} →
+  pub tallying-on : at < length bytes → (e : ℕ) → e ≡ at + rowLength (drop at bytes) → {room′ : List ℕ} {v : Verdict} →
       Judged (take (e - at) (drop at bytes)) room v room′ →
       Tallying bytes room′ (counted t v) e
   unfolding tallied
@@ -60,9 +52,7 @@ module _ {bytes room : List ℕ} {t : Tally} {at : ℕ} (so : Tallying bytes roo
         kept = j .kept ∙ so .kept;
         below = omega (arith, so .below, by-counted-cases .0, by-row-within .0);
         ordered = omega (arith, so .ordered, by-counted-cases .0, by-counted-cases .1);
-        so-far = so .so-far
-            ∙ ap (tallied t) (lines-step bytes at e h q)
-            ∙ ap (λ (x : Verdict). tallied (counted t x) (lines (drop e bytes)))
+        so-far = so .so-far ∙ ap (tallied t) (lines-step bytes at e h q) ∙ ap (λ (x : Verdict). tallied (counted t x) (lines (drop e bytes)))
             (sym (j .verdict ∙ ap (λ (n : ℕ). judged (readRow n (take (e - at) (drop at bytes)))) (so .kept)));
       }
 

@@ -1,6 +1,5 @@
 -- Each kind of reply fills its places. Assumes nothing.
-use mathlib.Core.Path.{_≡_, refl}
-use lib.ListN.{length, replicate}
+use Rattle.lists.proofs.Kit.{_≡_, refl, length, replicate}
 use Rattle.bracket_walks.specs.declared.Partner.{Partner}
 use Rattle.bracket_walks.specs.declared.Partner.the-variants.{There, None, Refused as Partner·Refused}
 use Rattle.motions.specs.declared.Moved.{Moved}

@@ -1,4 +1,5 @@
--- The answers of the calls for hosts on the numbers of a case. What the contracts of `replay::calls` cite. Assumes nothing.
+-- The answers of the calls for hosts on the numbers of a case. What the contracts of `replay::calls` cite. Long by its calls: a definition for each.
+-- Assumes nothing.
 use Prim.Native.Nat.{ℕ}
 use mathlib.Core.List.{List, [], _∷_, _++_}
 use mathlib.Core.Bool.{cond, _&&_}
@@ -93,7 +94,8 @@ verticalVerdict k text folds stored =
 unfoldable pub keptVerdict : Head → List ℕ → List ℕ → List ℕ → List ℕ → Verdict
 keptVerdict k text folds own stored =
     cond (leb (k .h) 65535 && eqb (length own) 2)
-    (compared (shown 6 (screensKept (k .op) (k .g) (k .h) (k .e) (k .f) (caretSix (k .a) (k .b) (k .c) (k .d) (getD own 0 0) (getD own 1 0)) text folds)) stored)
+    (compared (shown 6 (screensKept (k .op) (k .g) (k .h) (k .e) (k .f) (caretSix (k .a) (k .b) (k .c) (k .d) (getD own 0 0)
+    (getD own 1 0)) text folds)) stored)
     Malformed
 
 -- an edge of the viewport with offset e, top row f and a height g below 65536

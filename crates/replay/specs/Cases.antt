@@ -18,7 +18,8 @@ use Rattle.replay_tables.specs.Verdicts.{tabledVerdict}
 use Rattle.replay_vim.specs.Vim.{vimVerdict, vimWordOf}
 use Rattle.replay_jumps.specs.Jumps.{jumpVerdict}
 use Rattle.replay.specs.Calls.{characterOf, keywordsOf, columnsOf, offsetsOf, segmentForColOf, wrapVerdict}
-use Rattle.replay.specs.Calls.{contentRowCountOf, matchingBracketPosOf, innerPairOf, motionOf, seekOf, wordOf, verticalVerdict, viewportVerdict, keptVerdict}
+use Rattle.replay.specs.Calls.{contentRowCountOf, matchingBracketPosOf, innerPairOf, motionOf, seekOf, wordOf, verticalVerdict, viewportVerdict}
+use Rattle.replay.specs.Calls.{keptVerdict}
 
 -- the verdict by the group of calls
 unfoldable pub byGroup : ℕ → Head → List ℕ → List ℕ → List ℕ → List ℕ → Verdict

@@ -13,6 +13,7 @@ ghost use Rattle.replay.specs.Calls.{contentRowCountOf, matchingBracketP
 ghost use Rattle.replay.specs.Calls.{motionOf, seekOf, wordOf};
 ghost use Rattle.replay.specs.Calls.{verticalVerdict, keptVerdict, viewportVerdict};
 
+// A fact about a character beside the one that is stored.
 pub fn character(k: Head, stored: &[u32]) -> Verdict
     ensures { λ r. ⌜ r ≡ Answers·compared (characterOf k) (now (stored .entry)) ⌝ }
 {
@@ -21,6 +22,7 @@ pub fn character(k: Head, stored: &[u32]) -> Verdict
     compared(n, &out, stored)
 }
 
+// Whether a keyword list holds a character, beside the stored answer.
 pub fn keywords(k: Head, list: &[u32], stored: &[u32]) -> Verdict
     ensures { λ r. ⌜ r ≡ Answers·compared (keywordsOf k (now (list .entry)))
         (now (stored .entry)) ⌝ }
@@ -30,6 +32,7 @@ pub fn keywords(k: Head, list: &[u32], stored: &[u32]) -> Verdict
     compared(n, &out, stored)
 }
 
+// A column with tabs beside the stored one.
 pub fn columns(k: Head, row: &[u32], stored: &[u32]) -> Verdict
     ensures { λ r. ⌜ r ≡ Answers·compared (columnsOf k (now (row .entry))) (now (stored .entry)) ⌝ }
 {
@@ -38,6 +41,7 @@ pub fn columns(k: Head, row: &[u32], stored: &[u32]) -> Verdict
     compared(n, &out, stored)
 }
 
+// An offset of a row by its cells beside the stored one.
 pub fn offsets(k: Head, row: &[u32], stored: &[u32]) -> Verdict
     ensures { λ r. ⌜ r ≡ Answers·compared (offsetsOf k (now (row .entry))) (now (stored .entry)) ⌝ }
 {
@@ -46,6 +50,7 @@ pub fn offsets(k: Head, row: &[u32], stored: &[u32]) -> Verdict
     compared(n, &out, stored)
 }
 
+// The segment of a column beside the stored one.
 pub fn segment_for_col(k: Head, segments: &[u32], stored: &[u32]) -> Verdict
     ensures { λ r. ⌜ r ≡ Answers·compared (segmentForColOf k (now (segments .entry)))
         (now (stored .entry)) ⌝ }
@@ -65,6 +70,7 @@ fn wrap_into(mode: u32, row: &[u32], width: u16, segments: &mut [u32], stored: &
     compared_two(n, out[0], segments, stored)
 }
 
+// The segments of a row beside the stored ones.
 pub fn wrap_segments(k: Head, row: &[u32], stored: &[u32]) -> Verdict
     ensures { λ r. ⌜ r ≡ wrapVerdict k (now (row .entry)) (now (stored .entry)) ⌝ }
 {
@@ -80,6 +86,7 @@ pub fn wrap_segments(k: Head, row: &[u32], stored: &[u32]) -> Verdict
     wrap_into(k.op, row, width as u16, &mut segments[..room], stored)
 }
 
+// How many rows with content a text has, beside the stored number.
 pub fn content_row_count(text: &[u32], stored: &[u32]) -> Verdict
     ensures { λ r. ⌜ r ≡ Answers·compared (contentRowCountOf (now (text .entry)))
         (now (stored .entry)) ⌝ }
@@ -89,6 +96,7 @@ pub fn content_row_count(text: &[u32], stored: &[u32]) -> Verdict
     compared(n, &out, stored)
 }
 
+// The partner of a bracket beside the stored one.
 pub fn matching_bracket_pos(k: Head, text: &[u32], stored: &[u32]) -> Verdict
     ensures { λ r. ⌜ r ≡ Answers·compared (matchingBracketPosOf k (now (text .entry)))
         (now (stored .entry)) ⌝ }
@@ -98,6 +106,7 @@ pub fn matching_bracket_pos(k: Head, text: &[u32], stored: &[u32]) -> Verdict
     compared(n, &out, stored)
 }
 
+// The pair around a place beside the stored one.
 pub fn inner_pair(k: Head, text: &[u32], stored: &[u32]) -> Verdict
     ensures { λ r. ⌜ r ≡ Answers·compared (innerPairOf k (now (text .entry)))
         (now (stored .entry)) ⌝ }
@@ -107,6 +116,7 @@ pub fn inner_pair(k: Head, text: &[u32], stored: &[u32]) -> Verdict
     compared(n, &out, stored)
 }
 
+// Where a motion lands beside the stored place.
 pub fn motion(k: Head, text: &[u32], stored: &[u32]) -> Verdict
     ensures { λ r. ⌜ r ≡ Answers·compared (motionOf k (now (text .entry))) (now (stored .entry)) ⌝ }
 {
@@ -115,6 +125,7 @@ pub fn motion(k: Head, text: &[u32], stored: &[u32]) -> Verdict
     compared(n, &out, stored)
 }
 
+// Where a search within the row lands beside the stored place.
 pub fn seek(k: Head, text: &[u32], stored: &[u32]) -> Verdict
     ensures { λ r. ⌜ r ≡ Answers·compared (seekOf k (now (text .entry))) (now (stored .entry)) ⌝ }
 {
@@ -123,6 +134,7 @@ pub fn seek(k: Head, text: &[u32], stored: &[u32]) -> Verdict
     compared(n, &out, stored)
 }
 
+// Where a word motion lands beside the stored place.
 pub fn word(k: Head, text: &[u32], folds: &[u32], list: &[u32], stored: &[u32]) -> Verdict
     ensures { λ r. ⌜ r ≡ Answers·compared (wordOf k (now (text .entry)) (now (folds .entry))
         (now (list .entry))) (now (stored .entry)) ⌝ }

@@ -9,6 +9,7 @@ use libc::STDIN_FILENO;
 use libc::STDOUT_FILENO;
 use replay_verdicts::Tally;
 
+// Prints a number in decimal.
 fn print_number(n: usize) {
     io::print_decimal(STDOUT_FILENO, n as u64);
 }
@@ -41,6 +42,8 @@ fn run(input: &mut [u8]) {
     print_tally(tallies::tally_of(&input[..n]));
 }
 
+// Reads stored rows from standard input, and prints how many answers are the same and how many
+// differ.
 fn main() {
     let mut input = [0u8; 1048577];
     run(&mut input);

@@ -1,11 +1,6 @@
 -- An answer of two parts, compared part by part. Assumes nothing.
-use mathlib.Core.Path.{_≡_, refl, ap, sym, _∙_}
-use mathlib.Core.List.{List, [], _∷_, _++_}
-use mathlib.Core.Bool.{Bool, true, false, cond, _&&_}
-use Prim.Native.Nat.{ℕ, _+_, _<_, _≤_}
-use native.Mathlib.Omega.{arith}
-use lib.Dec.{eqb}
-use lib.ListN.{length, take, drop, replicate, length-append}
+use Rattle.lists.proofs.Kit.{_≡_, refl, _∙_, List, [], _∷_, _++_, Bool, true, false, cond, _&&_, ℕ, _<_, arith, length, take, drop, replicate, length-append}
+use Rattle.lists.proofs.Kit.{eqb}
 use Rattle.lists.specs.Lists.{isSame}
 use Rattle.lists.proofs.Same.{same-long}
 use Rattle.motions.specs.declared.Moved.{Moved}
@@ -45,8 +40,7 @@ module _ (a b s : List ℕ) (n : ℕ) (h : n ≡ length a) where
   unfolding compared first
   parts-agree e = rw h (go (isSame a (take (length a) s)) refl (told-first Agrees e))
     where
-      go :
-          (t : Bool) → isSame a (take (length a) s) ≡ t → cond t Agrees Differs ≡ Agrees →
+      go : (t : Bool) → isSame a (take (length a) s) ≡ t → cond t Agrees Differs ≡ Agrees →
           cond (isSame b (drop (length a) s)) Agrees Differs ≡ cond (isSame (a ++ b) s) Agrees Differs
       go true p q = rw (same-parts a b s, p)
       go false p q = let never : _≡_ {A = ℕ} 0 1 = cc q in absurd (omega arith)

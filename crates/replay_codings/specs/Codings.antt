@@ -1,6 +1,6 @@
 -- What the calls on UTF-8 answer and leave, as the list has it, and the verdict of a case of them. What the contracts of `replay_codings` cite.
 -- Definitions only. Assumes nothing.
-use Prim.Native.Nat.{ℕ, _/_, _%_, _≤_}
+use Prim.Native.Nat.{ℕ, _/_, _%_}
 use mathlib.Core.Path.{_≡_}
 use mathlib.Core.List.{List, [], _∷_, _++_}
 use mathlib.Core.Bool.{Bool, true, cond, not, _&&_}

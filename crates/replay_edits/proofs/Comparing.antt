@@ -1,11 +1,5 @@
 -- Laws of what an edit comes to, and of what stands at the start of room. Assumes nothing.
-use mathlib.Core.Path.{_≡_, refl, _∙_}
-use mathlib.Core.List.{List, [], _∷_, _++_}
-use Prim.Native.Nat.{ℕ, _≤_}
-use native.Mathlib.Omega.{arith}
-use lib.ListN.{length, take}
-use lib.Seq.{sets-eq, take-at}
-use borrow.Author.Tests.{eq-eqb, ne-eqb}
+use Rattle.lists.proofs.Kit.{_≡_, refl, _∙_, List, [], _∷_, _++_, ℕ, _≤_, arith, length, take, sets-eq, take-at, eq-eqb, ne-eqb}
 use Rattle.print.specs.Print.{Wrote}
 use Rattle.call_edits.specs.Edits.{positionAt}
 use Rattle.replay_rows.specs.declared.Head.{Head}
@@ -41,10 +35,8 @@ module _ (k : Head) (c : List ℕ) where
   put-delete n = rw (ne-eqb (k .op) 0 n)
 
 -- what is compared is what the definitions give
-pub edited-compared :
-    (k : Head) (c buf fold stored : List ℕ) {r : ℕ} {buf′ fold′ caret′ sizes′ : List ℕ} {v : Verdict} →
+pub edited-compared : (k : Head) (c buf fold stored : List ℕ) {r : ℕ} {buf′ fold′ caret′ sizes′ : List ℕ} {v : Verdict} →
     Edits k c buf fold (caretLent k) (sizesLent k) r buf′ fold′ caret′ sizes′ →
     v ≡ compared (r ∷ (((caret′ ++ sizes′) ++ buf′) ++ fold′)) stored → v ≡ compared (editedInto k c buf fold) stored
 unfolding editedInto
-edited-compared k c buf fold stored h e =
-    e ∙ rw (h .caret-left .numbered, h .caret-left .out-left, h .sizes-left .out-left, h .text-left, h .folds-left) refl
+edited-compared k c buf fold stored h e = e ∙ rw (h .caret-left .numbered, h .caret-left .out-left, h .sizes-left .out-left, h .text-left, h .folds-left) refl

@@ -1,8 +1,5 @@
 -- Laws of what a call on fold files comes to. Assumes nothing.
-use mathlib.Core.Path.{_≡_, refl, sym, _∙_}
-use mathlib.Core.List.{List, [], _∷_}
-use Prim.Native.Nat.{ℕ}
-use lib.ListN.{length, getD, replicate}
+use Rattle.lists.proofs.Kit.{_≡_, refl, sym, _∙_, List, [], _∷_, ℕ, length, getD, replicate}
 use Rattle.fold_writer.specs.declared.Written.{Written}
 use Rattle.fold_writer.specs.declared.Written.the-variants.{Bytes, Refused}
 use Rattle.fold_writer.specs.Writing.{written, writtenIn}
@@ -27,16 +24,12 @@ loaded-single (Folds n) = refl
 loaded-single (Loaded·Refused f) = refl
 
 -- what is compared is what the definitions give
-pub written-compared :
-    (t folds file stored : List ℕ) {r : ℕ} {out : List ℕ} {v : Verdict} → Replied (writes t folds file) (replicate 1 filler) r out →
+pub written-compared : (t folds file stored : List ℕ) {r : ℕ} {out : List ℕ} {v : Verdict} → Replied (writes t folds file) (replicate 1 filler) r out →
     v ≡ compared (r ∷ getD out 0 0 ∷ writtenIn t folds file) stored → v ≡ compared (writtenInto t folds file) stored
 unfolding writtenInto
-written-compared t folds file stored p e =
-    e ∙ rw (p .numbered, p .out-left) (sym (rw (written-single (written t folds (length file))) refl))
+written-compared t folds file stored p e = e ∙ rw (p .numbered, p .out-left) (sym (rw (written-single (written t folds (length file))) refl))
 
-pub loaded-compared :
-    (t f folds stored : List ℕ) {r : ℕ} {out : List ℕ} {v : Verdict} → Replied (reads t f folds) (replicate 1 filler) r out →
+pub loaded-compared : (t f folds stored : List ℕ) {r : ℕ} {out : List ℕ} {v : Verdict} → Replied (reads t f folds) (replicate 1 filler) r out →
     v ≡ compared (r ∷ getD out 0 0 ∷ loadedIn t f folds) stored → v ≡ compared (loadedInto t f folds) stored
 unfolding loadedInto
-loaded-compared t f folds stored p e =
-    e ∙ rw (p .numbered, p .out-left) (sym (rw (loaded-single (loaded t f (length folds))) refl))
+loaded-compared t f folds stored p e = e ∙ rw (p .numbered, p .out-left) (sym (rw (loaded-single (loaded t f (length folds))) refl))

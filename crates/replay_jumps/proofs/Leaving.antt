@@ -1,8 +1,5 @@
 -- A call that leaves places beside its reply, compared by its number, by its places and by those. Assumes nothing.
-use Prim.Native.Nat.{ℕ}
-use mathlib.Core.Path.{_≡_, refl, _∙_}
-use mathlib.Core.List.{List, _∷_, _++_}
-use lib.ListN.{replicate}
+use Rattle.lists.proofs.Kit.{_≡_, refl, _∙_, List, _∷_, _++_, ℕ, replicate}
 use Rattle.call_bytes.specs.Reply.{Reply, Replied, number, left}
 use Rattle.replay_verdicts.specs.declared.Verdict.{Verdict}
 use Rattle.replay_verdicts.specs.Answers.{compared, filler}

@@ -1,12 +1,5 @@
 -- Laws of the rows of a list. Assumes nothing.
-use mathlib.Core.Path.{_≡_, sym}
-use mathlib.Core.List.{List, [], _∷_}
-use Prim.Native.Nat.{ℕ, suc, _+_, _-_, _≤_, _<_}
-use native.Mathlib.Decide.{ℕ-discrete}
-use native.Mathlib.Omega.{arith}
-use lib.ListN.{length, take, drop, length-drop}
-use lib.Seq.{drop-drop}
-use borrow.Author.Tests.{eq-eqb, ne-eqb}
+use Rattle.lists.proofs.Kit.{_≡_, sym, List, [], _∷_, ℕ, suc, _+_, _-_, _≤_, _<_, ℕ-discrete, arith, length, take, drop, length-drop, drop-drop, eq-eqb, ne-eqb}
 use Rattle.lists.specs.Lists.{onFirst}
 use Rattle.lists.proofs.Lists.{drop-at}
 use Rattle.replay_rows.specs.Rows.{rowLength, lines}

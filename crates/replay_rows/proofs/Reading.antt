@@ -1,13 +1,7 @@
--- Laws of reading a row of numbers, byte by byte, and of where a row ends. Assumes nothing.
-use mathlib.Core.Path.{_≡_, refl, ap, sym, _∙_}
-use mathlib.Core.List.{List, [], _++_, append-assoc, append-nil}
-use mathlib.Core.Bool.{Bool, true, false, cond, _&&_, _||_}
-use Prim.Native.Nat.{ℕ, suc, _+_, _-_, _≤_, _<_}
-use native.Mathlib.Numerals.{add-one}
-use native.Mathlib.Omega.{arith}
-use lib.ListN.{length, getD, take, drop, set, replicate, length-replicate, getD-replicate, drop-of-length-le}
-use lib.Seq.{paste, paste-suc, take-paste, length-paste, take-all}
-use borrow.Author.Tests.{le-leb, lt-leb, ne-eqb}
+-- Laws of reading a row of numbers, byte by byte, and of where a row ends. Long by the kinds of bytes: a law for each. Assumes nothing.
+use Rattle.lists.proofs.Kit.{_≡_, refl, ap, sym, _∙_, List, [], _++_, append-assoc, append-nil, Bool, true, false, cond, _&&_, _||_, ℕ, suc, _+_, _-_, _≤_, _<_}
+use Rattle.lists.proofs.Kit.{add-one, arith, length, getD, take, drop, set, replicate, length-replicate, getD-replicate, drop-of-length-le, paste, paste-suc}
+use Rattle.lists.proofs.Kit.{take-paste, length-paste, take-all, le-leb, lt-leb, ne-eqb}
 use Rattle.lists.proofs.Lists.{drop-at}
 use Rattle.replay_rows.specs.declared.Reader.{Reader}
 use Rattle.replay_rows.specs.declared.Numbers.the-variants.{Count, Malformed}
@@ -18,23 +12,16 @@ module _ (d : List ℕ) (from times x : ℕ) (h : from + times ≤ length d) whe
   all-length : length (replicate times x) ≡ times
   all-length = length-replicate times x
 
-  pub fill-on :
-      (room : List ℕ) (i : ℕ) →
-      room ≡ paste d from (replicate times x) i →
-      i < times →
+  pub fill-on : (room : List ℕ) (i : ℕ) → room ≡ paste d from (replicate times x) i → i < times →
       set room (from + i) x ≡ paste d from (replicate times x) (i + 1)
-  fill-on room i e k =
-      ap (λ (l : List ℕ). set l (from + i) x) e
-      ∙ ap (set (paste d from (replicate times x) i) (from + i)) (sym (getD-replicate times i x 0 k))
-      ∙ paste-suc d from (replicate times x) i 0 (omega arith) (omega (arith, all-length))
-      ∙ ap (paste d from (replicate times x)) (sym (add-one i))
+  fill-on room i e k = ap (λ (l : List ℕ). set l (from + i) x) e ∙ ap (set (paste d from (replicate times x) i) (from + i)) (sym (getD-replicate times i x 0 k))
+      ∙ paste-suc d from (replicate times x) i 0 (omega arith) (omega (arith, all-length)) ∙ ap (paste d from (replicate times x)) (sym (add-one i))
 
   pub fill-all : (room : List ℕ) → room ≡ paste d from (replicate times x) times → Filled d from times x room
   fill-all room e =
       record {
         room-left = e;
-        front = ap (take (from + times)) e
-            ∙ take-paste d from (replicate times x) times (omega arith) (omega (arith, all-length))
+        front = ap (take (from + times)) e ∙ take-paste d from (replicate times x) times (omega arith) (omega (arith, all-length))
             ∙ ap (λ (l : List ℕ). take from d ++ l) (take-all times (replicate times x) (omega (arith, all-length)));
         kept = ap length e ∙ length-paste d from (replicate times x) times h (omega (arith, all-length));
       }
@@ -63,10 +50,7 @@ module _ (s : List ℕ) (i most : ℕ) (r : Reader) (h : i < length s) where
       go true = refl
       go false = refl
 
-  pub read-ended :
-      ends (getD s i 0) ≡ true →
-      r .begun ≡ true →
-      r .times ≤ most →
+  pub read-ended : ends (getD s i 0) ≡ true → r .begun ≡ true → r .times ≤ most →
       readFrom most r (drop i s) ≡ onto (replicate (r .times) (r .value)) (readFrom (most - r .times) fresh (drop (i + 1) s))
   unfolding readFrom
   read-ended e b t = rw (drop-at s i h, e, b, le-leb (r .times) most t)
@@ -76,10 +60,7 @@ module _ (s : List ℕ) (i most : ℕ) (r : Reader) (h : i < length s) where
   unfolding readFrom
   read-spoilt e o = rw (drop-at s i h, e, o)
 
-  pub read-on :
-      ends (getD s i 0) ≡ false →
-      step r (getD s i 0) .ok ≡ true →
-      readFrom most r (drop i s) ≡ readFrom most (step r (getD s i 0)) (drop (i + 1) s)
+  pub read-on : ends (getD s i 0) ≡ false → step r (getD s i 0) .ok ≡ true → readFrom most r (drop i s) ≡ readFrom most (step r (getD s i 0)) (drop (i + 1) s)
   unfolding readFrom
   read-on e o = rw (drop-at s i h, e, o)
 
@@ -115,19 +96,12 @@ module _ {row room₀ room : List ℕ} {n : ℕ} {r : Reader} {i : ℕ} (so : Re
       let by-append-nil = so .so-far ∙ ap (onto (take n room)) e ∙ ap these (append-nil (take n room)) in
       record { numbers = sym by-append-nil; kept = so .kept; within = so .within }
 
-  pub reading-on :
-      i < length row →
-      {q : Reader} →
-      readFrom (length room₀ - n) r (drop i row) ≡ readFrom (length room₀ - n) q (drop (i + 1) row) →
+  pub reading-on : i < length row → {q : Reader} → readFrom (length room₀ - n) r (drop i row) ≡ readFrom (length room₀ - n) q (drop (i + 1) row) →
       Reading row room₀ room n q (i + 1)
   reading-on h e = record { inside = omega arith; kept = so .kept; within = so .within; so-far = so .so-far ∙ ap (onto (take n room)) e }
 
   -- a number is put into the room as often as it stands there
-  pub reading-ended :
-      i < length row →
-      {room′ : List ℕ} →
-      Filled room n (r .times) (r .value) room′ →
-      n + r .times ≤ length room →
+  pub reading-ended : i < length row → {room′ : List ℕ} → Filled room n (r .times) (r .value) room′ → n + r .times ≤ length room →
       readFrom (length room₀ - n) r (drop i row)
       ≡ onto (replicate (r .times) (r .value)) (readFrom (length room₀ - n - r .times) fresh (drop (i + 1) row)) →
       Reading row room₀ room′ (n + r .times) fresh (i + 1)
@@ -137,10 +111,7 @@ module _ {row room₀ room : List ℕ} {n : ℕ} {r : Reader} {i : ℕ} (so : Re
         inside = omega arith;
         kept = f .kept ∙ so .kept;
         within = omega (arith, f .kept);
-        so-far = so .so-far
-            ∙ ap (onto (take n room)) e
-            ∙ onto-onto (take n room) _ _
-            ∙ rw (← f .front, difference-is) refl;
+        so-far = so .so-far ∙ ap (onto (take n room)) e ∙ onto-onto (take n room) _ _ ∙ rw (← f .front, difference-is) refl;
       }
 
 -- where a row ends

@@ -1,5 +1,6 @@
--- Rows of decimal numbers: each number is followed by a space, the last one by the row's end, and `3*97` is 97 three times.
--- What the contracts of `replay_rows::rows` cite. Definitions only; the laws are in `proofs/Reading.antt`. Assumes nothing.
+-- Rows of decimal numbers: each number is followed by a space, the last one by the row's end, and `3*97` is 97 three times. What the contracts of
+-- `replay_rows::rows` cite. Definitions only; the laws are in `proofs/Reading.antt`. Long, since a reader by bytes and the fills by numbers speak of
+-- each other. Assumes nothing.
 use Prim.Native.Nat.{ℕ, suc, _+_, _-_, _*_, _≤_}
 use mathlib.Core.Path.{_≡_}
 use mathlib.Core.List.{List, [], _∷_, _++_}

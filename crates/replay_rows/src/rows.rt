@@ -23,6 +23,7 @@ fn fresh() -> Reader
     }
 }
 
+// A reader that takes nothing more: the row before it was malformed.
 fn spoilt() -> Reader
     ensures { λ r. ⌜ r ≡ Rows·spoilt ⌝ }
 {

@@ -1,8 +1,5 @@
 -- Laws of what the entry of a list replies: it fills its one place, and is compared by its number, its place and that. Assumes nothing.
-use mathlib.Core.Path.{_≡_, refl, _∙_}
-use mathlib.Core.List.{List, _∷_}
-use Prim.Native.Nat.{ℕ, _/_, _%_}
-use lib.ListN.{length, replicate}
+use Rattle.lists.proofs.Kit.{_≡_, refl, _∙_, List, _∷_, ℕ, _/_, _%_, length, replicate}
 use Rattle.call_bytes.specs.Reply.{Replied, left}
 use Rattle.call_signs.specs.declared.Placed.{Placed}
 use Rattle.call_signs.specs.declared.Placed.the-variants.{Value, Refused}
@@ -16,8 +13,7 @@ pub placed-sized : (m : Placed) → length (left (placedReply m) (replicate 1 fi
 placed-sized (Value n) = refl
 placed-sized (Refused f) = refl
 
-pub entered-compared :
-    (k : Head) (list stored : List ℕ) {r : ℕ} {out : List ℕ} {v : Verdict} →
+pub entered-compared : (k : Head) (list stored : List ℕ) {r : ℕ} {out : List ℕ} {v : Verdict} →
     Replied (placedReply (entering (k .op) (k .a) list)) (replicate 1 filler) r out →
     v ≡ compared (r % 4294967296 ∷ r / 4294967296 ∷ out) stored → v ≡ compared (enteredOf k list) stored
 unfolding enteredOf

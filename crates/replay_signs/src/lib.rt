@@ -10,7 +10,8 @@ ghost use Rattle.replay_signs.specs.Signs.{enteredOf, plainInto, plainVe
 
 // The number, the place and the answer.
 pub fn enter(k: Head, list: &[u32], stored: &[u32]) -> Verdict
-    ensures { λ r. ⌜ r ≡ Answers·compared (enteredOf k (now (list .entry))) (now (stored .entry)) ⌝ }
+    ensures { λ r. ⌜ r ≡ Answers·compared (enteredOf k (now (list .entry)))
+        (now (stored .entry)) ⌝ }
 {
     let mut out = [FILLER; 1];
     let told = call_signs::enter(k.op, list, k.a, &mut out);

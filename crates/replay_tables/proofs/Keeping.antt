@@ -1,8 +1,5 @@
 -- Laws of what an edit that keeps a table comes to. Assumes nothing.
-use mathlib.Core.Path.{_≡_, refl, _∙_}
-use mathlib.Core.List.{List, [], _∷_, _++_}
-use Prim.Native.Nat.{ℕ}
-use borrow.Author.Tests.{eq-eqb, ne-eqb}
+use Rattle.lists.proofs.Kit.{_≡_, refl, _∙_, List, [], _∷_, _++_, ℕ, eq-eqb, ne-eqb}
 use Rattle.call_edits.specs.Edits.{positionAt}
 use Rattle.replay_rows.specs.declared.Head.{Head}
 use Rattle.replay_verdicts.specs.declared.Verdict.{Verdict}
@@ -28,8 +25,7 @@ module _ (k : Head) (c : List ℕ) where
   put-delete n = rw (ne-eqb (k .op) 1 n)
 
 -- what is compared is what the definitions give
-pub kept-compared :
-    (k : Head) (c : List ℕ) (content : ℕ) (buf fold table stored : List ℕ) {r : ℕ} {buf′ fold′ table′ caret′ sizes′ : List ℕ} {v : Verdict} →
+pub kept-compared : (k : Head) (c : List ℕ) (content : ℕ) (buf fold table stored : List ℕ) {r : ℕ} {buf′ fold′ table′ caret′ sizes′ : List ℕ} {v : Verdict} →
     Keeps k c buf fold table (caretLent k) (sizesLent k content) r buf′ fold′ table′ caret′ sizes′ →
     v ≡ compared (r ∷ ((((caret′ ++ sizes′) ++ buf′) ++ fold′) ++ table′)) stored → v ≡ compared (keptInto k c content buf fold table) stored
 unfolding keptInto

@@ -1,9 +1,5 @@
 -- Each kind of reply fills its places, beside a table too. Assumes nothing.
-use Prim.Native.Nat.{ℕ}
-use mathlib.Core.Path.{_≡_, refl}
-use mathlib.Core.Bool.{Bool, true, false, cond}
-use lib.Dec.{eqb}
-use lib.ListN.{length, replicate, length-replicate}
+use Rattle.lists.proofs.Kit.{_≡_, refl, Bool, true, false, cond, ℕ, length, replicate, length-replicate, eqb}
 use Rattle.motions.specs.declared.Moved.{Moved}
 use Rattle.motions.specs.declared.Moved.the-variants.{To, Refused as Moved·Refused}
 use Rattle.motions.specs.declared.Sought.{Sought}

@@ -1,11 +1,6 @@
 -- Laws of comparing an answer with the stored one. Assumes nothing.
-use mathlib.Core.Path.{_≡_, refl, ap, sym, _∙_}
-use mathlib.Core.List.{List, [], _∷_, _++_}
-use Prim.Native.Nat.{ℕ, zero, suc, _+_, _-_, _≤_, _<_}
-use native.Mathlib.Omega.{arith}
-use lib.ListN.{length, getD, take, drop, replicate, length-drop}
-use lib.Seq.{take-all}
-use borrow.Author.Tests.{eq-eqb, ne-eqb}
+use Rattle.lists.proofs.Kit.{_≡_, refl, ap, sym, _∙_, List, [], _∷_, _++_, ℕ, zero, suc, _-_, _≤_, _<_, arith, length, getD, take, drop, replicate, length-drop}
+use Rattle.lists.proofs.Kit.{take-all, eq-eqb, ne-eqb}
 use Rattle.lists.specs.Lists.{isSame}
 use Rattle.lists.proofs.Lists.{drop-at}
 use Rattle.lists.proofs.Same.{same-long}
@@ -34,9 +29,7 @@ module _ (x : ℕ) (a s : List ℕ) where
   compared-first h e = ap (compared (x ∷ a)) (first-of h) ∙ rw (eq-eqb x (getD s 0 0) (sym e)) refl
 
 -- a call, compared by its number and by what it leaves
-pub replied-compared :
-    (n : ℕ) {m : Reply} {r : ℕ} {out : List ℕ} (stored : List ℕ) {v : Verdict} →
-    Replied m (replicate n filler) r out →
+pub replied-compared : (n : ℕ) {m : Reply} {r : ℕ} {out : List ℕ} (stored : List ℕ) {v : Verdict} → Replied m (replicate n filler) r out →
     v ≡ compared (r ∷ out) stored →
     v ≡ compared (shown n m) stored
 unfolding shown
@@ -47,11 +40,7 @@ pub told-sized : (t : Told) → length (left (told t) (replicate 1 filler)) ≡ 
 told-sized (Value n) = refl
 told-sized (Told·Refused f) = refl
 
-pub places-count :
-    (n : ℕ) {m : Reply} {r : ℕ} {out : List ℕ} →
-    Replied m (replicate n filler) r out →
-    length (left m (replicate n filler)) ≡ n →
-    n ≡ length out
+pub places-count : (n : ℕ) {m : Reply} {r : ℕ} {out : List ℕ} → Replied m (replicate n filler) r out → length (left m (replicate n filler)) ≡ n → n ≡ length out
 places-count n p e = sym (ap length (p .out-left) ∙ e)
 
 told-single : (t : Told) → left (told t) (filler ∷ []) ≡ getD (left (told t) (filler ∷ [])) 0 0 ∷ []
@@ -59,9 +48,7 @@ told-single (Value n) = refl
 told-single (Told·Refused f) = refl
 
 -- `wrap_segments`: its number, its one place and the places lent for segments
-pub wrapped-compared :
-    (t : Told) (segments stored : List ℕ) {r : ℕ} {out : List ℕ} {v : Verdict} →
-    Replied (told t) (replicate 1 filler) r out →
+pub wrapped-compared : (t : Told) (segments stored : List ℕ) {r : ℕ} {out : List ℕ} {v : Verdict} → Replied (told t) (replicate 1 filler) r out →
     v ≡ compared (r ∷ getD out 0 0 ∷ segments) stored →
     v ≡ compared (number (told t) ∷ (left (told t) (filler ∷ []) ++ segments)) stored
 wrapped-compared t segments stored p e = e ∙ rw (p .numbered, p .out-left) (sym (rw (told-single t) refl))

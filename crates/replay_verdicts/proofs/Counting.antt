@@ -1,10 +1,5 @@
 -- Laws of counting verdicts. Assumes nothing.
-use mathlib.Core.Path.{_≡_, refl}
-use mathlib.Core.Bool.{Bool, true, false}
-use Prim.Native.Nat.{_+_, _≤_}
-use native.Mathlib.Decide.{ℕ-discrete}
-use native.Mathlib.Omega.{arith}
-use borrow.Author.Tests.{eq-eqb, ne-eqb}
+use Rattle.lists.proofs.Kit.{_≡_, refl, Bool, true, false, _+_, _≤_, ℕ-discrete, arith, eq-eqb, ne-eqb}
 use Rattle.replay_verdicts.specs.declared.Tally.{Tally}
 use Rattle.replay_verdicts.specs.declared.Verdict.{Verdict}
 use Rattle.replay_verdicts.specs.declared.Verdict.the-variants.{Agrees, Differs, Malformed}

@@ -1,8 +1,5 @@
 -- Laws of what a call on a Vim list replies: it fills the places lent to it, and is compared by its number, its place and those. Assumes nothing.
-use mathlib.Core.Path.{_≡_, refl, sym, _∙_}
-use mathlib.Core.List.{List, [], _∷_}
-use Prim.Native.Nat.{ℕ, _/_, _%_}
-use lib.ListN.{length, getD, replicate}
+use Rattle.lists.proofs.Kit.{_≡_, refl, sym, _∙_, List, [], _∷_, ℕ, _/_, _%_, length, getD, replicate}
 use Rattle.call_bytes.specs.Reply.{Replied, left}
 use Rattle.call_signs.specs.declared.Placed.{Placed}
 use Rattle.call_signs.specs.declared.Placed.the-variants.{Value, Refused}
@@ -26,15 +23,13 @@ placed-single : (m : Placed) → left (placedReply m) (filler ∷ []) ≡ getD (
 placed-single (Value n) = refl
 placed-single (Refused f) = refl
 
-pub list-compared :
-    (k : Head) (list stored : List ℕ) {r : ℕ} {out : List ℕ} {v : Verdict} →
+pub list-compared : (k : Head) (list stored : List ℕ) {r : ℕ} {out : List ℕ} {v : Verdict} →
     Replied (placedReply (vimBy (k .op) (k .a) list)) (replicate 1 filler) r out →
     v ≡ compared (r % 4294967296 ∷ r / 4294967296 ∷ out) stored → v ≡ compared (vimListOf k list) stored
 unfolding vimListOf
 list-compared k list stored p e = e ∙ rw (p .numbered, p .out-left) refl
 
-pub written-compared :
-    (list written stored : List ℕ) {r : ℕ} {out : List ℕ} {v : Verdict} →
+pub written-compared : (list written stored : List ℕ) {r : ℕ} {out : List ℕ} {v : Verdict} →
     Replied (placedReply (vimWriting list written)) (replicate 1 filler) r out →
     v ≡ compared (r % 4294967296 ∷ r / 4294967296 ∷ getD out 0 0 ∷ vimLeft list written) stored → v ≡ compared (vimInto list written) stored
 unfolding vimInto
@@ -46,8 +41,7 @@ word-sized (To k) = refl
 word-sized (Bad p) = refl
 word-sized (VimMoved·Refused f) = refl
 
-pub word-compared :
-    (k : Head) (text folds list stored : List ℕ) {r : ℕ} {out : List ℕ} {v : Verdict} →
+pub word-compared : (k : Head) (text folds list stored : List ℕ) {r : ℕ} {out : List ℕ} {v : Verdict} →
     Replied (wordsVim (k .op) (isBig (k .f)) (k .e) (caretOf (k .a) (k .b) (k .c) (k .d)) text folds list) (replicate 4 filler) r out →
     v ≡ compared (r % 4294967296 ∷ r / 4294967296 ∷ out) stored → v ≡ compared (vimWordOf k text folds list) stored
 unfolding vimWordOf

@@ -11,7 +11,8 @@ ghost use Rattle.replay_vim.specs.Vim.{vimWordOf};
 
 // The number, the place and the answer.
 fn vim_list(k: Head, list: &[u32], stored: &[u32]) -> Verdict
-    ensures { λ r. ⌜ r ≡ Answers·compared (vimListOf k (now (list .entry))) (now (stored .entry)) ⌝ }
+    ensures { λ r. ⌜ r ≡ Answers·compared (vimListOf k (now (list .entry)))
+        (now (stored .entry)) ⌝ }
 {
     let mut out = [FILLER; 1];
     let told = call_vim::vim_list(k.op, list, k.a, &mut out);

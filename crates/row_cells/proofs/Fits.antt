@@ -1,13 +1,6 @@
 -- How many characters go into a number of cells, and the cells of a row, over any width function w. Assumes nothing.
-use mathlib.Core.Path.{_≡_, refl, _∙_}
-use mathlib.Core.List.{List, [], _∷_}
-use Prim.Native.Nat.{ℕ, zero, suc, _+_, _-_, _*_, _≤_, _<_}
-use native.Mathlib.Nat.{le-max-left, le-of-suc-le-suc}
-use native.Mathlib.Decide.{decLe}
-use native.Mathlib.Omega.{arith}
-use lib.ListN.{length, getD, take, drop, drop-of-length-le}
-use lib.Seq.{take-nil}
-use borrow.Author.Tests.{le-leb, lt-leb}
+use Rattle.lists.proofs.Kit.{_≡_, refl, _∙_, List, [], _∷_, ℕ, zero, suc, _+_, _-_, _*_, _≤_, _<_, le-max-left, le-of-suc-le-suc, decLe, arith, length, getD}
+use Rattle.lists.proofs.Kit.{take, drop, drop-of-length-le, take-nil, le-leb, lt-leb}
 use Rattle.lists.proofs.Lists.{drop-at}
 use Rattle.row_cells.specs.Cells.{cellsOf, fits}
 use Rattle.row_cells.specs.Offsets.{cellsIn}
@@ -51,25 +44,20 @@ pub record Fills (w : ℕ → ℕ) (room : ℕ) (row : List ℕ) (k : ℕ) : Typ
 
 module _ (w : ℕ → ℕ) where
   pub fits-fills : (room : ℕ) (row : List ℕ) → Fills w room row (fits w room row)
-  fits-fills room [] =
-      rw (fits-none w room) (record { within = omega arith; inside = rw (cells-none w) (omega arith); full = λ h. absurd (omega arith) })
+  fits-fills room [] = rw (fits-none w room) (record { within = omega arith; inside = rw (cells-none w) (omega arith); full = λ h. absurd (omega arith) })
   fits-fills room (x ∷ row) = go (decLe (cellsOf w x) room) (fits-fills (room - cellsOf w x) row)
     where
       go : Dec (cellsOf w x ≤ room) → Fills w (room - cellsOf w x) row (fits w (room - cellsOf w x) row) → Fills w room (x ∷ row) (fits w room (x ∷ row))
-      go (yes h) rest =
-          rw (fits-on w room x row h)
-          (record {
-            within = omega (arith, rest .within);
-            inside = rw (cells-more w x) (omega (arith, rest .inside));
-            full = λ l. rw (cells-more w x) (omega (arith, rest .full (omega arith)));
-          })
-      go (no h) rest =
-          rw (fits-stop w room x row (omega arith))
+      go (yes h) rest = rw (fits-on w room x row h) (record {
+        within = omega (arith, rest .within);
+        inside = rw (cells-more w x) (omega (arith, rest .inside));
+        full = λ l. rw (cells-more w x) (omega (arith, rest .full (omega arith)));
+      })
+      go (no h) rest = rw (fits-stop w room x row (omega arith))
           (record { within = omega arith; inside = rw (cells-none w) (omega arith); full = λ l. rw (cells-more w x) (omega arith) })
 
   -- every cell of character i is in a room that i characters fill
-  pub fits-cell :
-      (o : ℕ) (row : List ℕ) (i : ℕ) → i < length row → cellsIn w (take i row) ≤ o → o < cellsIn w (take (suc i) row) → fits w o row ≡ i
+  pub fits-cell : (o : ℕ) (row : List ℕ) (i : ℕ) → i < length row → cellsIn w (take i row) ≤ o → o < cellsIn w (take (suc i) row) → fits w o row ≡ i
   fits-cell o [] i h low high = absurd (omega arith)
   fits-cell o (x ∷ row) zero h low high = fits-stop w o x row (omega (arith, cells-more w x [], cells-none w, high))
   fits-cell o (x ∷ row) (suc i) h low high =

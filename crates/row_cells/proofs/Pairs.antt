@@ -1,11 +1,6 @@
 -- The pairs start, end of a list, and the first that holds a column, as `index_of` finds it. Assumes nothing.
-use mathlib.Core.Path.{_≡_, refl}
-use mathlib.Core.List.{List, [], _∷_}
-use mathlib.Core.Bool.{true, false, _&&_}
-use Prim.Native.Nat.{ℕ, suc, _+_, _-_, _*_, _/_, _≤_, _<_}
-use native.Mathlib.Omega.{arith}
-use lib.Dec.{leb, ltb}
-use lib.ListN.{length, getD, drop, length-drop}
+use Rattle.lists.proofs.Kit.{_≡_, refl, List, [], _∷_, true, false, _&&_, ℕ, suc, _+_, _-_, _*_, _/_, _≤_, _<_, arith, length, getD, drop, length-drop, leb}
+use Rattle.lists.proofs.Kit.{ltb}
 use Rattle.lists.proofs.Lists.{drop-at}
 use Rattle.row_cells.specs.Offsets.{pairsBefore, segmentIndex}
 

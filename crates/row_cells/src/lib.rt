@@ -4,14 +4,13 @@ ghost use mathlib.Core.Path.{_≡_};
 ghost use Prim.Native.Nat.{_≤_};
 ghost use lib.ListN.{length};
 ghost use Rattle.chars.specs.Width.{widthBy, Widths};
-ghost use Rattle.row_cells.specs.Cells.{cellsOf, fits};
+ghost use Rattle.row_cells.specs.Cells.{Cells, Fitting};
 ghost use Rattle.row_cells.specs.Offsets.{cellsIn};
 
 // The cells of x: its width, and at least one.
 pub fn cells_of(zeros: &[u32], doubles: &[u32], x: u32) -> u32
     requires { ⌜ Widths (now zeros) (now doubles) ⌝ }
-    ensures { λ r. ⌜ r ≡ cellsOf (widthBy (now (zeros .entry)) (now (doubles .entry))) x ⌝ }
-    ensures { λ r. ⌜ r ≤ 4 ⌝ }
+    ensures { λ r. ⌜ Cells (widthBy (now (zeros .entry)) (now (doubles .entry))) x r ⌝ }
 {
     let width = chars::width_in(zeros, doubles, x);
     if width == 0 {
@@ -24,9 +23,8 @@ pub fn cells_of(zeros: &[u32], doubles: &[u32], x: u32) -> u32
 // that no sum can pass the largest number.
 pub fn fitting(zeros: &[u32], doubles: &[u32], row: &[u32], room: u32) -> usize
     requires { ⌜ Widths (now zeros) (now doubles) ⌝ }
-    ensures { λ r. ⌜ r ≡ fits (widthBy (now (zeros .entry)) (now (doubles .entry))) room
-        (now (row .entry)) ⌝ }
-    ensures { λ r. ⌜ r ≤ length (now (row .entry)) ⌝ }
+    ensures { λ r. ⌜ Fitting (widthBy (now (zeros .entry)) (now (doubles .entry))) room
+        (now (row .entry)) r ⌝ }
 {
     let mut left = room;
     let mut i: usize = 0;

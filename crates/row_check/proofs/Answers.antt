@@ -1,11 +1,5 @@
 -- An answer that is a column, from the number that the checks gave; and what an accepted row is known for. Assumes nothing.
-use mathlib.Core.Path.{_≡_, refl}
-use mathlib.Core.List.{List}
-use Prim.Native.Nat.{ℕ, zero, suc, _≤_, _<_}
-use native.Mathlib.Decide.{decLe}
-use native.Mathlib.Omega.{arith}
-use lib.ListN.{length}
-use borrow.Author.Tests.{lt-ltb}
+use Rattle.lists.proofs.Kit.{_≡_, refl, List, ℕ, zero, suc, _≤_, _<_, decLe, arith, length, lt-ltb}
 use Rattle.row_check.specs.declared.Column.the-variants.{At, Refused}
 use Rattle.row_check.specs.Row.{rowRefusal, columnOf}
 

@@ -1,8 +1,5 @@
 -- A row and a tabstop that are not refused are ready for the walks. Assumes nothing.
-use mathlib.Core.Path.{_≡_}
-use mathlib.Core.List.{List}
-use Prim.Native.Nat.{ℕ, _≤_}
-use lib.ListN.{length}
+use Rattle.lists.proofs.Kit.{_≡_, List, ℕ, _≤_, length}
 use Rattle.chars.specs.Width.{Widths}
 use Rattle.row_tabs.specs.Cells.{stopOf}
 use Rattle.row_tabs.proofs.Accepted.{stop-near}

@@ -1,13 +1,6 @@
 -- Which character holds a visual column, over any width function w and tabstop. Assumes nothing.
-use mathlib.Core.Path.{_≡_, refl, sym}
-use mathlib.Core.List.{List, [], _∷_}
-use mathlib.Core.Bool.{_||_}
-use Prim.Native.Nat.{ℕ, suc, _+_, _*_, _≤_, _<_}
-use native.Mathlib.Decide.{decLe, decLt, ℕ-discrete}
-use native.Mathlib.Omega.{arith}
-use lib.Dec.{eqb, leb}
-use lib.ListN.{length, getD, drop, drop-of-length-le}
-use borrow.Author.Tests.{eq-eqb, ne-eqb, le-leb, lt-leb}
+use Rattle.lists.proofs.Kit.{_≡_, refl, sym, List, [], _∷_, _||_, ℕ, suc, _+_, _*_, _≤_, _<_, decLe, decLt, ℕ-discrete, arith, length, getD, drop}
+use Rattle.lists.proofs.Kit.{drop-of-length-le, eqb, leb, eq-eqb, ne-eqb, le-leb, lt-leb}
 use Rattle.lists.proofs.Lists.{drop-at}
 use Rattle.row_tabs.specs.Cells.{cellsAt}
 use Rattle.row_columns.specs.Columns.{visualFrom, charFrom}
@@ -42,25 +35,21 @@ pub record Holds (w : ℕ → ℕ) (tab v : ℕ) (row : List ℕ) (c k : ℕ) : 
 
 module _ (w : ℕ → ℕ) (tab c : ℕ) where
   pub char-holds : (v : ℕ) (row : List ℕ) → v ≤ c → Holds w tab v row c (charFrom w tab v row c)
-  char-holds v [] h =
-      rw (char-none w tab v c) (record { within = omega arith; low = rw visual-zero h; high = λ k. absurd (omega arith) })
+  char-holds v [] h = rw (char-none w tab v c) (record { within = omega arith; low = rw visual-zero h; high = λ k. absurd (omega arith) })
   char-holds v (x ∷ row) h = go (decLe (v + cellsAt w tab v x) c) (λ l. char-holds (v + cellsAt w tab v x) row l)
     where
-      go :
-          Dec (v + cellsAt w tab v x ≤ c) →
+      go : Dec (v + cellsAt w tab v x ≤ c) →
           (v + cellsAt w tab v x ≤ c → Holds w tab (v + cellsAt w tab v x) row c (charFrom w tab (v + cellsAt w tab v x) row c)) →
           Holds w tab v (x ∷ row) c (charFrom w tab v (x ∷ row) c)
       go (yes l) rest =
           let by-rest = rest l in
           rw (char-on w tab v c h x row l)
           (record { within = omega (arith, by-rest .within); low = rw visual-cons (by-rest .low); high = λ k. rw visual-cons (by-rest .high (omega arith)) })
-      go (no l) rest =
-          rw (char-here w tab v c h x row (omega arith))
+      go (no l) rest = rw (char-here w tab v c h x row (omega arith))
           (record { within = omega arith; low = rw visual-zero h; high = λ k. rw (visual-cons, visual-zero) (omega arith) })
 
   -- no other does
-  pub holds-only :
-      {row : List ℕ} {k i : ℕ} → Holds w tab 0 row c k → visualFrom w tab 0 row i ≤ c → c < visualFrom w tab 0 row (i + 1) → k ≡ i
+  pub holds-only : {row : List ℕ} {k i : ℕ} → Holds w tab 0 row c k → visualFrom w tab 0 row i ≤ c → c < visualFrom w tab 0 row (i + 1) → k ≡ i
   holds-only {row} {k} {i} found low high = go (decLt i k) (decLt k i) (decLt i (length row))
     where
       go : Dec (i < k) → Dec (k < i) → Dec (i < length row) → k ≡ i

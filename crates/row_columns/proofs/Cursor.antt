@@ -1,10 +1,5 @@
 -- Where a cursor is drawn, over any width function w and tabstop. Assumes nothing.
-use mathlib.Core.Path.{_≡_}
-use mathlib.Core.List.{List}
-use Prim.Native.Nat.{ℕ, _+_, _-_, _≤_, _<_}
-use native.Mathlib.Omega.{arith}
-use lib.ListN.{length, getD, List·getD-eq-default}
-use borrow.Author.Tests.{eq-eqb, ne-eqb}
+use Rattle.lists.proofs.Kit.{_≡_, List, ℕ, _+_, _-_, _≤_, _<_, arith, length, getD, List·getD-eq-default, eq-eqb, ne-eqb}
 use Rattle.row_columns.specs.Columns.{visualFrom, cursorFrom}
 use Rattle.row_columns.proofs.Visual.{visual-step, tab-cells}
 

@@ -1,13 +1,7 @@
 -- What a user of tab columns leans on, over any width function w: a setting may change the table and leaves these as they are.
 -- Assumes nothing.
-use mathlib.Core.Path.{_≡_, sym, ap, _∙_}
-use mathlib.Core.List.{List}
-use Prim.Native.Nat.{ℕ, suc, _+_, _-_, _*_, _%_, _≤_, _<_}
-use native.Mathlib.Nat.{mod-lt, mod-add-mod, mod-self}
-use native.Mathlib.Decide.{decLt, ℕ-discrete}
-use native.Mathlib.Omega.{arith}
-use lib.ListN.{length, getD}
-use borrow.Author.Tests.{eq-eqb, ne-eqb}
+use Rattle.lists.proofs.Kit.{_≡_, sym, ap, _∙_, List, ℕ, suc, _+_, _-_, _*_, _%_, _≤_, _<_, mod-lt, mod-add-mod, mod-self, decLt, ℕ-discrete, arith, length}
+use Rattle.lists.proofs.Kit.{getD, eq-eqb, ne-eqb}
 use Rattle.row_tabs.specs.Cells.{stopOf}
 use Rattle.row_tabs.specs.Indents.{leadingWidth}
 use Rattle.row_tabs.proofs.Accepted.{stop-pos, cells-tab}
@@ -33,8 +27,7 @@ module _ (w : ℕ → ℕ) (tabstop : ℕ) (row : List ℕ) where
   from-is {c} n = rw (ne-eqb c 0 n)
 
   -- every cell of a character maps back to it; visual column 0 is left to character 0
-  pub cell-back :
-      (i c : ℕ) → visualCol w tabstop row i ≤ c → c < visualCol w tabstop row (i + 1) → (c ≡ 0 → i ≡ 0) → charCol w tabstop row c ≡ i
+  pub cell-back : (i c : ℕ) → visualCol w tabstop row i ≤ c → c < visualCol w tabstop row (i + 1) → (c ≡ 0 → i ≡ 0) → charCol w tabstop row c ≡ i
   cell-back i c low high zeroth = go (ℕ-discrete c 0)
     where
       go : Dec (c ≡ 0) → charCol w tabstop row c ≡ i
@@ -42,8 +35,7 @@ module _ (w : ℕ → ℕ) (tabstop : ℕ) (row : List ℕ) where
       go (no n) = from-is n ∙ holds-only w (stopOf tabstop) c (char-holds w (stopOf tabstop) c 0 row (omega arith)) low high
 
   -- so there and back again gives the character itself wherever it has a cell
-  pub char-back :
-      (i : ℕ) → visualCol w tabstop row i < visualCol w tabstop row (i + 1) → (visualCol w tabstop row i ≡ 0 → i ≡ 0) →
+  pub char-back : (i : ℕ) → visualCol w tabstop row i < visualCol w tabstop row (i + 1) → (visualCol w tabstop row i ≡ 0 → i ≡ 0) →
       charCol w tabstop row (visualCol w tabstop row i) ≡ i
   char-back i has zeroth = cell-back i (visualCol w tabstop row i) (omega arith) has zeroth
 
@@ -63,13 +55,11 @@ module _ (w : ℕ → ℕ) (tabstop : ℕ) (row : List ℕ) where
       found = char-holds w (stopOf tabstop) c 0 row (omega arith)
 
       go : Dec (charFrom w (stopOf tabstop) 0 row c < length row) → charCol w tabstop row c ≡ length row
-      go (yes l) =
-          absurd (omega (arith, found .high l, visual-rises w (stopOf tabstop) 0 row (suc (charFrom w (stopOf tabstop) 0 row c)) (length row) l))
+      go (yes l) = absurd (omega (arith, found .high l, visual-rises w (stopOf tabstop) 0 row (suc (charFrom w (stopOf tabstop) 0 row c)) (length row) l))
       go (no l) = from-is {c = c} (λ e. omega arith) ∙ omega (arith, found .within)
 
   -- a cursor is drawn in a cell of its character, wherever that has one
-  pub cursor-inside :
-      (i : ℕ) → visualCol w tabstop row i < visualCol w tabstop row (i + 1) →
+  pub cursor-inside : (i : ℕ) → visualCol w tabstop row i < visualCol w tabstop row (i + 1) →
       (visualCol w tabstop row i ≤ cursorCol w tabstop row i) × (cursorCol w tabstop row i < visualCol w tabstop row (i + 1))
   cursor-inside i has = go (ℕ-discrete (getD row i 0) 9)
     where
@@ -82,8 +72,7 @@ module _ (w : ℕ → ℕ) (tabstop : ℕ) (row : List ℕ) where
   tab-has-cell i h e = tab-ends w (stopOf tabstop) row i h (stop-pos tabstop) e
 
   pub tab-aligned : (i : ℕ) → i < length row → getD row i 0 ≡ 9 → visualCol w tabstop row (i + 1) % stopOf tabstop ≡ 0
-  tab-aligned i h e =
-      rw (visual-step w (stopOf tabstop) 0 row i h, cells-tab w (stopOf tabstop) _ _ e)
+  tab-aligned i h e = rw (visual-step w (stopOf tabstop) 0 row i h, cells-tab w (stopOf tabstop) _ _ e)
       (multiple (visualCol w tabstop row i) (stopOf tabstop) (stop-pos tabstop))
     where
       multiple : (v t : ℕ) → 0 < t → (v + (t - v % t)) % t ≡ 0

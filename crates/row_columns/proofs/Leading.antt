@@ -1,12 +1,5 @@
 -- The leading width of a row is a visual column, wherever a space is one cell. Assumes nothing.
-use mathlib.Core.Path.{_≡_, sym, _∙_}
-use mathlib.Core.List.{List, [], _∷_}
-use mathlib.Core.Bool.{cond, _||_}
-use Prim.Native.Nat.{ℕ, suc, _+_, _-_, _%_}
-use native.Mathlib.Decide.{ℕ-discrete}
-use native.Mathlib.Omega.{arith}
-use lib.Dec.{eqb}
-use borrow.Author.Tests.{eq-eqb, ne-eqb}
+use Rattle.lists.proofs.Kit.{_≡_, sym, _∙_, List, [], _∷_, cond, _||_, ℕ, suc, _+_, _-_, _%_, ℕ-discrete, arith, eqb, eq-eqb, ne-eqb}
 use Rattle.row_tabs.specs.Indents.{leadingFrom}
 use Rattle.row_tabs.proofs.Leading.{leading-space, leading-tab, leading-other, leading-none}
 use Rattle.row_columns.specs.Columns.{visualFrom}
@@ -35,10 +28,8 @@ pub leading-visual : (w : ℕ → ℕ) (tab : ℕ) → w 32 ≡ 1 → (v : ℕ) 
 leading-visual w tab one v [] = leading-none tab v ∙ sym (visual-past w tab v [] (blanksOf []) (omega arith) ∙ visual-zero w tab v [])
 leading-visual w tab one v (x ∷ row) = go (ℕ-discrete x 32) (ℕ-discrete x 9) (λ u. leading-visual w tab one u row)
   where
-    go :
-        Dec (x ≡ 32) → Dec (x ≡ 9) → ((u : ℕ) → leadingFrom tab u row ≡ visualFrom w tab u row (blanksOf row)) →
+    go : Dec (x ≡ 32) → Dec (x ≡ 9) → ((u : ℕ) → leadingFrom tab u row ≡ visualFrom w tab u row (blanksOf row)) →
         leadingFrom tab v (x ∷ row) ≡ visualFrom w tab v (x ∷ row) (blanksOf (x ∷ row))
-    go (yes e) d rest =
-        leading-space tab v x row e ∙ rest (v + 1) ∙ rw (blanks-space x row e, visual-cons, ne-eqb x 9 (λ n. omega arith), e, one)
+    go (yes e) d rest = leading-space tab v x row e ∙ rest (v + 1) ∙ rw (blanks-space x row e, visual-cons, ne-eqb x 9 (λ n. omega arith), e, one)
     go (no n) (yes e) rest = leading-tab tab v x row e ∙ rest (v + (tab - v % tab)) ∙ rw (blanks-tab x row e, visual-cons, eq-eqb x 9 e)
     go (no n) (no m) rest = leading-other tab v x row n m ∙ rw (blanks-other x row n m, visual-zero)

@@ -1,12 +1,6 @@
 -- Laws of visual columns, over any width function w and tabstop. Assumes nothing.
-use mathlib.Core.Path.{_≡_, refl, sym, ap, _∙_}
-use mathlib.Core.List.{List, [], _∷_}
-use Prim.Native.Nat.{ℕ, zero, suc, _+_, _*_, _≤_, _<_}
-use native.Mathlib.Numerals.{add-one}
-use native.Mathlib.Nat.{mod-lt, le-of-suc-le-suc}
-use native.Mathlib.Decide.{ℕ-discrete}
-use native.Mathlib.Omega.{arith}
-use lib.ListN.{length, getD}
+use Rattle.lists.proofs.Kit.{_≡_, refl, sym, ap, _∙_, List, [], _∷_, ℕ, zero, suc, _+_, _*_, _≤_, _<_, mod-lt, le-of-suc-le-suc, add-one, ℕ-discrete, arith}
+use Rattle.lists.proofs.Kit.{length, getD}
 use Rattle.row_tabs.specs.Cells.{cellsAt}
 use Rattle.row_tabs.proofs.Accepted.{cells-tab, cells-other}
 use Rattle.row_columns.specs.Columns.{visualFrom}
@@ -41,16 +35,14 @@ module _ (w : ℕ → ℕ) (tab : ℕ) where
   visual-cons v x row i = refl
 
   -- the next character stands after the cells of this one
-  visual-suc :
-      (v : ℕ) (row : List ℕ) (i : ℕ) → i < length row →
+  visual-suc : (v : ℕ) (row : List ℕ) (i : ℕ) → i < length row →
       visualFrom w tab v row (suc i) ≡ visualFrom w tab v row i + cellsAt w tab (visualFrom w tab v row i) (getD row i 0)
   unfolding visualFrom
   visual-suc v [] i h = absurd (omega arith)
   visual-suc v (x ∷ row) zero h = visual-zero (v + cellsAt w tab v x) row
   visual-suc v (x ∷ row) (suc i) h = visual-suc (v + cellsAt w tab v x) row i (le-of-suc-le-suc h)
 
-  pub visual-step :
-      (v : ℕ) (row : List ℕ) (i : ℕ) → i < length row →
+  pub visual-step : (v : ℕ) (row : List ℕ) (i : ℕ) → i < length row →
       visualFrom w tab v row (i + 1) ≡ visualFrom w tab v row i + cellsAt w tab (visualFrom w tab v row i) (getD row i 0)
   visual-step v row i h = rw (add-one i) (visual-suc v row i h)
 
@@ -69,13 +61,11 @@ module _ (w : ℕ → ℕ) (tab : ℕ) where
   visual-rises v (x ∷ row) (suc i) (suc j) h = visual-rises (v + cellsAt w tab v x) row i j (le-of-suc-le-suc h)
 
   -- a bound that fits: b cells for each character before it, and for each of the row
-  pub visual-most :
-      (b : ℕ) → ((x : ℕ) → w x ≤ b) → tab ≤ b → (v : ℕ) (row : List ℕ) (i : ℕ) → visualFrom w tab v row i ≤ v + b * i
+  pub visual-most : (b : ℕ) → ((x : ℕ) → w x ≤ b) → tab ≤ b → (v : ℕ) (row : List ℕ) (i : ℕ) → visualFrom w tab v row i ≤ v + b * i
   unfolding visualFrom
   visual-most b wide near v [] i = omega arith
   visual-most b wide near v (x ∷ row) zero = omega arith
-  visual-most b wide near v (x ∷ row) (suc i) =
-      omega (arith, cells-most b wide near v x, visual-most b wide near (v + cellsAt w tab v x) row i)
+  visual-most b wide near v (x ∷ row) (suc i) = omega (arith, cells-most b wide near v x, visual-most b wide near (v + cellsAt w tab v x) row i)
 
 -- the walk over a row, before character i: its visual column, and a bound that fits a u32
 pub record VisualTo (w : ℕ → ℕ) (tab : ℕ) (row : List ℕ) (i visual : ℕ) : Type 0 where
@@ -87,8 +77,7 @@ pub visual-start : (w : ℕ → ℕ) (tab : ℕ) (row : List ℕ) → VisualTo w
 visual-start w tab row = record { inside = omega arith; here = sym (visual-zero w tab 0 row); fits = omega arith }
 
 module _ {w : ℕ → ℕ} {tab : ℕ} {row : List ℕ} {i visual : ℕ} (so-far : VisualTo w tab row i visual) where
-  pub visual-on :
-      {cells : ℕ} → i < length row → cells ≡ cellsAt w tab visual (getD row i 0) → cells ≤ 1000 → VisualTo w tab row (i + 1) (visual + cells)
+  pub visual-on : {cells : ℕ} → i < length row → cells ≡ cellsAt w tab visual (getD row i 0) → cells ≤ 1000 → VisualTo w tab row (i + 1) (visual + cells)
   visual-on {cells} h e most =
       let its-here = so-far .here in
       let step = visual-step w tab 0 row i h in

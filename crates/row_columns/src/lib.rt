@@ -140,6 +140,7 @@ fn narrow_column(ask: Ask, row: &[u32], n: u32, tabstop: u32) -> u32
     )
 }
 
+// A column where characters of class A take two cells: names the table of these widths.
 fn wide_column(ask: Ask, row: &[u32], n: u32, tabstop: u32) -> u32
     requires { ⌜ (length (now row) ≤ 1048576) × (tabstop ≤ 1000) ⌝ }
     ensures { λ r. ⌜ r ≡ columnBy (widthAs Ambiguous.Wide) ask tabstop (now (row .entry)) n ⌝ }

@@ -1,12 +1,6 @@
 -- The answer of the checks with a table, by the number that refuses; and where a row starts and ends by the table. Assumes nothing.
-use mathlib.Core.Path.{_≡_, refl, sym, ap, _∙_}
-use mathlib.Core.List.{List}
-use mathlib.Core.Bool.{Bool, true, false, cond, _&&_}
-use Prim.Native.Nat.{ℕ, _+_, _-_, _≤_, _<_}
-use native.Mathlib.Omega.{arith}
-use lib.Dec.{eqb, ltb}
-use lib.ListN.{length, getD, take}
-use borrow.Author.Tests.{eq-eqb, ne-eqb, eqb-true, ltb-false}
+use Rattle.lists.proofs.Kit.{_≡_, refl, sym, ap, _∙_, List, Bool, true, false, cond, _&&_, ℕ, _+_, _-_, _≤_, _<_, arith, length, getD, take, eqb, ltb, eq-eqb}
+use Rattle.lists.proofs.Kit.{ne-eqb, eqb-true, ltb-false}
 use Rattle.lists.specs.Lists.{isSame}
 use Rattle.lists.proofs.Same.{same-true}
 use Rattle.text_check.specs.Accept.{textRefusal}
@@ -16,10 +10,10 @@ use Rattle.text.specs.declared.Position.{Position}
 use Rattle.text.proofs.Parts.{next-start}
 use Rattle.text.proofs.Before.{at-last}
 use Rattle.positions.specs.declared.Entry.{Entry}
-use Rattle.positions.specs.Positions.{refusalAt, refusedBy, foundAt, entryBy, entryOf}
+use Rattle.positions.specs.Positions.{refusalAt, refusedBy, entryBy, entryOf}
 use Rattle.positions.proofs.Checks.{entry-number}
 use Rattle.row_table.specs.Table.{rowStarts, isTable, tableRefusal}
-use Rattle.row_table.proofs.Ascend.{table-place}
+use Rattle.row_table.proofs.Held.{table-place}
 use Rattle.row_entries.specs.Entries.{entryWith, Held}
 
 -- a table that is not refused has its places, and is the text's, with its number

@@ -1,11 +1,11 @@
 // The checks that a call with a table of row starts begins with: text and position as without one,
-// then the table. Where it is the text's, the position's row is taken from it, and no row is sought.
-// From document 02, #106.
+// then the table. Where it is the text's, the position's row is taken from it, and no row is
+// sought. From document 02, #106.
 use positions::Entry;
 use text::Position;
 ghost use mathlib.Core.Path.{_≡_};
-ghost use Prim.Native.Nat.{_+_, _≤_, _<_};
-ghost use Rattle.text.specs.Text.{rowCount, rowLen};
+ghost use Prim.Native.Nat.{_+_, _<_};
+ghost use Rattle.text.specs.Text.{rowLen};
 ghost use Rattle.text.specs.Offsets.{rowStart};
 ghost use Rattle.positions.specs.Positions.{refusedBy, entryOf};
 ghost use Rattle.row_entries.specs.Entries.{entryWith, Held};

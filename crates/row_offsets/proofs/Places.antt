@@ -1,20 +1,12 @@
 -- The part of a row between two columns, and its cells. Assumes nothing.
-use mathlib.Core.Path.{_≡_, refl, sym, ap, _∙_}
-use mathlib.Core.List.{List, []}
-use Prim.Native.Nat.{ℕ, suc, _+_, _-_, _≤_, _<_, min}
-use native.Mathlib.Nat.{min-eq-left}
-use native.Mathlib.Decide.{decLe}
-use native.Mathlib.Omega.{arith}
-use lib.ListN.{length, take, drop, length-drop, length-take, drop-of-length-le}
-use lib.Seq.{take-all, take-nil, take-take}
-use borrow.Author.Tests.{lt-ltb, le-ltb}
+use Rattle.lists.proofs.Kit.{_≡_, refl, sym, ap, _∙_, List, [], ℕ, suc, _+_, _-_, _≤_, _<_, min, min-eq-left, decLe, arith, length, take, drop, length-drop}
+use Rattle.lists.proofs.Kit.{length-take, drop-of-length-le, take-all, take-nil, take-take, lt-ltb, le-ltb}
 use Rattle.row_cells.specs.Cells.{fits}
 use Rattle.row_cells.specs.Offsets.{part, charAtOffset, offsetOfChar}
 use Rattle.row_cells.proofs.Fits.{fits-cell}
 
 -- a part that ends or starts past the row is the part as far as the row goes
-pub part-is :
-    (row : List ℕ) (start end : ℕ) {to from : ℕ} → to ≡ min end (length row) → from ≡ min start to →
+pub part-is : (row : List ℕ) (start end : ℕ) {to from : ℕ} → to ≡ min end (length row) → from ≡ min start to →
     take (to - from) (drop from row) ≡ part row start end
 part-is row start end {to} {from} e f = go (decLe start to) (decLe end (length row))
   where

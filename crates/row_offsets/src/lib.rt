@@ -19,6 +19,7 @@ pub enum Segment {
     Refused(u32),
 }
 
+// The lesser of two.
 fn least(a: usize, b: usize) -> usize
     ensures { λ r. ⌜ r ≡ min a b ⌝ }
 {
@@ -98,6 +99,7 @@ fn narrow_offset(ask: Ask, row: &[u32], start: u32, end: u32, n: u32) -> u32
     )
 }
 
+// An offset where characters of class A take two cells: names the table of these widths.
 fn wide_offset(ask: Ask, row: &[u32], start: u32, end: u32, n: u32) -> u32
     requires { ⌜ length (now row) ≤ 1048576 ⌝ }
     ensures { λ r. ⌜ r ≡ offsetBy (widthAs Ambiguous.Wide) ask (now (row .entry)) start end n ⌝ }
@@ -149,6 +151,7 @@ pub fn visual_offset_for_char_col(row: &[u32], start: u32, col: u32, ambiguous: 
     offset_of(Ask::Cells, row, start, 0, col, ambiguous)
 }
 
+// Whether a segment from start to end holds the column.
 fn holds(start: u32, end: u32, col: u32) -> bool
     ensures { λ r. ⌜ r ≡ (leb start col && ltb col end) ⌝ }
 {
@@ -158,6 +161,7 @@ fn holds(start: u32, end: u32, col: u32) -> bool
     col < end
 }
 
+// Which segment holds the column, the last one where none does.
 fn index_of(segments: &[u32], col: u32) -> usize
     ensures { λ r. ⌜ r ≡ segmentIndex (now (segments .entry)) col ⌝ }
 {

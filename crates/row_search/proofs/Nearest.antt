@@ -1,11 +1,7 @@
 -- Laws of the first and the last place that passes a test, as a loop uses them: one place on, the place itself, none.
 -- What an answer says is in `proofs/Told.antt`.
 -- Assumes nothing.
-use mathlib.Core.Path.{_≡_, refl, sym, _∙_}
-use mathlib.Core.Bool.{Bool, true, false, cond, _&&_}
-use Prim.Native.Nat.{ℕ, zero, suc, _+_, _-_, _≤_, _<_}
-use native.Mathlib.Numerals.{add-one, sub-one}
-use native.Mathlib.Omega.{arith}
+use Rattle.lists.proofs.Kit.{_≡_, refl, sym, _∙_, Bool, true, false, cond, _&&_, ℕ, zero, suc, _+_, _-_, _≤_, _<_, add-one, sub-one, arith}
 use Rattle.row_search.specs.declared.Found.the-variants.{At, Nothing}
 use Rattle.row_search.specs.Nearest.{firstFrom, firstIn, lastBelow}
 

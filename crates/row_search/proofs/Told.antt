@@ -1,11 +1,7 @@
 -- What the answer of a search says: the place passes, and none before it does; or none passes.
 -- Assumes nothing.
-use mathlib.Core.Path.{_≡_, refl, sym}
-use mathlib.Core.Logic.{_⊎_, inl, inr, ⊎-elim}
-use mathlib.Core.Bool.{Bool, true, false, cond}
-use Prim.Native.Nat.{ℕ, zero, suc, _+_, _-_, _≤_, _<_}
-use native.Mathlib.Nat.{eq-or-lt-of-le, le-of-suc-le-suc}
-use native.Mathlib.Omega.{arith}
+use Rattle.lists.proofs.Kit.{_≡_, refl, sym, Bool, true, false, cond, _⊎_, inl, inr, ⊎-elim, ℕ, zero, suc, _+_, _-_, _≤_, _<_, eq-or-lt-of-le, le-of-suc-le-suc}
+use Rattle.lists.proofs.Kit.{arith}
 use Rattle.row_search.specs.declared.Found.{Found}
 use Rattle.row_search.specs.declared.Found.the-variants.{At, Nothing}
 use Rattle.row_search.specs.Nearest.{firstFrom, firstIn, lastBelow}

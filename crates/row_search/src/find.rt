@@ -4,8 +4,7 @@ ghost use mathlib.Core.Path.{_≡_};
 ghost use Prim.Native.Nat.{_≤_};
 ghost use lib.ListN.{length};
 ghost use Rattle.row_search.specs.Nearest.{firstIn, lastBelow};
-ghost use Rattle.row_search.specs.Find.{is, findOnRow};
-ghost use Rattle.row_search.specs.Find.{startAhead, findAhead, startBack, findBack};
+ghost use Rattle.row_search.specs.Find.{is, startAhead, startBack, nearestOn, findOnRow};
 
 // The first place at or after a column that holds a code point, or nothing.
 fn next_on_row(row: &[u32], from: usize, sought: u32) -> Found
@@ -71,40 +70,17 @@ fn start_back(row: &[u32], col: usize, sought: u32, again: bool) -> usize
     col
 }
 
-// `find_char_on_line` to the right, on its row.
-fn find_ahead(row: &[u32], col: usize, sought: u32, till: bool, skip: bool) -> Found
+// The match next to a column, to the right or to the left, or nothing.
+fn nearest(row: &[u32], col: usize, sought: u32, forward: bool, again: bool) -> Found
     requires { ⌜ col ≤ length (now row) ⌝ }
-    ensures { λ r. ⌜ r ≡ findAhead (now (row .entry)) col sought till skip ⌝ }
+    ensures { λ r. ⌜ r ≡ nearestOn (now (row .entry)) col sought forward again ⌝ }
 {
-    let from = start_ahead(row, col, sought, skip & till);
-    let f = next_on_row(row, from, sought);
-    match f {
-        Found::At(i) => {
-            if till {
-                return Found::At(i - 1);
-            }
-            Found::At(i)
-        }
-        Found::Nothing => Found::Nothing,
+    if forward {
+        let from = start_ahead(row, col, sought, again);
+        return next_on_row(row, from, sought);
     }
-}
-
-// `find_char_on_line` to the left, on its row.
-fn find_back(row: &[u32], col: usize, sought: u32, till: bool, skip: bool) -> Found
-    requires { ⌜ col ≤ length (now row) ⌝ }
-    ensures { λ r. ⌜ r ≡ findBack (now (row .entry)) col sought till skip ⌝ }
-{
-    let upto = start_back(row, col, sought, skip & till);
-    let f = last_on_row(row, upto, sought);
-    match f {
-        Found::At(i) => {
-            if till {
-                return Found::At(i + 1);
-            }
-            Found::At(i)
-        }
-        Found::Nothing => Found::Nothing,
-    }
+    let upto = start_back(row, col, sought, again);
+    last_on_row(row, upto, sought)
 }
 
 // The column that `find_char_on_line` lands on from a column of the row, or nothing.
@@ -119,8 +95,17 @@ pub fn find_on_row(
     requires { ⌜ col ≤ length (now row) ⌝ }
     ensures { λ r. ⌜ r ≡ findOnRow (now (row .entry)) col sought forward till skip ⌝ }
 {
-    if forward {
-        return find_ahead(row, col, sought, till, skip);
+    let f = nearest(row, col, sought, forward, skip & till);
+    match f {
+        Found::At(i) => {
+            if till {
+                if forward {
+                    return Found::At(i - 1);
+                }
+                return Found::At(i + 1);
+            }
+            Found::At(i)
+        }
+        Found::Nothing => Found::Nothing,
     }
-    find_back(row, col, sought, till, skip)
 }

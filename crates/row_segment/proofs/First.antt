@@ -1,15 +1,6 @@
 -- The first segment of a row, over any width function w and test of white space. Assumes nothing.
-use mathlib.Core.Path.{_≡_, refl}
-use mathlib.Core.Logic.{_⊎_, inl, inr, ⊎-elim}
-use mathlib.Core.List.{List}
-use mathlib.Core.Bool.{Bool, true, false, cond, _&&_}
-use Prim.Native.Nat.{ℕ, _≤_, _<_}
-use native.Mathlib.Nat.{max-eq-right, le-max-left, max-le, le-of-lt}
-use native.Mathlib.Decide.{decLt, ℕ-discrete}
-use native.Mathlib.Omega.{arith}
-use lib.Dec.{ltb}
-use lib.ListN.{length, take}
-use borrow.Author.Tests.{le-ltb, lt-ltb}
+use Rattle.lists.proofs.Kit.{_≡_, refl, List, Bool, true, false, cond, _&&_, _⊎_, inl, inr, ⊎-elim, ℕ, _≤_, _<_, max-eq-right, le-max-left, max-le, le-of-lt}
+use Rattle.lists.proofs.Kit.{decLt, ℕ-discrete, arith, length, take, ltb, le-ltb, lt-ltb}
 use Rattle.row_cells.specs.Cells.{fits}
 use Rattle.row_segment.specs.Segments.{afterWhite, charSegment, firstSegment}
 use Rattle.row_cells.specs.Offsets.{cellsIn}
@@ -54,8 +45,7 @@ module _ (w : ℕ → ℕ) (white : ℕ → Bool) (word : Bool) (width : ℕ) (r
       go false d = refl
 
   -- by words, after the last white space
-  pub first-word :
-      word ≡ true → charSegment w width row < length row → 0 < afterWhite white row (charSegment w width row) →
+  pub first-word : word ≡ true → charSegment w width row < length row → 0 < afterWhite white row (charSegment w width row) →
       firstSegment w white word width row ≡ afterWhite white row (charSegment w width row)
   unfolding firstSegment
   first-word e h p = rw (e, lt-ltb (charSegment w width row) (length row) h, lt-ltb 0 (afterWhite white row (charSegment w width row)) p)
@@ -73,8 +63,7 @@ module _ (w : ℕ → ℕ) (white : ℕ → Bool) (word : Bool) (width : ℕ) (r
       k : ℕ
       k = firstSegment w white word width row
 
-      go :
-          (b : Bool) → word ≡ b → Dec (i < length row) → Dec (0 < afterWhite white row i) →
+      go : (b : Bool) → word ≡ b → Dec (i < length row) → Dec (0 < afterWhite white row i) →
           (k ≡ i) ⊎ ((i < length row) × (0 < k) × (k ≡ afterWhite white row i))
       go false e d p = inl (first-char e)
       go true e (no d) p = inl (first-end (omega arith))
@@ -83,8 +72,7 @@ module _ (w : ℕ → ℕ) (white : ℕ → Bool) (word : Bool) (width : ℕ) (r
 
   -- it is not empty, no longer than what a break by characters takes, and fits the width or is one character
   first-most : let first-segment = firstSegment w white word width row in (0 < first-segment) × (first-segment ≤ charSegment w width row)
-  first-most =
-      ⊎-elim (λ e. (omega (arith, char-pos w width row), omega arith))
+  first-most = ⊎-elim (λ e. (omega (arith, char-pos w width row), omega arith))
       (λ m. (m .1, omega (arith, m .2, white-last white row (charSegment w width row) (le-of-lt (m .0)) .within))) first-cases
 
   pub first-pos : 0 < firstSegment w white word width row

@@ -1,11 +1,6 @@
 -- The first segment as `first_segment` finds it. Assumes nothing.
-use mathlib.Core.Path.{_≡_, sym, ap, _∙_}
-use mathlib.Core.List.{List}
-use mathlib.Core.Bool.{Bool, true, false}
-use Prim.Native.Nat.{ℕ, _≤_, _<_}
-use native.Mathlib.Omega.{arith}
-use lib.ListN.{length}
-use Rattle.row_segment.specs.Segments.{afterWhite, charSegment, firstSegment}
+use Rattle.lists.proofs.Kit.{_≡_, sym, ap, _∙_, List, Bool, true, false, ℕ, _<_, arith, length}
+use Rattle.row_segment.specs.Segments.{afterWhite, charSegment, firstSegment, Begins}
 use Rattle.row_segment.proofs.White.{white-last}
 use Rattle.row_segment.proofs.First.{first-char, first-end, first-none, first-word}
 
@@ -24,8 +19,8 @@ module _ (w : ℕ → ℕ) (white : ℕ → Bool) (word : Bool) (width : ℕ) (r
     pub found-none : k ≡ 0 → n ≡ firstSegment w white word width row
     found-none e = is ∙ sym (first-none w white word width row (sym last-is ∙ e))
 
-    pub found-word : word ≡ true → n < length row → (k ≡ 0 → ⊥) → (k ≡ firstSegment w white word width row) × ((0 < k) × (k ≤ length row))
+    pub found-word : word ≡ true → n < length row → (k ≡ 0 → ⊥) → Begins row (firstSegment w white word width row) k
     found-word e h p =
         let by-last-is = last-is in
         let by-white-last = white-last white row n (omega arith) .within in
-        (by-last-is ∙ sym (first-word w white word width row e (omega arith) (omega arith)), (omega arith, omega arith))
+        record { count = by-last-is ∙ sym (first-word w white word width row e (omega arith) (omega arith)); some = omega arith; inside = omega arith }

@@ -1,14 +1,6 @@
 -- The last white space among the first characters of a row, over any test of white space. Assumes nothing.
-use mathlib.Core.Path.{_≡_, refl, ap, _∙_}
-use mathlib.Core.List.{List, [], _∷_}
-use mathlib.Core.Bool.{Bool, true, false}
-use Prim.Native.Nat.{ℕ, zero, suc, _-_, _≤_, _<_}
-use native.Mathlib.Numerals.{sub-one}
-use native.Mathlib.Nat.{le-of-suc-le-suc}
-use native.Mathlib.Decide.{ℕ-discrete}
-use native.Mathlib.Omega.{arith}
-use lib.ListN.{length, getD}
-use borrow.Author.Tests.{ne-eqb}
+use Rattle.lists.proofs.Kit.{_≡_, refl, ap, _∙_, List, [], _∷_, Bool, true, false, ℕ, zero, suc, _-_, _≤_, _<_, le-of-suc-le-suc, sub-one, ℕ-discrete, arith}
+use Rattle.lists.proofs.Kit.{length, getD, ne-eqb}
 use Rattle.row_segment.specs.Segments.{afterWhite}
 
 module _ (white : ℕ → Bool) where
@@ -35,8 +27,7 @@ module _ (white : ℕ → Bool) where
   white-here row zero p h e = absurd (omega arith)
   white-here row (suc k) p h e = white-suc row k h (rw sub-one at e)
 
-  pub white-before :
-      (row : List ℕ) (k : ℕ) → 0 < k → k ≤ length row → white (getD row (k - 1) 0) ≡ false →
+  pub white-before : (row : List ℕ) (k : ℕ) → 0 < k → k ≤ length row → white (getD row (k - 1) 0) ≡ false →
       afterWhite white row k ≡ afterWhite white row (k - 1)
   white-before row zero p h e = absurd (omega arith)
   white-before row (suc k) p h e = rw sub-one (other-suc row k h (rw sub-one at e))
@@ -53,11 +44,8 @@ white-last white row zero h =
 white-last white row (suc n) h = go (white (getD row n 0)) refl (white-last white row n (omega arith))
   where
     go : (b : Bool) → white (getD row n 0) ≡ b → LastWhite white row n (afterWhite white row n) → LastWhite white row (suc n) (afterWhite white row (suc n))
-    go true e rest =
-        rw (white-suc white row n h e)
-        (record { within = omega arith; behind = λ p. rw sub-one e; none = λ j a b. absurd (omega arith) })
-    go false e rest =
-        rw (other-suc white row n h e)
+    go true e rest = rw (white-suc white row n h e) (record { within = omega arith; behind = λ p. rw sub-one e; none = λ j a b. absurd (omega arith) })
+    go false e rest = rw (other-suc white row n h e)
         (record { within = omega (arith, rest .within); behind = rest .behind; none = λ j a b. at j a b (ℕ-discrete j n) })
       where
         at : (j : ℕ) → afterWhite white row n ≤ j → j < suc n → Dec (j ≡ n) → white (getD row j 0) ≡ false

@@ -1,6 +1,7 @@
 -- The first segment of a row, over any width function w and test of white space. From `wrap.rs` and document 01, build order 3.
 -- Cited by the contracts of `src/segment.rt`. Definitions only; the laws are in `proofs/`. Assumes nothing.
-use Prim.Native.Nat.{ℕ, zero, suc, max}
+use Prim.Native.Nat.{ℕ, zero, suc, _≤_, _<_, max}
+use mathlib.Core.Path.{_≡_}
 use mathlib.Core.List.{List, [], _∷_}
 use mathlib.Core.Bool.{Bool, cond, _&&_}
 use lib.ListN.{length}
@@ -24,3 +25,9 @@ firstSegment w white word width row =
     let i = charSegment w width row in
     let k = afterWhite white row i in
     cond (word && (ltb i (length row) && ltb 0 k)) k i
+
+-- r is the length n of a segment that the row begins with
+pub record Begins (row : List ℕ) (n r : ℕ) : Type 0 where
+  pub count : r ≡ n
+  pub some : 0 < r
+  pub inside : r ≤ length row

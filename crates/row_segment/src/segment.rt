@@ -5,7 +5,7 @@ ghost use Prim.Native.Nat.{_+_, _≤_, _<_};
 ghost use lib.ListN.{length, set};
 ghost use Rattle.chars.specs.White.{whites, isWhite};
 ghost use Rattle.chars.specs.Width.{widthBy, Widths};
-ghost use Rattle.row_segment.specs.Segments.{afterWhite, charSegment, firstSegment};
+ghost use Rattle.row_segment.specs.Segments.{afterWhite, charSegment, firstSegment, Begins};
 ghost use Rattle.row_segment.specs.Lent.{Tables};
 
 // The place after the last white space among the first n characters, or 0 where there is none.
@@ -27,9 +27,8 @@ fn after_white(white: &[u32], row: &[u32], n: usize) -> usize
 // alone: without that the segment would be empty, and no walk would get past it.
 fn char_segment(zeros: &[u32], doubles: &[u32], row: &[u32], width: u32) -> usize
     requires { ⌜ Widths (now zeros) (now doubles) × (0 < length (now row)) ⌝ }
-    ensures { λ r. ⌜ r ≡ charSegment (widthBy (now (zeros .entry)) (now (doubles .entry))) width
-        (now (row .entry)) ⌝ }
-    ensures { λ r. ⌜ (0 < r) × (r ≤ length (now (row .entry))) ⌝ }
+    ensures { λ r. ⌜ Begins (now (row .entry)) (charSegment
+        (widthBy (now (zeros .entry)) (now (doubles .entry))) width (now (row .entry))) r ⌝ }
 {
     let n = row_cells::fitting(zeros, doubles, row, width);
     if n == 0 {
@@ -49,9 +48,9 @@ pub fn first_segment(
     word: bool,
 ) -> usize
     requires { ⌜ Tables (now zeros) (now doubles) (now white) × (0 < length (now row)) ⌝ }
-    ensures { λ r. ⌜ r ≡ firstSegment (widthBy (now (zeros .entry)) (now (doubles .entry))) isWhite
-        word width (now (row .entry)) ⌝ }
-    ensures { λ r. ⌜ (0 < r) × (r ≤ length (now (row .entry))) ⌝ }
+    ensures { λ r. ⌜ Begins (now (row .entry)) (firstSegment
+        (widthBy (now (zeros .entry)) (now (doubles .entry))) isWhite word width
+        (now (row .entry))) r ⌝ }
 {
     let n = char_segment(zeros, doubles, row, width);
     if !word {

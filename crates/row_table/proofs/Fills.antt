@@ -1,10 +1,5 @@
 -- The answers of a fill: by the text, by the places, and filled. Assumes nothing.
-use mathlib.Core.Path.{_≡_, ap, sym, _∙_}
-use mathlib.Core.List.{List}
-use Prim.Native.Nat.{ℕ, _+_, _≤_, _<_}
-use native.Mathlib.Omega.{arith}
-use lib.ListN.{length}
-use borrow.Author.Tests.{eq-eqb, ne-eqb, lt-ltb, le-ltb}
+use Rattle.lists.proofs.Kit.{_≡_, ap, sym, _∙_, List, ℕ, _+_, _≤_, _<_, arith, length, ne-eqb, lt-ltb, le-ltb}
 use Rattle.text_check.specs.Accept.{textRefusal}
 use Rattle.text.specs.Text.{rowCount, contentRows}
 use Rattle.text.specs.declared.Counted.the-variants.{Rows, Refused}

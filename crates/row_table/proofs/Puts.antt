@@ -1,13 +1,7 @@
 -- The invariant of the loop that writes row starts: those of the part's first i code points are written, and the rest are those from i on.
 -- Assumes nothing.
-use mathlib.Core.Path.{_≡_, refl, ap, sym, _∙_}
-use mathlib.Core.List.{List, [], _∷_}
-use Prim.Native.Nat.{ℕ, _+_, _-_, _≤_, _<_}
-use native.Mathlib.Nat.{add-zero}
-use native.Mathlib.Numerals.{add-one}
-use native.Mathlib.Omega.{arith}
-use lib.ListN.{length, getD, set, drop, length-drop}
-use lib.Seq.{getD-drop, drop-drop}
+use Rattle.lists.proofs.Kit.{_≡_, refl, ap, sym, _∙_, List, [], _∷_, ℕ, _+_, _≤_, _<_, add-zero, arith, length, getD, set, drop, length-drop, getD-drop}
+use Rattle.lists.proofs.Kit.{drop-drop}
 use Rattle.text.specs.Text.{rowCount}
 use Rattle.edit_places.specs.Replaced.{Over}
 use Rattle.edit_places.proofs.Puts.{Up, up-none, up-next, up-all}
@@ -49,13 +43,12 @@ module _ {e : List ℕ} {place at : ℕ} {part : List ℕ} {n i : ℕ} {buf : Li
     is-next = p .rest ∙ from-nl at part i h s
 
     pub putting-room : place + n < length buf
-    putting-room =
-        omega (
-          arith,
-          next-inside (startsFrom at part) n (at + (i + 1)) (startsFrom (at + (i + 1)) (drop (i + 1) part)) is-next,
-          p .written .fits,
-          p .written .size,
-        )
+    putting-room = omega (
+      arith,
+      next-inside (startsFrom at part) n (at + (i + 1)) (startsFrom (at + (i + 1)) (drop (i + 1) part)) is-next,
+      p .written .fits,
+      p .written .size,
+    )
 
     pub putting-nl : Putting e place at part (n + 1) (i + 1) (set buf (place + n) (at + (i + 1)))
     putting-nl =

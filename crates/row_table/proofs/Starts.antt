@@ -1,13 +1,6 @@
 -- Laws of row starts: how many there are, where they stand, and those of two parts of a text. On plain lists. Assumes nothing.
-use mathlib.Core.Path.{_≡_, refl, ap, sym, _∙_}
-use mathlib.Core.List.{List, [], _∷_, _++_, map}
-use Prim.Native.Nat.{ℕ, zero, suc, _+_, _-_, _≤_, _<_}
-use native.Mathlib.Nat.{add-zero}
-use native.Mathlib.Numerals.{add-one}
-use native.Mathlib.Decide.{ℕ-discrete}
-use native.Mathlib.Omega.{arith}
-use lib.ListN.{length, getD, drop, drop-of-length-le}
-use borrow.Author.Tests.{eq-eqb, ne-eqb}
+use Rattle.lists.proofs.Kit.{_≡_, refl, ap, sym, List, [], _∷_, _++_, map, ℕ, zero, suc, _+_, _≤_, _<_, add-zero, ℕ-discrete, arith, length, getD, drop}
+use Rattle.lists.proofs.Kit.{drop-of-length-le, eq-eqb, ne-eqb}
 use Rattle.lists.proofs.Lists.{drop-at}
 use Rattle.text.specs.Text.{rows, rowCount}
 use Rattle.text.specs.Offsets.{rowStart}
@@ -49,18 +42,14 @@ starts-read at (x ∷ part) zero h = go (ℕ-discrete x 10) (λ l. starts-read (
     go : Dec (x ≡ 10) → (1 < rowCount part → getD (startsFrom (suc at) part) 0 0 ≡ suc at + rowStart part 1) →
         getD (startsFrom at (x ∷ part)) 0 0 ≡ at + rowStart (x ∷ part) 1
     go (yes e) ih = rw (starts-nl at x part e, rows-nl x part e) (omega (arith, start-void (rows part) 0, start-zero part))
-    go (no n) ih =
-        rw (starts-on at x part n, rows-on x part n)
+    go (no n) ih = rw (starts-on at x part n, rows-on x part n)
         (omega (arith, ih (omega (arith, count-cons-on x part n)), on-start x (rows part) 0 (rows-pos part)))
 starts-read at (x ∷ part) (suc k) h = go (ℕ-discrete x 10) (λ r l. starts-read (suc at) part r l)
   where
     go : Dec (x ≡ 10) → ((r : ℕ) → suc r < rowCount part → getD (startsFrom (suc at) part) r 0 ≡ suc at + rowStart part (suc r)) →
         getD (startsFrom at (x ∷ part)) (suc k) 0 ≡ at + rowStart (x ∷ part) (suc (suc k))
-    go (yes e) ih =
-        rw (starts-nl at x part e, rows-nl x part e)
-        (omega (arith, ih k (omega (arith, count-cons-nl x part e)), start-void (rows part) (suc k)))
-    go (no n) ih =
-        rw (starts-on at x part n, rows-on x part n)
+    go (yes e) ih = rw (starts-nl at x part e, rows-nl x part e) (omega (arith, ih k (omega (arith, count-cons-nl x part e)), start-void (rows part) (suc k)))
+    go (no n) ih = rw (starts-on at x part n, rows-on x part n)
         (omega (arith, ih (suc k) (omega (arith, count-cons-on x part n)), on-start x (rows part) (suc k) (rows-pos part)))
 
 pub rows-read : (t : List ℕ) (r : ℕ) → r < rowCount t → getD (rowStarts t) r 0 ≡ rowStart t r

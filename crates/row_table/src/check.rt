@@ -4,19 +4,17 @@ ghost use Prim.Native.Nat.{_≤_};
 ghost use lib.ListN.{length};
 ghost use Rattle.text.specs.Text.{rowCount};
 ghost use Rattle.row_table.specs.Table.{holdsRows, tableRefusal};
+ghost use Rattle.row_table.specs.Ascend.{Ascend, GoesOn};
 
-// Whether a text has so many rows, and the first places hold its row starts. They do if they begin
-// with 0, ascend, and stand behind a separator each: no fewer than there are rows, they are all of
-// them. So the text is read once a row. It may be asked with more rows than there are, and says no.
-pub fn holds(t: &[u32], rows: usize, starts: &[u32]) -> bool
-    requires { ⌜ (rowCount (now t) ≤ rows) × (rows ≤ length (now starts)) ⌝ }
-    ensures { λ r. ⌜ r ≡ holdsRows (now (t .entry)) rows (now (starts .entry)) ⌝ }
+// Whether the starts from the place `from` on go on as those before it do, up to `rows` of them:
+// each above the last one, and behind a separator. The text is read once a row.
+pub fn go_on(t: &[u32], from: usize, rows: usize, starts: &[u32]) -> bool
+    requires { ⌜ Ascend (now t) (now starts) from × (from ≤ rows) ×
+        (rows ≤ length (now starts)) ⌝ }
+    ensures { λ r. ⌜ GoesOn (now (t .entry)) (now (starts .entry)) rows r ⌝ }
 {
-    if starts[0] != 0 {
-        return false;
-    }
-    let mut last: usize = 0;
-    let mut i: usize = 1;
+    let mut last = starts[from - 1] as usize;
+    let mut i = from;
     while i < rows {
         let s = starts[i] as usize;
         if s <= last {
@@ -34,8 +32,21 @@ pub fn holds(t: &[u32], rows: usize, starts: &[u32]) -> bool
     true
 }
 
-// 15 where the table has fewer places than `need`, 16 where it or the number of rows with content is
-// not that of the text, which has so many rows; else 0.
+// Whether a text has so many rows, and the first places hold its row starts. They do if they begin
+// with 0, ascend, and stand behind a separator each: no fewer than there are rows, they are all of
+// them. It may be asked with more rows than there are, and says no.
+fn holds(t: &[u32], rows: usize, starts: &[u32]) -> bool
+    requires { ⌜ (rowCount (now t) ≤ rows) × (rows ≤ length (now starts)) ⌝ }
+    ensures { λ r. ⌜ r ≡ holdsRows (now (t .entry)) rows (now (starts .entry)) ⌝ }
+{
+    if starts[0] != 0 {
+        return false;
+    }
+    go_on(t, 1, rows, starts)
+}
+
+// 15 where the table has fewer places than `need`, 16 where it or the number of rows with content
+// is not that of the text, which has so many rows; else 0.
 pub fn table_refusal(t: &[u32], rows: usize, need: usize, starts: &[u32], content: u32) -> u32
     requires { ⌜ (rows ≡ rowCount (now t)) × (rows ≤ need) ⌝ }
     ensures { λ r. ⌜ r ≡ tableRefusal need (now (t .entry)) (now (starts .entry)) content ⌝ }

@@ -1,6 +1,5 @@
 // Row starts written into a lent table.
 use text::Counted;
-ghost use mathlib.Core.Path.{_≡_};
 ghost use Prim.Native.Nat.{_+_, _≤_};
 ghost use lib.ListN.{length};
 ghost use Rattle.text.specs.Text.{rowCount};

@@ -1,11 +1,5 @@
 -- What is known of a row and a tabstop that are not refused, and the cells of a character. Assumes nothing.
-use mathlib.Core.Path.{_≡_}
-use mathlib.Core.List.{List}
-use Prim.Native.Nat.{ℕ, zero, suc, _-_, _%_, _≤_, _<_}
-use native.Mathlib.Decide.{decLe, ℕ-discrete}
-use native.Mathlib.Omega.{arith}
-use lib.ListN.{length}
-use borrow.Author.Tests.{eq-eqb, ne-eqb, lt-ltb}
+use Rattle.lists.proofs.Kit.{_≡_, List, ℕ, zero, suc, _-_, _%_, _≤_, _<_, decLe, ℕ-discrete, arith, length, eq-eqb, ne-eqb, lt-ltb}
 use Rattle.row_check.specs.Row.{rowRefusal}
 use Rattle.row_check.proofs.Answers.{accepted-brief}
 use Rattle.row_tabs.specs.Cells.{columnRefusal, stopOf, cellsAt}

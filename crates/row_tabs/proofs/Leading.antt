@@ -1,10 +1,5 @@
 -- The leading spaces and tabs of a row, one by one, and the walk of `leading_at` over them. Assumes nothing.
-use mathlib.Core.Path.{_≡_, refl, sym, _∙_}
-use mathlib.Core.List.{List, [], _∷_}
-use Prim.Native.Nat.{ℕ, _+_, _-_, _*_, _%_, _≤_, _<_}
-use native.Mathlib.Omega.{arith}
-use lib.ListN.{length, getD, drop, drop-of-length-le}
-use borrow.Author.Tests.{eq-eqb, ne-eqb}
+use Rattle.lists.proofs.Kit.{_≡_, refl, sym, _∙_, List, [], _∷_, ℕ, _+_, _-_, _*_, _%_, _≤_, _<_, arith, length, getD, drop, drop-of-length-le, eq-eqb, ne-eqb}
 use Rattle.lists.proofs.Lists.{drop-at}
 use Rattle.row_tabs.specs.Indents.{leadingFrom}
 
@@ -41,8 +36,7 @@ module _ {tab : ℕ} {row : List ℕ} {i visual : ℕ} (so-far : LeadingTo tab r
           rest = so-far .rest ∙ rw (drop-at row i h) (leading-space tab visual (getD row i 0) (drop (i + 1) row) e);
         }
 
-    pub leading-on-tab :
-        {cells : ℕ} → getD row i 0 ≡ 9 → cells ≡ tab - visual % tab → cells ≤ 1000 → LeadingTo tab row (i + 1) (visual + cells)
+    pub leading-on-tab : {cells : ℕ} → getD row i 0 ≡ 9 → cells ≡ tab - visual % tab → cells ≤ 1000 → LeadingTo tab row (i + 1) (visual + cells)
     leading-on-tab {cells} e k most =
         record {
           inside = omega arith;

@@ -6,7 +6,7 @@ ghost use mathlib.Core.Path.{_≡_};
 ghost use Prim.Native.Nat.{_-_, _%_, _≤_, _<_};
 ghost use lib.ListN.{length};
 ghost use Rattle.chars.specs.Width.{widthBy};
-ghost use Rattle.row_tabs.specs.Cells.{columnRefusal, stopOf, cellsAt, Tables};
+ghost use Rattle.row_tabs.specs.Cells.{columnRefusal, stopOf, cellsAt, CellsAre, Tables};
 ghost use Rattle.row_tabs.specs.Indents.{leadingFrom, leadingVisualWidth};
 
 // 1 and 2 of the row, 6 for a tabstop above 1,000, else 0.
@@ -36,7 +36,7 @@ pub fn stop_of(tabstop: u32) -> u32
 // The cells of a tab that is painted from visual column `visual` on.
 fn tab_width(visual: u32, tab: u32) -> u32
     requires { ⌜ (0 < tab) × (tab ≤ 1000) ⌝ }
-    ensures { λ r. ⌜ (r ≡ tab - visual % tab) × (r ≤ 1000) ⌝ }
+    ensures { λ r. ⌜ CellsAre (tab - visual % tab) r ⌝ }
 {
     tab - visual % tab
 }
@@ -44,9 +44,8 @@ fn tab_width(visual: u32, tab: u32) -> u32
 // The cells of x where it is painted from visual column `visual` on, by the tables that are lent.
 pub fn cell_width(zeros: &[u32], doubles: &[u32], x: u32, visual: u32, tab: u32) -> u32
     requires { ⌜ Tables (now zeros) (now doubles) tab ⌝ }
-    ensures { λ r. ⌜ r ≡ cellsAt (widthBy (now (zeros .entry)) (now (doubles .entry))) tab visual x
-        ⌝ }
-    ensures { λ r. ⌜ r ≤ 1000 ⌝ }
+    ensures { λ r. ⌜ CellsAre (cellsAt (widthBy (now (zeros .entry)) (now (doubles .entry))) tab
+        visual x) r ⌝ }
 {
     if x == 9 {
         return tab_width(visual, tab);

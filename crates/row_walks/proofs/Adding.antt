@@ -1,9 +1,5 @@
 -- Counts of the rows that begin with a mark: one more is one, and then the rest from there. Assumes nothing.
-use mathlib.Core.Path.{_≡_, refl, ap, sym}
-use mathlib.Core.List.{List}
-use mathlib.Core.Bool.{Bool, true, false, cond}
-use Prim.Native.Nat.{ℕ, zero, suc, _+_, _-_}
-use native.Mathlib.Omega.{arith}
+use Rattle.lists.proofs.Kit.{_≡_, refl, ap, sym, List, Bool, true, false, cond, ℕ, zero, suc, _+_, _-_, arith}
 use Rattle.row_walks.specs.Sections.{begins, sectionUp, sectionDown}
 use Rattle.row_walks.proofs.Marks.{up-done, down-none, down-done}
 

@@ -1,9 +1,6 @@
 -- Where the rounds of a paragraph motion lead from a row of the text is a row of the text.
 -- Assumes nothing.
-use mathlib.Core.List.{List}
-use mathlib.Core.Bool.{Bool, true, false, cond, _&&_, _||_, not}
-use Prim.Native.Nat.{ℕ, zero, suc, _+_, _<_}
-use native.Mathlib.Omega.{arith}
+use Rattle.lists.proofs.Kit.{List, Bool, true, false, cond, _&&_, _||_, not, ℕ, zero, suc, _+_, _<_, arith}
 use Rattle.text.specs.Text.{rowCount, lastRow}
 use Rattle.text.specs.Offsets.{lineAt}
 use Rattle.text.proofs.Rows.{rows-pos}

@@ -1,19 +1,11 @@
 -- Rows that begin with a mark, by the code point at their start, and the steps of a walk from row to row in search of them.
 -- Assumes nothing.
-use mathlib.Core.Path.{_≡_, refl, sym, _∙_}
-use mathlib.Core.List.{List}
-use mathlib.Core.Bool.{false, cond}
-use Prim.Native.Nat.{ℕ, zero, suc, _+_, _-_, _≤_, _<_}
-use native.Mathlib.Decide.{decLt}
-use native.Mathlib.Omega.{arith}
-use lib.Dec.{eqb}
-use lib.ListN.{length, getD}
-use borrow.Author.Tests.{ne-eqb, lt-ltb, le-ltb}
+use Rattle.lists.proofs.Kit.{_≡_, refl, sym, _∙_, List, false, cond, ℕ, zero, suc, _+_, _-_, _≤_, _<_, decLt, arith, length, getD, eqb, ne-eqb, lt-ltb, le-ltb}
 use Rattle.text.specs.Text.{rowCount, rowLen, contentRows}
-use Rattle.text.specs.Offsets.{At}
+use Rattle.text.specs.Offsets.{At, Stands}
 use Rattle.text.proofs.At.{on-char, on-end, point-at}
 use Rattle.text.proofs.Content.{content-near}
-use Rattle.row_walks.specs.Sections.{begins, sectionUp, sectionDown}
+use Rattle.row_walks.specs.Sections.{begins, sectionUp, sectionDown, LeadsTo}
 
 -- the code point at a row's start tells how it begins
 module _ {t : List ℕ} {r at : ℕ} (x : ℕ) (a : At t r 0 at) where
@@ -26,6 +18,18 @@ module _ {t : List ℕ} {r at : ℕ} (x : ℕ) (a : At t r 0 at) where
       go : Dec (0 < rowLen t r) → begins t x r ≡ eqb (getD t at 0) x
       go (yes p) = rw (lt-ltb 0 (rowLen t r) p, point-at a p)
       go (no m) = rw (le-ltb 0 (rowLen t r) (omega arith)) (sym (ne-eqb (getD t at 0) x (λ e. absurd (omega (arith, on-char a h (λ z. n (sym e ∙ z)))))))
+
+-- a walk to a section, up or down, has come to a row: so many more from it on lead where all of them do, by `rest`
+pub record Seeks (t : List ℕ) (rest : ℕ → ℕ → ℕ) (whole row start left : ℕ) : Type 0 where
+  pub line : Stands t row start start
+  pub same : whole ≡ rest left row
+
+module _ {t : List ℕ} {rest : ℕ → ℕ → ℕ} {whole row start left : ℕ} (so-far : Seeks t rest whole row start left) where
+  pub seeks-on : {row′ start′ left′ : ℕ} → Stands t row′ start′ start′ → rest left row ≡ rest left′ row′ → Seeks t rest whole row′ start′ left′
+  seeks-on l e = record { line = l; same = so-far .same ∙ e }
+
+  pub seeks-end : rest left row ≡ row → LeadsTo t whole row
+  seeks-end e = record { row = sym (so-far .same ∙ e); inside = omega (arith, so-far .line .below, so-far .line .within) }
 
 -- a row up
 pub up-none : (t : List ℕ) (x n row : ℕ) → row ≤ 0 → sectionUp t x n row ≡ row

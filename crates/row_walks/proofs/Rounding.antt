@@ -1,12 +1,6 @@
 -- A round of a paragraph motion under way, as the loop that walks it goes by. Its signed row is the row that its bits are.
 -- Assumes nothing.
-use mathlib.Core.Path.{_≡_, refl, ap, sym, _∙_}
-use mathlib.Core.List.{List}
-use mathlib.Core.Bool.{Bool, true, false, _&&_, _||_, not}
-use Prim.Native.Nat.{ℕ, _+_, _≤_, _<_}
-use native.Mathlib.Omega.{arith}
-use lib.Dec.{T}
-use lib.ListN.{length}
+use Rattle.lists.proofs.Kit.{_≡_, refl, ap, sym, _∙_, List, Bool, true, false, _&&_, _||_, not, ℕ, _+_, _≤_, _<_, arith, length, T}
 use lib.IntN.{ℤ}
 use lib.Signed.{nonNeg}
 use mir.Syntax.{w64}
@@ -18,7 +12,7 @@ use Rattle.text.proofs.Parts.{count-le}
 use Rattle.text.proofs.Stands.{line-at, line-eq}
 use Rattle.text.proofs.Content.{content-near}
 use Rattle.row_walks.specs.Toward.{dirOf, rowsLeft, onward}
-use Rattle.row_walks.specs.Paragraphs.{isVoid, roundFrom, roundOf}
+use Rattle.row_walks.specs.Paragraphs.{isVoid, roundFrom, roundOf, RoundFrom}
 use Rattle.row_walks.specs.declared.Round.the-variants.{Found, RanOff}
 use Rattle.row_walks.proofs.Ways.{castOf, nextOf, backOf, isOutside, cast-fits, cast-row, next-fits, back-fits, back-row}
 use Rattle.row_walks.proofs.Ways.{outside-rest, inside-rest, inside-row}
@@ -72,19 +66,18 @@ module _ {t : List ℕ} {fwd skip : Bool} {last from row start : ℕ} (g : Round
     void : v ≡ isVoid t row
     void = is ∙ ap (isVoid t) own
 
-    pub rounding-found : ((skip || not v) && v) ≡ true →
-        (Found (record { row = castOf row; start = start }) ≡ roundOf t fwd from) × Stands t (castOf row) start start
-    rounding-found e = (ap Found line-is ∙ sym (g .same ∙ round-found t fwd skip row (rowsLeft fwd last row) (rw void at e)), rounding-line)
+    pub rounding-found : ((skip || not v) && v) ≡ true → RoundFrom t fwd from (Found (record { row = castOf row; start = start }))
+    rounding-found e =
+        record { answer = ap Found line-is ∙ sym (g .same ∙ round-found t fwd skip row (rowsLeft fwd last row) (rw void at e)); line = rounding-line }
 
     module _ (e : ((skip || not v) && v) ≡ false) (d : ℤ) (f : d ≡ dirOf fwd) where
       -- the next row is outside: it is stepped back
       pub rounding-off : isOutside (toZ w64 last) (toZ w64 (ofZ w64 (nextOf row d))) ≡ true →
-          (RanOff (record { row = castOf (ofZ w64 (backOf row d)); start = start }) ≡ roundOf t fwd from) ×
-          Stands t (castOf (ofZ w64 (backOf row d))) start start
+          RoundFrom t fwd from (RanOff (record { row = castOf (ofZ w64 (backOf row d)); start = start }))
       rounding-off o =
           let none = outside-rest fwd last row (near .0) (near .1) d f _ o refl in
           rw (same-row d f)
-          (ap RanOff line-is ∙ sym (g .same ∙ round-off t fwd skip row (rw void at e) (rowsLeft fwd last row) none), rounding-line)
+          (record { answer = ap RanOff line-is ∙ sym (g .same ∙ round-off t fwd skip row (rw void at e) (rowsLeft fwd last row) none); line = rounding-line })
 
       -- it is not: the walk goes on from it
       module _ (o : isOutside (toZ w64 last) (toZ w64 (ofZ w64 (nextOf row d))) ≡ false) where
@@ -103,8 +96,7 @@ module _ {t : List ℕ} {fwd skip : Bool} {last from row start : ℕ} (g : Round
         pub rounding-less : rowsLeft fwd last (ofZ w64 (nextOf row d)) < rowsLeft fwd last row
         rounding-less = rw (next, rest-less fwd last row) (omega (arith, left))
 
-        pub rounding-on : (l : Line) → l ≡ lineAt t (onward fwd (castOf row)) →
-            Rounding t fwd last from (ofZ w64 (nextOf row d)) (l .start) (skip || not v)
+        pub rounding-on : (l : Line) → l ≡ lineAt t (onward fwd (castOf row)) → Rounding t fwd last from (ofZ w64 (nextOf row d)) (l .start) (skip || not v)
         rounding-on l h =
             let start-is : l .start ≡ rowStart t (onward fwd row) = ap (λ (x : Line). x .start) h ∙ ap (λ (r : ℕ). rowStart t (onward fwd r)) own in
             record {

@@ -1,20 +1,15 @@
 -- The steps of a round of a paragraph motion, and of rounds after each other.
 -- Assumes nothing.
-use mathlib.Core.Path.{_≡_, refl, sym, _∙_}
-use mathlib.Core.List.{List}
-use mathlib.Core.Bool.{Bool, true, false, _&&_, _||_, not}
-use Prim.Native.Nat.{ℕ, zero, suc, _-_, _≤_, _<_}
-use native.Mathlib.Decide.{ℕ-discrete}
-use native.Mathlib.Omega.{arith}
-use lib.Dec.{eqb}
-use lib.ListN.{length, getD}
-use borrow.Author.Tests.{eq-eqb, ne-eqb}
+use Rattle.lists.proofs.Kit.{_≡_, refl, sym, _∙_, List, Bool, true, false, _&&_, _||_, not, ℕ, zero, suc, _-_, _≤_, _<_, ℕ-discrete, arith, length, getD, eqb}
+use Rattle.lists.proofs.Kit.{eq-eqb, ne-eqb}
 use Rattle.text.specs.Text.{rowLen}
-use Rattle.text.specs.Offsets.{At, lineAt}
+use Rattle.text.specs.Offsets.{At, IsLine, lineAt}
+use Rattle.text.specs.declared.Line.{Line}
 use Rattle.text.proofs.At.{on-char, on-nl, on-end}
 use Rattle.row_walks.specs.Toward.{rowsLeft, onward}
 use Rattle.row_walks.specs.Paragraphs.{isVoid, roundFrom, roundOf, atLast, goOn, paragraphs}
 use Rattle.row_walks.specs.declared.Round.the-variants.{Found, RanOff}
+use Rattle.row_walks.specs.declared.Paragraph.{Paragraph}
 
 -- a row is empty where a separator or the end of the text stands at its start
 module _ {t : List ℕ} {r at : ℕ} (a : At t r 0 at) where
@@ -55,6 +50,11 @@ module _ (t : List ℕ) (fwd skip : Bool) (row : ℕ) where
     round-on (suc rest) h =
         let one : suc rest - 1 ≡ rest = omega arith in
         rw (e, one)
+
+-- a round from a row and those owed after it lead where all of them do
+pub record Leads (t : List ℕ) (fwd : Bool) (whole : Paragraph) (here : Line) (owed : ℕ) : Type 0 where
+  pub line : IsLine t here
+  pub same : whole ≡ paragraphs t fwd owed (here .row)
 
 -- rounds after each other
 module _ (t : List ℕ) (fwd : Bool) (row : ℕ) where

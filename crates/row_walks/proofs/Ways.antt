@@ -1,14 +1,8 @@
 -- A signed row, one step on or back: it may come to stand at minus one, and be stepped back from there. Signed numbers are kept as their bits,
 -- which each operation reads and writes; those of a row of a text are the row. Assumes nothing.
-use mathlib.Core.Path.{_≡_, refl, ap, sym, _∙_}
-use mathlib.Core.Bool.{Bool, true, false, _||_}
-use Prim.Native.Nat.{ℕ, _+_, _-_, _≤_, _<_}
-use native.Mathlib.Decide.{ℕ-discrete, decLt}
-use native.Mathlib.Omega.{arith}
-use lib.Dec.{T}
+use Rattle.lists.proofs.Kit.{_≡_, refl, ap, sym, _∙_, Bool, true, false, _||_, ℕ, _+_, _-_, _≤_, _<_, ℕ-discrete, decLt, arith, T, lt-ltb, le-ltb}
 use lib.IntN.{ℤ, pos, negsuc, _+ℤ_, _-ℤ_, natAbs, +ℤ-negℤ-cancel}
 use lib.Signed.{ltZ, nonNeg}
-use borrow.Author.Tests.{lt-ltb, le-ltb}
 use mir.Syntax.{w64}
 use mir.Val.{Fits, SFits, toZ, ofZ}
 use mir.Facts.{toZ-ofZ, toZ-pos}

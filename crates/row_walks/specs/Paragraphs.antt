@@ -1,5 +1,6 @@
 -- Paragraphs: runs of rows between empty ones, as `find_paragraph` of motions.rs walks them.
 -- Definitions only; the laws are in `proofs/Walks.antt`. Assumes nothing.
+use mathlib.Core.Path.{_≡_}
 use Prim.Native.Nat.{ℕ, zero, suc, _<_}
 use mathlib.Core.List.{List}
 use mathlib.Core.Bool.{Bool, false, cond, _&&_, _||_, not}
@@ -48,3 +49,12 @@ EndsIn t (RanOff l) = IsLine t l
 abbrev pub LeadsIn : List ℕ → Paragraph → Type 0
 LeadsIn t (At l) = IsLine t l
 LeadsIn t Nothing = 0 < rowCount t
+
+-- r is the round from a row, and what the paragraphs from it lead to
+pub record RoundFrom (t : List ℕ) (fwd : Bool) (row : ℕ) (r : Round) : Type 0 where
+  pub answer : r ≡ roundOf t fwd row
+  pub line : EndsIn t r
+
+pub record ParagraphFrom (t : List ℕ) (fwd : Bool) (n row : ℕ) (r : Paragraph) : Type 0 where
+  pub answer : r ≡ paragraphs t fwd n row
+  pub line : LeadsIn t r

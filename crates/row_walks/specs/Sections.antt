@@ -1,9 +1,10 @@
 -- Sections: rows that begin with a mark, as the section motions of motions.rs walk to them.
 -- Definitions only; the laws are in `proofs/Marks.antt`. Assumes nothing.
-use Prim.Native.Nat.{ℕ, zero, suc, _+_}
+use mathlib.Core.Path.{_≡_}
+use Prim.Native.Nat.{ℕ, zero, suc, _+_, _≤_}
 use mathlib.Core.List.{List}
 use mathlib.Core.Bool.{Bool, cond, _&&_}
-use lib.ListN.{getD}
+use lib.ListN.{getD, length}
 use lib.Dec.{eqb, ltb}
 use Rattle.text.specs.Text.{rowAt, rowLen}
 
@@ -23,3 +24,8 @@ unfoldable pub sectionDown : List ℕ → ℕ → ℕ → ℕ → ℕ → ℕ
 sectionDown t x n row zero = row
 sectionDown t x zero row (suc rest) = row
 sectionDown t x (suc n) row (suc rest) = sectionDown t x (cond (begins t x (row + 1)) n (suc n)) (row + 1) rest
+
+-- r is the row that such a walk leads to
+pub record LeadsTo (t : List ℕ) (n r : ℕ) : Type 0 where
+  pub row : r ≡ n
+  pub inside : r ≤ length t

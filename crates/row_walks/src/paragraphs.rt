@@ -10,8 +10,7 @@ ghost use Prim.Native.Nat.{_-_, _≤_, _<_};
 ghost use lib.ListN.{length};
 ghost use Rattle.text.specs.Offsets.{IsLine};
 ghost use Rattle.text.specs.Text.{lastRow};
-ghost use Rattle.row_walks.specs.Paragraphs.{isVoid, roundOf, paragraphs};
-ghost use Rattle.row_walks.specs.Paragraphs.{EndsIn, LeadsIn};
+ghost use Rattle.row_walks.specs.Paragraphs.{isVoid, RoundFrom, ParagraphFrom};
 
 // Whether a row is empty.
 fn is_void(t: &[u32], l: Line) -> bool
@@ -29,8 +28,7 @@ fn is_void(t: &[u32], l: Line) -> bool
 // signed: at the top edge it stands at minus one before it is stepped back.
 fn paragraph_round(t: &[u32], forward: bool, last: usize, from: Line) -> Round
     requires { ⌜ IsLine (now t) from × (last ≡ lastRow (now t)) × (length (now t) ≤ 1048576) ⌝ }
-    ensures { λ r. ⌜ (r ≡ roundOf (now (t .entry)) forward (from .row)) ×
-        EndsIn (now (t .entry)) r ⌝ }
+    ensures { λ r. ⌜ RoundFrom (now (t .entry)) forward (from .row) r ⌝ }
 {
     let end = last as i64;
     let dir = direction(forward);
@@ -67,8 +65,7 @@ fn paragraph_round(t: &[u32], forward: bool, last: usize, from: Line) -> Round
 pub fn find_paragraph(t: &[u32], forward: bool, last: usize, from: Line, n: usize) -> Paragraph
     requires { ⌜ IsLine (now t) from × (last ≡ lastRow (now t)) × (0 < n) ×
         (length (now t) ≤ 1048576) ⌝ }
-    ensures { λ r. ⌜ (r ≡ paragraphs (now (t .entry)) forward (n - 1) (from .row)) ×
-        LeadsIn (now (t .entry)) r ⌝ }
+    ensures { λ r. ⌜ ParagraphFrom (now (t .entry)) forward (n - 1) (from .row) r ⌝ }
 {
     let mut here = from;
     let mut owed = n - 1;

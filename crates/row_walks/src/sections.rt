@@ -5,11 +5,10 @@ use text::Line;
 use text::offsets::next_line;
 use text::offsets::prev_line;
 ghost use mathlib.Core.Path.{_≡_};
-ghost use Prim.Native.Nat.{_-_, _≤_};
-ghost use lib.ListN.{length};
+ghost use Prim.Native.Nat.{_-_};
 ghost use Rattle.text.specs.Offsets.{IsLine};
 ghost use Rattle.text.specs.Text.{lastRow};
-ghost use Rattle.row_walks.specs.Sections.{begins, sectionUp, sectionDown};
+ghost use Rattle.row_walks.specs.Sections.{begins, sectionUp, sectionDown, LeadsTo};
 
 // Whether a row begins with x, which is no separator.
 fn begins(t: &[u32], l: Line, x: u32) -> bool
@@ -26,8 +25,7 @@ fn begins(t: &[u32], l: Line, x: u32) -> bool
 // The row of the n-th section up from `from`, or row 0.
 pub fn section_up(t: &[u32], from: Line, x: u32, n: usize) -> usize
     requires { ⌜ IsLine (now t) from × (x ≡ 10 → ⊥) ⌝ }
-    ensures { λ r. ⌜ (r ≡ sectionUp (now (t .entry)) x n (from .row)) ×
-        (r ≤ length (now (t .entry))) ⌝ }
+    ensures { λ r. ⌜ LeadsTo (now (t .entry)) (sectionUp (now (t .entry)) x n (from .row)) r ⌝ }
 {
     let mut row = from.row;
     let mut start = from.start;
@@ -56,8 +54,8 @@ pub fn section_up(t: &[u32], from: Line, x: u32, n: usize) -> usize
 // The row of the n-th section down from `from`, or `last`, the last row with content.
 pub fn section_down(t: &[u32], from: Line, last: usize, x: u32, n: usize) -> usize
     requires { ⌜ IsLine (now t) from × (last ≡ lastRow (now t)) × (x ≡ 10 → ⊥) ⌝ }
-    ensures { λ r. ⌜ (r ≡ sectionDown (now (t .entry)) x n (from .row)
-        (lastRow (now (t .entry)) - from .row)) × (r ≤ length (now (t .entry))) ⌝ }
+    ensures { λ r. ⌜ LeadsTo (now (t .entry)) (sectionDown (now (t .entry)) x n (from .row)
+        (lastRow (now (t .entry)) - from .row)) r ⌝ }
 {
     let mut row = from.row;
     let mut start = from.start;

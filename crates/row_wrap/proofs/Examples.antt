@@ -1,7 +1,5 @@
 -- The rows that have one segment: mode None, width 0, an empty row. Each holds by computation. Assumes nothing.
-use mathlib.Core.Path.{_≡_, refl}
-use mathlib.Core.List.{List, [], _∷_}
-use Prim.Native.Nat.{ℕ}
+use Rattle.lists.proofs.Kit.{_≡_, refl, List, [], _∷_, ℕ}
 use Rattle.chars.specs.White.{whites, isWhite}
 use Rattle.chars.specs.Width.{zeroWidths, doubleWidths, widthBy, widthOf}
 use Rattle.row_wrap.specs.declared.Wrap.{Wrap}

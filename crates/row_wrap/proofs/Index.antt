@@ -1,13 +1,6 @@
 -- Where pairs start, end tile a row, the one that holds a column is found, and no other does. Assumes nothing.
-use mathlib.Core.Path.{_≡_, ap, _∙_}
-use mathlib.Core.List.{List, [], _∷_}
-use mathlib.Core.Bool.{and-false}
-use Prim.Native.Nat.{ℕ, zero, suc, _+_, _-_, _*_, _/_, _≤_, _<_}
-use native.Mathlib.Decide.{decLt}
-use native.Mathlib.Omega.{arith}
-use lib.Dec.{leb}
-use lib.ListN.{length, getD}
-use borrow.Author.Tests.{le-leb, le-ltb, lt-ltb}
+use Rattle.lists.proofs.Kit.{_≡_, ap, _∙_, List, [], _∷_, and-false, ℕ, zero, suc, _+_, _-_, _*_, _/_, _≤_, _<_, decLt, arith, length, getD, leb, le-leb}
+use Rattle.lists.proofs.Kit.{le-ltb, lt-ltb}
 use Rattle.row_cells.specs.Offsets.{pairsBefore, segmentIndex}
 use Rattle.row_wrap.proofs.Tiles.{Tiles}
 use Rattle.row_cells.proofs.Pairs.{pair-holds, pair-passed, pair-none}
@@ -40,8 +33,7 @@ tiles-find a z (s ∷ e ∷ rest) col t h l = go (decLt col e) (λ k. tiles-find
 
     go : Dec (col < e) → (e ≤ col → Found col rest (pairsBefore col rest)) → Found col (s ∷ e ∷ rest) (pairsBefore col (s ∷ e ∷ rest))
     go (yes k) later = rw (pair-holds col s e rest (rw (le-leb s col low, lt-ltb col e k))) (record { there = omega arith; low = low; high = k })
-    go (no k) later =
-        rw (pair-passed col s e rest (rw (le-leb s col low, le-ltb col e (omega arith)))) (found-later (later (omega arith)))
+    go (no k) later = rw (pair-passed col s e rest (rw (le-leb s col low, le-ltb col e (omega arith)))) (found-later (later (omega arith)))
 
 tiles-rise : (a z : ℕ) (segments : List ℕ) → Tiles a z segments → a ≤ z
 tiles-rise a z [] t = omega arith

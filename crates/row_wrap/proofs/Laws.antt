@@ -1,13 +1,6 @@
 -- What a user of `wrap_segments` leans on, in every mode and over any width function w and test of white space: a setting may change
 -- the tables and leaves these as they are. Assumes nothing.
-use mathlib.Core.Path.{_≡_, refl}
-use mathlib.Core.Logic.{_⊎_}
-use mathlib.Core.List.{List, [], _∷_}
-use mathlib.Core.Bool.{Bool, true, false, or-true}
-use Prim.Native.Nat.{ℕ, _+_, _*_, _/_, _-_, _≤_, _<_}
-use native.Mathlib.Omega.{arith}
-use lib.Dec.{eqb}
-use lib.ListN.{length}
+use Rattle.lists.proofs.Kit.{_≡_, refl, List, [], _∷_, Bool, true, false, or-true, _⊎_, ℕ, _+_, _*_, _/_, _-_, _≤_, _<_, arith, length, eqb}
 use Rattle.row_wrap.specs.declared.Wrap.{Wrap}
 use Rattle.row_wrap.specs.Modes.{isNone, isWord, isWhole, segmentsOf}
 use Rattle.row_wrap.specs.Segments.{segmentsFrom}
@@ -27,8 +20,7 @@ module _ (w : ℕ → ℕ) (white : ℕ → Bool) (mode : Wrap) (width : ℕ) (r
       go false e = rw (segments-broken w white mode width row e) (segments-tile w white (isWord mode) width row)
 
   -- where the row is broken, each fits the width or is one character
-  pub wrap-fits :
-      isWhole mode width (length row) ≡ false → Each (λ s e. (cellsIn w (part row s e) ≤ width) ⊎ (e ≡ s + 1)) (segmentsOf w white mode width row)
+  pub wrap-fits : isWhole mode width (length row) ≡ false → Each (λ s e. (cellsIn w (part row s e) ≤ width) ⊎ (e ≡ s + 1)) (segmentsOf w white mode width row)
   wrap-fits e = rw (segments-broken w white mode width row e) (segments-fit w white (isWord mode) width row)
 
   -- the list is pairs, and so half its length is the number of segments
@@ -36,18 +28,15 @@ module _ (w : ℕ → ℕ) (white : ℕ → Bool) (mode : Wrap) (width : ℕ) (r
   wrap-even h = tiles-even 0 (length row) (segmentsOf w white mode width row) (wrap-tiles h)
 
   -- a column of the row is found in the segment that holds it, and one past the row in the last
-  pub wrap-finds :
-      (col : ℕ) → col < length row → Found col (segmentsOf w white mode width row) (segmentIndex (segmentsOf w white mode width row) col)
+  pub wrap-finds : (col : ℕ) → col < length row → Found col (segmentsOf w white mode width row) (segmentIndex (segmentsOf w white mode width row) col)
   wrap-finds col h = index-finds (length row) (segmentsOf w white mode width row) col (wrap-tiles (omega arith)) h
 
-  pub wrap-last :
-      (col : ℕ) → 0 < length row → length row ≤ col →
+  pub wrap-last : (col : ℕ) → 0 < length row → length row ≤ col →
       segmentIndex (segmentsOf w white mode width row) col ≡ length (segmentsOf w white mode width row) / 2 - 1
   wrap-last col p h = index-last (length row) (segmentsOf w white mode width row) col (wrap-tiles p) h
 
 -- a walk that has passed n segments and stands before the one that holds the column has found the index of the column
-pub walk-finds :
-    (w : ℕ → ℕ) (white : ℕ → Bool) (word : Bool) (width : ℕ) (row : List ℕ) (n start end col : ℕ) →
+pub walk-finds : (w : ℕ → ℕ) (white : ℕ → Bool) (word : Bool) (width : ℕ) (row : List ℕ) (n start end col : ℕ) →
     NextSegment w white word width row (2 * n) start end → start ≤ col → col < end →
     segmentIndex (segmentsFrom w white word width 0 0 row) col ≡ n
 walk-finds w white word width row n start end col next low high =

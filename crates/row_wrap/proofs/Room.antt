@@ -1,13 +1,6 @@
 -- Segments written to the front of lent room, and the answer that goes with it. Assumes nothing.
-use mathlib.Core.Path.{_≡_, refl, sym, ap, _∙_}
-use mathlib.Core.List.{List, [], _∷_, _++_}
-use mathlib.Core.Bool.{Bool, true, false}
-use Prim.Native.Nat.{ℕ, zero, suc, _+_, _/_, _≤_, _<_}
-use native.Mathlib.Numerals.{add-one}
-use native.Mathlib.Omega.{arith}
-use lib.ListN.{length, getD, take, drop, set, length-set}
-use lib.Seq.{set-at, take-suc, append-snoc, length-take-le, take-all, drop-cons}
-use borrow.Author.Tests.{lt-ltb, le-ltb, eq-eqb, ne-eqb}
+use Rattle.lists.proofs.Kit.{_≡_, refl, sym, ap, _∙_, List, [], _∷_, _++_, Bool, true, false, ℕ, zero, suc, _+_, _/_, _≤_, _<_, add-one, arith, length, getD}
+use Rattle.lists.proofs.Kit.{take, drop, set, length-set, set-at, take-suc, append-snoc, length-take-le, take-all, drop-cons, lt-ltb, le-ltb, eq-eqb, ne-eqb}
 use Rattle.chars.specs.White.{isWhite}
 use Rattle.widths.specs.declared.Ambiguous.{Ambiguous}
 use Rattle.widths.specs.Widths.{widthAs}
@@ -28,8 +21,7 @@ pub record FilledTo (l room₀ : List ℕ) (at : ℕ) (room : List ℕ) : Type 0
 pub filled-start : (l room : List ℕ) → FilledTo l room 0 room
 filled-start l room = record { size = refl; left = refl }
 
-filled-one :
-    {l room₀ room : List ℕ} {at v : ℕ} → FilledTo l room₀ at room → at < length l → length l ≤ length room₀ →
+filled-one : {l room₀ room : List ℕ} {at v : ℕ} → FilledTo l room₀ at room → at < length l → length l ≤ length room₀ →
     getD l at 0 ≡ v → FilledTo l room₀ (at + 1) (set room at v)
 filled-one {l} {room₀} {room} {at} {v} so-far h fit e =
     let size-is : length (take at l) ≡ at = length-take-le at l (omega arith) in
@@ -41,8 +33,7 @@ filled-one {l} {room₀} {room} {at} {v} so-far h fit e =
 
 -- a pair is written, and all are
 module _ {l room₀ room : List ℕ} {at : ℕ} (so-far : FilledTo l room₀ at room) where
-  pub filled-two :
-      {a b : ℕ} → at + 2 ≤ length l → length l ≤ length room₀ → getD l at 0 ≡ a → getD l (at + 1) 0 ≡ b →
+  pub filled-two : {a b : ℕ} → at + 2 ≤ length l → length l ≤ length room₀ → getD l at 0 ≡ a → getD l (at + 1) 0 ≡ b →
       FilledTo l room₀ (at + 2) (set (set room at a) (at + 1) b)
   filled-two {a} {b} h fit e f =
       let at-plus-two : at + 2 ≡ at + 1 + 1 = omega arith in
@@ -76,11 +67,9 @@ room-enough segments room h = rw (le-ltb (length room) (length segments) h)
 pub fitted-refused : {segments room : List ℕ} → length room < length segments → Fitted segments room (Refused 9) room
 fitted-refused {segments} {room} h = rw (room-short segments room h) (record { answer = refused-is 9 _ (λ e. omega arith); left = refl })
 
-pub fitted-count :
-    {segments room room′ : List ℕ} {n : ℕ} → length segments ≤ length room → n ≡ length segments / 2 → room′ ≡ filled segments room →
+pub fitted-count : {segments room room′ : List ℕ} {n : ℕ} → length segments ≤ length room → n ≡ length segments / 2 → room′ ≡ filled segments room →
     Fitted segments room (Count n) room′
-fitted-count {segments} {room} {room′} {n} h e k =
-    rw (room-enough segments room h) (record { answer = rw e (count-zero refl); left = k })
+fitted-count {segments} {room} {room′} {n} h e k = rw (room-enough segments room h) (record { answer = rw e (count-zero refl); left = k })
 
 -- a row that is accepted leaves the room to be looked at; one that is not gives its own number
 wrap-room : (row segments room : List ℕ) → rowRefusal row ≡ 0 → wrapRefusal row segments room ≡ roomRefusal segments room

@@ -1,12 +1,6 @@
 -- Segments tile the row, and each is the first of the row's rest. Assumes nothing.
-use mathlib.Core.Path.{_≡_, refl, sym, ap, subst}
-use mathlib.Core.Logic.{_⊎_, ⊎-map}
-use mathlib.Core.List.{List, [], _∷_}
-use mathlib.Core.Bool.{Bool}
-use Prim.Native.Nat.{ℕ, zero, suc, _+_, _-_, _≤_, _<_}
-use native.Mathlib.Nat.{add-zero, zero-add, le-of-suc-le-suc}
-use native.Mathlib.Omega.{arith}
-use lib.ListN.{length, drop}
+use Rattle.lists.proofs.Kit.{_≡_, refl, sym, ap, subst, List, [], _∷_, Bool, _⊎_, ⊎-map, ℕ, zero, suc, _+_, _-_, _≤_, _<_, add-zero, zero-add, le-of-suc-le-suc}
+use Rattle.lists.proofs.Kit.{arith, length, drop}
 use Rattle.row_segment.specs.Segments.{firstSegment}
 use Rattle.row_wrap.specs.Segments.{segmentsFrom}
 use Rattle.row_cells.specs.Offsets.{part, cellsIn}
@@ -40,17 +34,14 @@ module _ (w : ℕ → ℕ) (white : ℕ → Bool) (word : Bool) (width : ℕ) wh
   pub segments-tile : (row : List ℕ) → Tiles 0 (length row) (segmentsFrom w white word width 0 0 row)
   segments-tile row = tiles-left 0 0 row (omega arith) refl (omega arith)
 
-  next :
-      (P : ℕ → ℕ → Type 0) (i x : ℕ) (row : List ℕ) →
+  next : (P : ℕ → ℕ → Type 0) (i x : ℕ) (row : List ℕ) →
       ((j : ℕ) → j < length (x ∷ row) → P (i + j) (i + j + firstSegment w white word width (drop j (x ∷ row)))) →
       (j : ℕ) → j < length row → P (suc i + j) (suc i + j + firstSegment w white word width (drop j row))
   next P i x row p j h =
       let sum-is : i + suc j ≡ suc i + j = omega arith in
       subst (λ (n : ℕ). P n (n + firstSegment w white word width (drop j row))) sum-is (p (suc j) (omega arith))
 
-  each-left :
-      (P : ℕ → ℕ → Type 0) (left i : ℕ) (row : List ℕ) →
-      ((j : ℕ) → j < length row → P (i + j) (i + j + firstSegment w white word width (drop j row))) →
+  each-left : (P : ℕ → ℕ → Type 0) (left i : ℕ) (row : List ℕ) → ((j : ℕ) → j < length row → P (i + j) (i + j + firstSegment w white word width (drop j row))) →
       Each P (segmentsFrom w white word width left i row)
   unfolding segmentsFrom
   each-left P left i [] p = tt
@@ -60,11 +51,9 @@ module _ (w : ℕ → ℕ) (white : ℕ → Bool) (word : Bool) (width : ℕ) wh
       (subst (λ (n : ℕ). P n (n + first-segment)) (add-zero i) (p 0 (omega arith)), each-left P (first-segment - 1) (suc i) row (next P i x row p))
 
   -- each segment is the first of the row's rest, and so has what the first segment of any row has
-  pub segments-each :
-      (P : ℕ → ℕ → Type 0) (row : List ℕ) → ((s : ℕ) → s < length row → P s (s + firstSegment w white word width (drop s row))) →
+  pub segments-each : (P : ℕ → ℕ → Type 0) (row : List ℕ) → ((s : ℕ) → s < length row → P s (s + firstSegment w white word width (drop s row))) →
       Each P (segmentsFrom w white word width 0 0 row)
-  segments-each P row p =
-      each-left P 0 0 row (λ j h. subst (λ (n : ℕ). P n (n + firstSegment w white word width (drop j row))) (sym (zero-add j)) (p j h))
+  segments-each P row p = each-left P 0 0 row (λ j h. subst (λ (n : ℕ). P n (n + firstSegment w white word width (drop j row))) (sym (zero-add j)) (p j h))
 
   -- each fits the width or is one character
   pub segments-fit : (row : List ℕ) → Each (λ s e. (cellsIn w (part row s e) ≤ width) ⊎ (e ≡ s + 1)) (segmentsFrom w white word width 0 0 row)

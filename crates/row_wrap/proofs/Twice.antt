@@ -1,15 +1,7 @@
 -- The cost of a walk by words: the segment after a break reaches past all that was walked to find it, so no character is walked more than
 -- twice. What stands between the break and the end of what fitted has no white space, and fits again. Assumes nothing.
-use mathlib.Core.Path.{_≡_, sym, ap, subst, _∙_}
-use mathlib.Core.Logic.{⊎-elim}
-use mathlib.Core.List.{List, [], _∷_, _++_}
-use mathlib.Core.Bool.{Bool, true, true≢false}
-use Prim.Native.Nat.{ℕ, suc, _+_, _-_, _≤_, _<_}
-use native.Mathlib.Nat.{le-max-right, le-of-lt}
-use native.Mathlib.Decide.{decLe, ℕ-discrete}
-use native.Mathlib.Omega.{arith}
-use lib.ListN.{length, getD, take, drop, length-drop}
-use lib.Seq.{take-add, getD-drop}
+use Rattle.lists.proofs.Kit.{_≡_, sym, ap, subst, _∙_, List, [], _∷_, _++_, Bool, true, true≢false, ⊎-elim, ℕ, suc, _+_, _-_, _≤_, _<_, le-max-right, le-of-lt}
+use Rattle.lists.proofs.Kit.{decLe, ℕ-discrete, arith, length, getD, take, drop, length-drop, take-add, getD-drop}
 use Rattle.row_cells.specs.Cells.{fits}
 use Rattle.row_segment.specs.Segments.{afterWhite, charSegment, firstSegment}
 use Rattle.row_cells.specs.Offsets.{cellsIn}
@@ -47,8 +39,7 @@ module _ (w : ℕ → ℕ) where
 
 module _ (w : ℕ → ℕ) (white : ℕ → Bool) (word : Bool) (width : ℕ) (row : List ℕ) where
   -- white space behind the break, and before the end of what fitted, there is none
-  no-white :
-      (i k l : ℕ) → i ≤ length row → k ≡ afterWhite white row i → 0 < l → white (getD (drop k row) (l - 1) 0) ≡ true → i ≤ k + l
+  no-white : (i k l : ℕ) → i ≤ length row → k ≡ afterWhite white row i → 0 < l → white (getD (drop k row) (l - 1) 0) ≡ true → i ≤ k + l
   no-white i k l h e p t = go (decLe i (k + l))
     where
       go : Dec (i ≤ k + l) → i ≤ k + l
@@ -85,6 +76,5 @@ module _ (w : ℕ → ℕ) (white : ℕ → Bool) (word : Bool) (width : ℕ) (r
           let by-char-is = char-is w width row (omega arith) in
           let by-white-last = white-last white row i (le-of-lt (m .0)) .within in
           let again = fits-again w width row k (omega (arith, m .2)) in
-          ⊎-elim (λ e. omega (arith, again, le-max-right 1 (fits w width rest)))
-          (λ n. no-white i k l (le-of-lt (m .0)) (m .2) (n .1) (behind n))
+          ⊎-elim (λ e. omega (arith, again, le-max-right 1 (fits w width rest))) (λ n. no-white i k l (le-of-lt (m .0)) (m .2) (n .1) (behind n))
           (first-cases w white word width rest)

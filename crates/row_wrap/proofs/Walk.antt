@@ -1,12 +1,6 @@
 -- The segments of a row, one after another, over any width function w and test of white space. Assumes nothing.
-use mathlib.Core.Path.{_≡_, refl, sym, ap, _∙_}
-use mathlib.Core.List.{List, [], _∷_}
-use mathlib.Core.Bool.{Bool}
-use Prim.Native.Nat.{ℕ, zero, suc, _+_, _-_, _*_, _≤_, _<_}
-use native.Mathlib.Nat.{add-zero, le-of-suc-le-suc}
-use native.Mathlib.Omega.{arith}
-use lib.ListN.{length, getD, take, drop, length-drop, drop-of-length-le}
-use lib.Seq.{drop-drop, getD-drop, take-all}
+use Rattle.lists.proofs.Kit.{_≡_, refl, sym, ap, _∙_, List, [], _∷_, Bool, ℕ, zero, suc, _+_, _-_, _*_, _≤_, _<_, add-zero, le-of-suc-le-suc, arith, length}
+use Rattle.lists.proofs.Kit.{getD, take, drop, length-drop, drop-of-length-le, drop-drop, getD-drop, take-all}
 use Rattle.row_segment.specs.Segments.{firstSegment}
 use Rattle.row_wrap.specs.Segments.{segmentsFrom}
 use Rattle.row_segment.proofs.First.{first-pos, first-within}
@@ -17,19 +11,16 @@ module _ (w : ℕ → ℕ) (white : ℕ → Bool) (word : Bool) (width : ℕ) wh
   segments-none left i = refl
 
   -- the characters that are left of a segment are passed
-  segments-skip :
-      (left i : ℕ) (row : List ℕ) → left ≤ length row →
+  segments-skip : (left i : ℕ) (row : List ℕ) → left ≤ length row →
       segmentsFrom w white word width left i row ≡ segmentsFrom w white word width 0 (i + left) (drop left row)
   unfolding segmentsFrom
   segments-skip zero i row h = rw add-zero
   segments-skip (suc left) i [] h = absurd (omega arith)
-  segments-skip (suc left) i (x ∷ row) h =
-      segments-skip left (suc i) row (le-of-suc-le-suc h) ∙
+  segments-skip (suc left) i (x ∷ row) h = segments-skip left (suc i) row (le-of-suc-le-suc h) ∙
       ap (λ (n : ℕ). segmentsFrom w white word width 0 n (drop left row)) (omega arith)
 
   -- the first segment, and then those of the rest
-  pub segments-step :
-      (i : ℕ) (row : List ℕ) → 0 < length row →
+  pub segments-step : (i : ℕ) (row : List ℕ) → 0 < length row →
       let first-segment = firstSegment w white word width row in
       segmentsFrom w white word width 0 i row ≡ i ∷ (i + first-segment) ∷ segmentsFrom w white word width 0 (i + first-segment) (drop first-segment row)
   unfolding segmentsFrom
@@ -62,8 +53,7 @@ pub record NextSegment (w : ℕ → ℕ) (white : ℕ → Bool) (word : Bool) (w
 pub walk-start : (w : ℕ → ℕ) (white : ℕ → Bool) (word : Bool) (width : ℕ) (row : List ℕ) → SegmentsTo w white word width row 0 0
 walk-start w white word width row = record { inside = omega arith; small = omega arith; within = omega arith; rest = refl }
 
-two-there :
-    (l rest : List ℕ) (at a b : ℕ) → at ≤ length l → drop at l ≡ a ∷ b ∷ rest →
+two-there : (l rest : List ℕ) (at a b : ℕ) → at ≤ length l → drop at l ≡ a ∷ b ∷ rest →
     (at + 2 ≤ length l) × (getD l at 0 ≡ a) × (getD l (at + 1) 0 ≡ b) × (drop (at + 2) l ≡ rest)
 two-there l rest at a b h e =
     let same-size = ap length e in (
@@ -78,8 +68,7 @@ rest-is : (row : List ℕ) (start : ℕ) → take (length row - start) (drop sta
 rest-is row start = take-all (length row - start) (drop start row) (omega (arith, length-drop start row))
 
 module _ {w : ℕ → ℕ} {white : ℕ → Bool} {word : Bool} {width : ℕ} {row : List ℕ} {at start : ℕ} (so-far : SegmentsTo w white word width row at start) where
-  pub walk-next :
-      {k : ℕ} → start < length row → k ≡ firstSegment w white word width (take (length row - start) (drop start row)) →
+  pub walk-next : {k : ℕ} → start < length row → k ≡ firstSegment w white word width (take (length row - start) (drop start row)) →
       NextSegment w white word width row at start (start + k)
   walk-next {k} h slice =
       let by-rest-is = slice ∙ ap (firstSegment w white word width) (rest-is row start) in

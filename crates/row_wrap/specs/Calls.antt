@@ -1,7 +1,7 @@
 -- What the walks of `src/` leave in the room by the tables that they are lent, and what the call answers: the number that it is refused for,
 -- or what the definitions give by the widths of a setting.
 -- Definitions only. Assumes nothing.
-use Prim.Native.Nat.{ℕ}
+use Prim.Native.Nat.{ℕ, _*_, _≤_}
 use mathlib.Core.Path.{_≡_}
 use mathlib.Core.List.{List, [], _∷_}
 use mathlib.Core.Bool.{Bool, cond}
@@ -20,6 +20,11 @@ use Rattle.row_wrap.specs.Room.{filled, Answered, roomRefusal, Fitted}
 -- the segments of a row that is broken, by a width function w
 abbrev pub rowSegments : (ℕ → ℕ) → Bool → ℕ → List ℕ → List ℕ
 rowSegments w word width row = segmentsFrom w isWhite word width 0 0 row
+
+-- r is how many there are
+pub record Counted (w : ℕ → ℕ) (word : Bool) (width : ℕ) (row : List ℕ) (r : ℕ) : Type 0 where
+  pub count : length (rowSegments w word width row) ≡ 2 * r
+  pub inside : r ≤ length row
 
 -- they stand in the room; and that they do, or were too many
 abbrev pub Written : (ℕ → ℕ) → Bool → ℕ → List ℕ → List ℕ → List ℕ → Type 0

@@ -11,7 +11,7 @@ ghost use lib.ListN.{length};
 ghost use Rattle.chars.specs.Width.{widthBy};
 ghost use Rattle.widths.specs.Widths.{widthAs};
 ghost use Rattle.row_wrap.specs.Modes.{isNone, isWord, isWhole};
-ghost use Rattle.row_wrap.specs.Calls.{rowSegments, Written, Broken, Whole, Wraps};
+ghost use Rattle.row_wrap.specs.Calls.{rowSegments, Counted, Written, Broken, Whole, Wraps};
 ghost use Rattle.row_segment.specs.Lent.{Tables};
 
 // How many segments the row has.
@@ -24,9 +24,8 @@ fn count_segments(
     word: bool,
 ) -> usize
     requires { ⌜ Tables (now zeros) (now doubles) (now white) ⌝ }
-    ensures { λ r. ⌜ length (rowSegments (widthBy (now (zeros .entry)) (now (doubles .entry))) word
-        width (now (row .entry))) ≡ 2 * r ⌝ }
-    ensures { λ r. ⌜ r ≤ length (now (row .entry)) ⌝ }
+    ensures { λ r. ⌜ Counted (widthBy (now (zeros .entry)) (now (doubles .entry))) word width
+        (now (row .entry)) r ⌝ }
 {
     let mut n: usize = 0;
     let mut start: usize = 0;
@@ -106,6 +105,7 @@ fn narrow_broken(row: &[u32], width: u32, word: bool, out: &mut [u32]) -> Segmen
     )
 }
 
+// The segments where characters of class A take two cells: names the table of these widths.
 fn wide_broken(row: &[u32], width: u32, word: bool, out: &mut [u32]) -> Segments
     requires { ⌜ length (now row) ≤ 1048576 ⌝ }
     ensures { λ r. ⌜ Broken (widthAs Ambiguous.Wide) word width (now (row .entry))
@@ -122,6 +122,7 @@ fn wide_broken(row: &[u32], width: u32, word: bool, out: &mut [u32]) -> Segments
     )
 }
 
+// The segments of a row under the setting of the widths.
 fn broken(row: &[u32], width: u32, word: bool, ambiguous: Ambiguous, out: &mut [u32]) -> Segments
     requires { ⌜ length (now row) ≤ 1048576 ⌝ }
     ensures { λ r. ⌜ Broken (widthAs ambiguous) word width (now (row .entry)) (now (out .entry)) r
@@ -145,6 +146,7 @@ fn whole(row: &[u32], out: &mut [u32]) -> Segments
     Segments::Count(1)
 }
 
+// Whether rows are not wrapped.
 fn is_none(mode: Wrap) -> bool
     ensures { λ r. ⌜ r ≡ isNone mode ⌝ }
 {
@@ -155,6 +157,7 @@ fn is_none(mode: Wrap) -> bool
     }
 }
 
+// Whether rows are wrapped at words.
 fn is_word(mode: Wrap) -> bool
     ensures { λ r. ⌜ r ≡ isWord mode ⌝ }
 {

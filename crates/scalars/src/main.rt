@@ -1,6 +1,6 @@
-// Asks `chars` and `widths` about every scalar value and prints what holds where. The stored output is what the
-// oracle's Rust prints (tools/char-tables), so a difference fails the gate. Document 01, "Character
-// facts": a program compares all 1,112,064 scalar values.
+// Asks `chars` and `widths` about every scalar value and prints what holds where. The stored output
+// is what the oracle's Rust prints (tools/char-tables), so a difference fails the gate. Document
+// 01, "Character facts": a program compares all 1,112,064 scalar values.
 use libc::STDOUT_FILENO;
 use widths::Ambiguous;
 
@@ -28,11 +28,13 @@ fn holds(fact: Fact, x: u32) -> bool {
     }
 }
 
+// Prints a number in decimal.
 fn print_number(n: u32) {
     io::write_all(STDOUT_FILENO, b" ");
     io::print_decimal(STDOUT_FILENO, n as u64);
 }
 
+// Prints what a fact is called.
 fn print_name(fact: Fact) {
     match fact {
         Fact::Scalar => {
@@ -55,6 +57,7 @@ fn print_name(fact: Fact) {
     }
 }
 
+// Prints the first and the last of a run of code points that a fact holds of.
 fn print_range(fact: Fact, first: u32, last: u32) {
     print_name(fact);
     print_number(first);
@@ -62,6 +65,7 @@ fn print_range(fact: Fact, first: u32, last: u32) {
     io::write_all(STDOUT_FILENO, b"\n");
 }
 
+// Prints of how many code points a fact holds.
 fn print_total(fact: Fact, total: u32) {
     print_name(fact);
     io::write_all(STDOUT_FILENO, b" total");
@@ -97,6 +101,7 @@ fn show(fact: Fact) {
     print_total(fact, total);
 }
 
+// Prints each fact of every scalar value, in runs.
 fn main() {
     show(Fact::Scalar);
     show(Fact::Letter);

@@ -1,8 +1,5 @@
 -- What the given Rust answers in corners of it. Each holds by computation. Assumes nothing.
-use mathlib.Core.Path.{_≡_, refl}
-use mathlib.Core.List.{List, [], _∷_}
-use mathlib.Core.Bool.{true, false}
-use Prim.Native.Nat.{ℕ}
+use Rattle.lists.proofs.Kit.{_≡_, refl, List, [], _∷_, true, false, ℕ}
 use Rattle.chars.specs.White.{whites, isWhite}
 use Rattle.chars.specs.Width.{zeroWidths, doubleWidths, widthBy, widthOf}
 use Rattle.row_tabs.specs.Cells.{stopOf}
@@ -32,8 +29,7 @@ inside-fold = refl
 abbrev threeRows : List ℕ
 threeRows = 97 ∷ 97 ∷ 97 ∷ 10 ∷ 10 ∷ 98 ∷ 98 ∷ 98 ∷ []
 
-pub no-sum :
-    (moveScreen widthOf threeRows [] 8 Char 9 false 2 2 2 Absent ≡ record { row = 0; col = 2; want = 2 }) ×
+pub no-sum : (moveScreen widthOf threeRows [] 8 Char 9 false 2 2 2 Absent ≡ record { row = 0; col = 2; want = 2 }) ×
     (moveScreen widthOf threeRows [] 8 Char 9 false 1 2 2 Absent ≡ record { row = 1; col = 0; want = 2 }) ×
     (moveScreen widthOf threeRows [] 8 Char 9 false 1 1 0 (At 2) ≡ record { row = 0; col = 0; want = 2 })
 unfolding

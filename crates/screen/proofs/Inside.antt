@@ -1,12 +1,5 @@
 -- From a place in the text every screen motion leads to a place in the text. Assumes nothing.
-use mathlib.Core.Path.{_≡_, refl, subst}
-use mathlib.Core.List.{List}
-use mathlib.Core.Bool.{Bool, true, false, cond, _||_}
-use Prim.Native.Nat.{ℕ, _+_, _≤_, _<_, max}
-use native.Mathlib.Decide.{ℕ-discrete}
-use native.Mathlib.Omega.{arith}
-use lib.Dec.{eqb, ltb}
-use borrow.Author.Tests.{eq-eqb, ne-eqb}
+use Rattle.lists.proofs.Kit.{_≡_, refl, subst, List, Bool, true, false, cond, _||_, ℕ, _+_, _≤_, _<_, max, ℕ-discrete, arith, eqb, ltb, eq-eqb, ne-eqb}
 use Rattle.chars.specs.White.{isWhite}
 use Rattle.row_wrap.specs.declared.Wrap.{Wrap}
 use Rattle.row_wrap.specs.Modes.{isNone, segmentsOf}

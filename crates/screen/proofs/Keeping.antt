@@ -1,11 +1,6 @@
 -- The screen moves that remember, over any width function: without an offset they lead where `gj` and `gk` do, with one they keep it and leave no fold, and
 -- their counts add. Assumes nothing.
-use mathlib.Core.Path.{_≡_, refl, ap, sym, _∙_}
-use mathlib.Core.List.{List}
-use mathlib.Core.Bool.{Bool, true, false, cond, _||_}
-use Prim.Native.Nat.{ℕ, _+_, _<_, max}
-use native.Mathlib.Omega.{arith}
-use lib.Dec.{eqb}
+use Rattle.lists.proofs.Kit.{_≡_, refl, ap, sym, _∙_, List, Bool, true, false, cond, _||_, ℕ, _+_, _<_, max, arith, eqb}
 use Rattle.lists.specs.Rounds.{rounds}
 use Rattle.lists.proofs.Rounds.{rounds-add}
 use Rattle.chars.specs.White.{isWhite}
@@ -37,18 +32,15 @@ module _ (w : ℕ → ℕ) (t folds : List ℕ) (tabstop : ℕ) (mode : Wrap) (w
         moveScreen w t folds tabstop mode width down n row col sticky
     absent-target = go (eqb width 0 || isNone mode)
       where
-        go : (b : Bool) →
-            cond b (unkept (rowsTo n row col sticky)) (screenKept w t folds tabstop lay down n row col sticky Absent) .target ≡
+        go : (b : Bool) → cond b (unkept (rowsTo n row col sticky)) (screenKept w t folds tabstop lay down n row col sticky Absent) .target ≡
             cond b (rowsTo n row col sticky) (screenTarget w t folds tabstop lay down n row col sticky)
         go true = refl
         go false = refl
 
     -- with one, where rows are broken: the rounds from the place itself, and the offset is kept
-    pub present-kept : (x : ℕ) → (eqb width 0 || isNone mode) ≡ false →
-        moveScreenKept w t folds tabstop mode width down n row col sticky (At x) ≡
+    pub present-kept : (x : ℕ) → (eqb width 0 || isNone mode) ≡ false → moveScreenKept w t folds tabstop mode width down n row col sticky (At x) ≡
         record {
-          target = landedAt (wantedCol w t tabstop row col sticky)
-              (rounds (stepScreen t folds lay down x) (max n 1) (record { row = row; col = col }));
+          target = landedAt (wantedCol w t tabstop row col sticky) (rounds (stepScreen t folds lay down x) (max n 1) (record { row = row; col = col }));
           offset = At x;
         }
     present-kept x e = rw e
@@ -67,8 +59,7 @@ module _ (w : ℕ → ℕ) (t folds : List ℕ) (tabstop : ℕ) (mode : Wrap) (w
       let first : max m 1 ≡ m = omega arith in
       let second : max n 1 ≡ n = omega arith in
       let both : max (m + n) 1 ≡ m + n = omega arith in
-      ap (λ (q : Position). record { target = landedAt want q; offset = At kept })
-      (ap (λ (x : ℕ). rounds position (max n 1) (rounds position x from)) first ∙
+      ap (λ (q : Position). record { target = landedAt want q; offset = At kept }) (ap (λ (x : ℕ). rounds position (max n 1) (rounds position x from)) first ∙
       ap (λ (x : ℕ). rounds position x (rounds position m from)) second ∙
       sym (rounds-add position m n from) ∙
       ap (λ (x : ℕ). rounds position x from) (sym both))

@@ -1,10 +1,5 @@
 -- From a spot to the place at it, and from a place to its spot. Assumes nothing.
-use mathlib.Core.Path.{_≡_, sym, ap, _∙_}
-use mathlib.Core.List.{List}
-use mathlib.Core.Bool.{Bool}
-use Prim.Native.Nat.{ℕ, _-_, _≤_, _<_, min}
-use native.Mathlib.Omega.{arith}
-use lib.ListN.{length}
+use Rattle.lists.proofs.Kit.{_≡_, sym, ap, _∙_, List, Bool, ℕ, _-_, _≤_, _<_, min, arith, length}
 use Rattle.row_cells.specs.Offsets.{segmentIndex}
 use Rattle.text.specs.Text.{rowCount, rowAt, rowLen}
 use Rattle.folds.specs.declared.Visible.the-variants.{Row, NoRow}
@@ -36,9 +31,7 @@ module _ (w : ℕ → ℕ) (t : List ℕ) (word : Bool) (width : ℕ) (down : Bo
     there = ahead-within down _ a h
 
     part-is : part ≡ partAt (layOf w word width (rowAt t r)) (aheadOf down (segmentCount (layOf w word width (rowAt t r))) a)
-    part-is =
-        p ∙
-        ap (λ (x : List ℕ). partFor (layOf w word width x) (length x) index) is ∙
+    part-is = p ∙ ap (λ (x : List ℕ). partFor (layOf w word width x) (length x) index) is ∙
         ap (partFor (layOf w word width (rowAt t r)) (rowLen t r)) (i ∙ ap (λ (n : ℕ). aheadOf down n a) counted) ∙
         ap (partAt (layOf w word width (rowAt t r))) (first-of (aheadOf down (segmentCount (layOf w word width (rowAt t r))) a) there)
       where
@@ -52,19 +45,14 @@ module _ (w : ℕ → ℕ) (t : List ℕ) (word : Bool) (width : ℕ) (down : Bo
 
     pub place-is : (offset col : ℕ) → col ≡ clampTo (part .start) (part .end) offset (length line) →
         record { row = r; col = col } ≡ placeAt t (layOf w word width) down offset r a
-    place-is offset col e =
-        ap (λ (x : ℕ). record { row = r; col = x })
-        (e ∙ ap (λ (x : List ℕ). clampTo (part .start) (part .end) offset (length x)) is ∙
+    place-is offset col e = ap (λ (x : ℕ). record { row = r; col = x }) (e ∙ ap (λ (x : List ℕ). clampTo (part .start) (part .end) offset (length x)) is ∙
         ap (λ (x : Part). clampTo (x .start) (x .end) offset (rowLen t r)) part-is)
 
   -- the segment of a place
   module _ (col : ℕ) {count : ℕ} {part : Part} (c : count ≡ segmentCount (layOf w word width line))
       (p : part ≡ partFor (layOf w word width line) col (length line)) where
     seat-part : part ≡ partAt (layOf w word width (rowAt t r)) (segmentIndex (layOf w word width (rowAt t r)) col)
-    seat-part =
-        p ∙
-        ap (λ (x : List ℕ). partFor (layOf w word width x) col (length x)) is ∙
-        ap (partAt (layOf w word width (rowAt t r)))
+    seat-part = p ∙ ap (λ (x : List ℕ). partFor (layOf w word width x) col (length x)) is ∙ ap (partAt (layOf w word width (rowAt t r)))
         (omega (arith, seat-within (laid w (modeOf word) width (rowAt t r)) col, few-segments w word width (rowAt t r)))
 
     seat-count : count ≡ segmentCount (layOf w word width (rowAt t r))
@@ -94,8 +82,7 @@ module _ (w : ℕ → ℕ) (t folds : List ℕ) (word : Bool) (width : ℕ) (dow
       (g : r ≡ rounds (stepScreen t folds (layOf w word width) down offset) n (placeAt t (layOf w word width) down offset (p .row) a)) where
     glides : r ≡ rounds (stepScreen t folds (layOf w word width) down offset) n
         (placeAt t (layOf w word width) down offset (p .row) (aheadAt t (layOf w word width) down p))
-    glides =
-        g ∙ ap (λ (x : ℕ). rounds (stepScreen t folds (layOf w word width) down offset) n (placeAt t (layOf w word width) down offset (p .row) x)) e
+    glides = g ∙ ap (λ (x : ℕ). rounds (stepScreen t folds (layOf w word width) down offset) n (placeAt t (layOf w word width) down offset (p .row) x)) e
 
     pub from-on : 0 < a → r ≡ rounds (stepScreen t folds (layOf w word width) down offset) n p
     from-on l = glides ∙ sym (same-on t folds (layOf w word width) down offset lays p n h (omega (arith, e)))
@@ -116,6 +103,5 @@ module _ (t folds : List ℕ) (lay : List ℕ → List ℕ) (down : Bool) (p : P
 
   pub glided-made : (n : ℕ) (offset : Offset) {kept : ℕ} {q : Position} → kept ≡ orOwn offset (s .offset) →
       q ≡ rounds (stepScreen t folds lay down kept) n p → record { place = q; offset = kept } ≡ glided t folds lay down n offset p
-  glided-made n offset {kept} {q} k g =
-      ap (λ (x : Position). record { place = x; offset = kept }) g ∙
+  glided-made n offset {kept} {q} k g = ap (λ (x : Position). record { place = x; offset = kept }) g ∙
       ap (λ (x : ℕ). record { place = rounds (stepScreen t folds lay down x) n p; offset = x }) (k ∙ ap (λ (x : Seat). orOwn offset (x .offset)) e)

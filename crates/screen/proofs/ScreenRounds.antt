@@ -1,12 +1,6 @@
 -- The rounds of a screen move: within a row k rounds go k segments, so that a row is walked once, and then into the next visible row.
 -- A place is kept by its row and how many segments lie ahead of it in the row. Assumes nothing.
-use mathlib.Core.Path.{_≡_, refl, sym, ap, _∙_}
-use mathlib.Core.List.{List}
-use mathlib.Core.Bool.{Bool, true, false}
-use Prim.Native.Nat.{ℕ, zero, suc, _+_, _-_, _≤_, _<_}
-use native.Mathlib.Omega.{arith}
-use lib.ListN.{length}
-use borrow.Author.Tests.{lt-ltb, le-ltb}
+use Rattle.lists.proofs.Kit.{_≡_, refl, sym, ap, _∙_, List, Bool, true, false, ℕ, zero, suc, _+_, _-_, _≤_, _<_, arith, length, lt-ltb, le-ltb}
 use Rattle.text.specs.Text.{rowCount, rowAt}
 use Rattle.folds.specs.declared.Visible.the-variants.{Row, NoRow}
 use Rattle.text.specs.declared.Position.{Position}
@@ -70,24 +64,19 @@ module _ (t folds : List ℕ) (lay : List ℕ → List ℕ) (down : Bool) (offse
       own-ahead = ahead-at (p .row) (aheadAt t lay down p) (ahead-in p)
 
       own-seat : seatOf t lay (ownPlace t lay down offset p) ≡ seatOf t lay p
-      own-seat =
-          seat-at (p .row) (aheadAt t lay down p) (ahead-in p) ∙
+      own-seat = seat-at (p .row) (aheadAt t lay down p) (ahead-in p) ∙
           ahead-back down (countOf t lay (p .row)) (seatOf t lay p) (seat-within (lays (rowAt t (p .row))) (p .col))
 
       pub same-on : (n : ℕ) → 0 < n → 0 < aheadAt t lay down p →
           rounds (stepScreen t folds lay down offset) n p ≡ rounds (stepScreen t folds lay down offset) n (ownPlace t lay down offset p)
-      same-on n h l =
-          rounds-on (stepScreen t folds lay down offset) n p h ∙
-          ap (rounds (stepScreen t folds lay down offset) (n - 1))
+      same-on n h l = rounds-on (stepScreen t folds lay down offset) n p h ∙ ap (rounds (stepScreen t folds lay down offset) (n - 1))
           (round-on p l ∙ ap (λ (j : ℕ). onSegment t lay offset (p .row) (shift down j 1)) (sym own-seat) ∙
           sym (round-on (ownPlace t lay down offset p) (omega (arith, own-ahead)))) ∙
           sym (rounds-on (stepScreen t folds lay down offset) n (ownPlace t lay down offset p) h)
 
       pub same-off : (n x : ℕ) → 0 < n → aheadAt t lay down p ≡ 0 → toward folds (rowCount t) down (p .row) ≡ Row x →
           rounds (stepScreen t folds lay down offset) n p ≡ rounds (stepScreen t folds lay down offset) n (ownPlace t lay down offset p)
-      same-off n x h e found =
-          rounds-on (stepScreen t folds lay down offset) n p h ∙
-          ap (rounds (stepScreen t folds lay down offset) (n - 1))
+      same-off n x h e found = rounds-on (stepScreen t folds lay down offset) n p h ∙ ap (rounds (stepScreen t folds lay down offset) (n - 1))
           (round-off p e ∙ ap (entered t lay down offset p) found ∙
           sym (round-off (ownPlace t lay down offset p) (own-ahead ∙ e) ∙ ap (entered t lay down offset (ownPlace t lay down offset p)) found)) ∙
           sym (rounds-on (stepScreen t folds lay down offset) n (ownPlace t lay down offset p) h)
@@ -116,12 +105,9 @@ module _ (t folds : List ℕ) (lay : List ℕ → List ℕ) (down : Bool) (offse
           rounds-add (stepScreen t folds lay down offset) a (left - a) (placeAt t lay down offset row a) ∙
           ap (rounds (stepScreen t folds lay down offset) (left - a)) (rounds-in a row a (omega arith) h ∙ ap (placeAt t lay down offset row) none)
 
-      pub crosses : (x : ℕ) → toward folds (rowCount t) down row ≡ Row x →
-          rounds (stepScreen t folds lay down offset) left (placeAt t lay down offset row a) ≡
+      pub crosses : (x : ℕ) → toward folds (rowCount t) down row ≡ Row x → rounds (stepScreen t folds lay down offset) left (placeAt t lay down offset row a) ≡
           rounds (stepScreen t folds lay down offset) (left - a - 1) (placeAt t lay down offset x (countOf t lay x - 1))
-      crosses x found =
-          to-edge ∙
-          rounds-on (stepScreen t folds lay down offset) (left - a) (placeAt t lay down offset row 0) (omega arith) ∙
+      crosses x found = to-edge ∙ rounds-on (stepScreen t folds lay down offset) (left - a) (placeAt t lay down offset row 0) (omega arith) ∙
           ap (rounds (stepScreen t folds lay down offset) (left - a - 1))
           (round-off (placeAt t lay down offset row 0) (ahead-at row 0 (omega arith)) ∙ ap (entered t lay down offset (placeAt t lay down offset row 0)) found)
 

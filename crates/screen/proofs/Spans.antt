@@ -1,10 +1,5 @@
 -- The rows of a closed fold are rows of the text, and a jump to one of them. Assumes nothing.
-use mathlib.Core.Path.{_≡_, refl, ap, sym, _∙_}
-use mathlib.Core.List.{List}
-use mathlib.Core.Bool.{Bool, true, false, cond}
-use Prim.Native.Nat.{ℕ, _+_, _-_, _≤_, _<_, min, max}
-use native.Mathlib.Omega.{arith}
-use borrow.Author.Tests.{eq-eqb, ne-eqb}
+use Rattle.lists.proofs.Kit.{_≡_, refl, ap, sym, _∙_, List, Bool, true, false, cond, ℕ, _+_, _-_, _≤_, _<_, min, max, arith, eq-eqb, ne-eqb}
 use Rattle.text.specs.Text.{rowCount, rowLen, contentRows}
 use Rattle.text.specs.Offsets.{lineAt, IsLine}
 use Rattle.folds.specs.Folds.{hidden, prevVisible, nextVisible, lastBefore, closedFrom, closedFoldAt}
@@ -54,7 +49,7 @@ module _ (folds : List ℕ) (rows content : ℕ) (some : 0 < content) (most : co
 module _ (t : List ℕ) (l : Line) (col row : ℕ) where
   pub jump-own : IsLine t l → col ≤ 1048576 → row ≡ l .row → JumpedTo t (jumpedTo t (record { row = l .row; col = col }) row)
       (record { row = l .row; start = l .start; col = col })
-  jump-own i n e = (rw (eq-eqb row (l .row) e), i, n)
+  jump-own i n e = record { place = rw (eq-eqb row (l .row) e); line = i; small = n }
 
   pub jump-other :
       (m : Line) (len c : ℕ) → row < rowCount t → col ≤ 1048576 → (row ≡ l .row → ⊥) → m ≡ lineAt t row → len ≡ rowLen t (m .row) → c ≡ min col (len - 1) →
@@ -62,7 +57,11 @@ module _ (t : List ℕ) (l : Line) (col row : ℕ) where
   jump-other m len c h n e q s w =
       let row-is : m .row ≡ row = ap (λ (x : Line). x .row) q in
       let c-is : c ≡ min col (rowLen t row - 1) = w ∙ ap (λ (x : ℕ). min col (x - 1)) (s ∙ ap (rowLen t) row-is) in
-      (rw (ne-eqb row (l .row) e) (λ i. record { row = row-is i; col = c-is i }), line-there t m row q h, omega (arith, w))
+      record {
+        place = rw (ne-eqb row (l .row) e) (λ i. record { row = row-is i; col = c-is i });
+        line = line-there t m row q h;
+        small = omega (arith, w);
+      }
 
 -- the jump, by what the calls find
 module _ (t folds : List ℕ) (down : Bool) (p : Position) {rows content : ℕ} {s : Span} (all : rows ≡ rowCount t) (con : content ≡ contentRows t)
@@ -77,8 +76,7 @@ module _ (t folds : List ℕ) (down : Bool) (p : Position) {rows content : ℕ} 
   jumped-not q = ap (outOf t down p) (sym read ∙ q)
 
 -- the target and the offset, by what the calls find
-pub target-made :
-    (w : ℕ → ℕ) (t folds : List ℕ) (tabstop : ℕ) (lay : List ℕ → List ℕ) (down : Bool) (count row col : ℕ) (sticky : Sticky) (offset : Offset)
+pub target-made : (w : ℕ → ℕ) (t folds : List ℕ) (tabstop : ℕ) (lay : List ℕ → List ℕ) (down : Bool) (count row col : ℕ) (sticky : Sticky) (offset : Offset)
     {want n : ℕ} {j : Position} {g : Glided} →
     want ≡ wantedCol w t tabstop row col sticky → n ≡ max count 1 → j ≡ startsAt t folds down offset (record { row = row; col = col }) →
     g ≡ glided t folds lay down n offset j →

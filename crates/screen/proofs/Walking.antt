@@ -1,9 +1,5 @@
 -- The walk of a screen move from spot to spot follows the rounds, whatever offset is kept. Assumes nothing.
-use mathlib.Core.Path.{_≡_, refl, sym, ap, _∙_}
-use mathlib.Core.List.{List}
-use mathlib.Core.Bool.{Bool}
-use Prim.Native.Nat.{ℕ, _-_, _≤_, _<_}
-use native.Mathlib.Omega.{arith}
+use Rattle.lists.proofs.Kit.{_≡_, refl, sym, ap, _∙_, List, Bool, ℕ, _-_, _≤_, _<_, arith}
 use Rattle.text.specs.Text.{rowCount, rowAt}
 use Rattle.text.specs.Offsets.{Stands, lineAt}
 use Rattle.text.specs.declared.Line.{Line}
@@ -12,7 +8,7 @@ use Rattle.text.proofs.Stands.{line-there}
 use Rattle.text.specs.declared.Position.{Position}
 use Rattle.screen.specs.declared.Spot.{Spot}
 use Rattle.lists.specs.Rounds.{rounds}
-use Rattle.visible_rows.specs.Visible.{toward}
+use Rattle.visible_rows.specs.Visible.{toward, Free}
 use Rattle.screen_segments.specs.Parts.{segmentCount, layOf, modeOf}
 use Rattle.screen_segments.proofs.Seats.{laid}
 use Rattle.screen.specs.Screen.{stepScreen}
@@ -29,10 +25,14 @@ leads-place t folds lay down offset n s r e to = e ∙ sym (to offset)
 pub record Walking (w : ℕ → ℕ) (t folds : List ℕ) (word : Bool) (width : ℕ) (down : Bool) (n row₀ ahead₀ row start ahead left : ℕ) : Type 0 where
   pub line : Stands t row start start
   pub inside : ahead < segmentCount (layOf w word width (rowAt t row))
-  pub same :
-      (offset : ℕ) →
-      rounds (stepScreen t folds (layOf w word width) down offset) n (placeAt t (layOf w word width) down offset row₀ ahead₀) ≡
+  pub same : (offset : ℕ) → rounds (stepScreen t folds (layOf w word width) down offset) n (placeAt t (layOf w word width) down offset row₀ ahead₀) ≡
       rounds (stepScreen t folds (layOf w word width) down offset) left (placeAt t (layOf w word width) down offset row ahead)
+
+-- and no fold hides the next `free` rows
+pub record Striding
+    (w : ℕ → ℕ) (t folds : List ℕ) (rows : ℕ) (word : Bool) (width : ℕ) (down : Bool) (n row₀ ahead₀ row start ahead left free : ℕ) : Type 0 where
+  pub walking : Walking w t folds word width down n row₀ ahead₀ row start ahead left
+  pub clear : Free folds rows down row free
 
 pub walking-start : {w : ℕ → ℕ} {t folds : List ℕ} {word : Bool} {width : ℕ} {down : Bool} {n : ℕ} (s : Spot) → IsSpot t (layOf w word width) s →
     Walking w t folds word width down n (s .row) (s .ahead) (s .row) (s .start) (s .ahead) n
@@ -41,8 +41,7 @@ walking-start s i = record { line = i .line; inside = i .inside; same = λ offse
 module _ {w : ℕ → ℕ} {t folds : List ℕ} {word : Bool} {width : ℕ} {down : Bool} {n row₀ ahead₀ row start ahead left : ℕ}
     (so-far : Walking w t folds word width down n row₀ ahead₀ row start ahead left) where
   -- into the next visible row
-  pub walking-cross :
-      (x m : ℕ) (next : Line) → ahead < left → toward folds (rowCount t) down row ≡ Row x → x < rowCount t → next ≡ lineAt t x →
+  pub walking-cross : (x m : ℕ) (next : Line) → ahead < left → toward folds (rowCount t) down row ≡ Row x → x < rowCount t → next ≡ lineAt t x →
       m ≡ segmentCount (layOf w word width (rowAt t (next .row))) → 0 < m →
       Walking w t folds word width down n row₀ ahead₀ (next .row) (next .start) (m - 1) (left - ahead - 1)
   walking-cross x m next l found h e c p =
@@ -50,9 +49,7 @@ module _ {w : ℕ → ℕ} {t folds : List ℕ} {word : Bool} {width : ℕ} {dow
       record {
         line = line-there t next x e h;
         inside = omega (arith, c);
-        same =
-            λ offset.
-            so-far .same offset ∙
+        same = λ offset. so-far .same offset ∙
             crosses t folds (layOf w word width) down offset (λ r. laid w (modeOf word) width r) row ahead left (so-far .inside) l x found ∙
             ap (λ (r : ℕ). rounds (stepScreen t folds (layOf w word width) down offset) (left - ahead - 1)
             (placeAt t (layOf w word width) down offset r (segmentCount (layOf w word width (rowAt t r)) - 1))) is ∙
@@ -63,8 +60,7 @@ module _ {w : ℕ → ℕ} {t folds : List ℕ} {word : Bool} {width : ℕ} {dow
   -- no row is left, or no round
   pub walking-edge : (s : Spot) → s .row ≡ row₀ → s .ahead ≡ ahead₀ → ahead < left → toward folds (rowCount t) down row ≡ NoRow →
       Leads t folds (layOf w word width) down n s (record { row = row; start = start; ahead = 0 })
-  walking-edge s e q l none offset =
-      rw (e, q)
+  walking-edge s e q l none offset = rw (e, q)
       (so-far .same offset ∙ stops t folds (layOf w word width) down offset (λ r. laid w (modeOf word) width r) row ahead left (so-far .inside) l none)
 
   pub walking-end : (s : Spot) → s .row ≡ row₀ → s .ahead ≡ ahead₀ → left ≤ ahead →

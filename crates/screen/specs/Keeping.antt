@@ -1,6 +1,7 @@
 -- Screen moves that remember: the offset within a segment is kept from move to move. Document 02, #110. The walk is that of `gj` and `gk`; what differs is
 -- where it begins, and which offset it keeps. Definitions only; the laws are in `proofs/Keeping.antt`. Assumes nothing.
-use Prim.Native.Nat.{ℕ, max}
+use mathlib.Core.Path.{_≡_}
+use Prim.Native.Nat.{ℕ, max, _≤_}
 use mathlib.Core.List.{List}
 use mathlib.Core.Bool.{Bool, cond, _||_}
 use lib.Dec.{eqb}
@@ -31,11 +32,21 @@ abbrev pub orOwn : Offset → ℕ → ℕ
 orOwn Absent own = own
 orOwn (At x) own = x
 
+-- r is that offset
+pub record OffsetIs (n r : ℕ) : Type 0 where
+  pub offset : r ≡ n
+  pub small : r ≤ 4294967295
+
 -- n rounds from a place, and the offset that they keep: the one at hand, or the place's own in its segment
 abbrev pub glided : List ℕ → List ℕ → (List ℕ → List ℕ) → Bool → ℕ → Offset → Position → Glided
 glided t folds lay down n offset p =
     let kept = orOwn offset (offsetIn (lay (rowAt t (p .row))) (rowAt t (p .row)) (p .col)) in
     record { place = rounds (stepScreen t folds lay down kept) n p; offset = kept }
+
+-- r is that place and offset
+pub record GlidesTo (g r : Glided) : Type 0 where
+  pub answer : r ≡ g
+  pub small : r .offset ≤ 4294967295
 
 -- the target of a count; the offset is kept whether or not a step was made
 abbrev pub screenKept : (ℕ → ℕ) → List ℕ → List ℕ → ℕ → (List ℕ → List ℕ) → Bool → ℕ → ℕ → ℕ → Sticky → Offset → Kept

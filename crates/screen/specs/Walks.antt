@@ -46,6 +46,13 @@ abbrev pub Leads : List ℕ → List ℕ → (List ℕ → List ℕ) → Bool �
 Leads t folds lay down n s r =
     (offset : ℕ) → rounds (stepScreen t folds lay down offset) n (placeAt t lay down offset (s .row) (s .ahead)) ≡ placeAt t lay down offset (r .row) (r .ahead)
 
+-- r is such a spot
+pub record WalksTo (t folds : List ℕ) (lay : List ℕ → List ℕ) (down : Bool) (n : ℕ) (s r : Spot) : Type 0 where
+  pub leads : Leads t folds lay down n s r
+  pub stands : IsSpot t lay r
+
 -- a place with its row's start
-abbrev pub JumpedTo : List ℕ → Position → Jump → Type 0
-JumpedTo t p r = (record { row = r .row; col = r .col } ≡ p) × Stands t (r .row) (r .start) (r .start) × (r .col ≤ 1048576)
+pub record JumpedTo (t : List ℕ) (p : Position) (r : Jump) : Type 0 where
+  pub place : record { row = r .row; col = r .col } ≡ p
+  pub line : Stands t (r .row) (r .start) (r .start)
+  pub small : r .col ≤ 1048576

@@ -16,6 +16,7 @@ ghost use Rattle.screen.specs.Screen.{jumped, jumpedTo};
 ghost use Rattle.screen.specs.Walks.{JumpedTo};
 ghost use Rattle.screen.specs.Keeping.{startsAt};
 
+// The last row downwards, the first upwards.
 fn pick(down: bool, last: usize, first: usize) -> usize
     ensures { λ r. ⌜ r ≡ cond down last first ⌝ }
 {

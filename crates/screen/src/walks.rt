@@ -1,6 +1,6 @@
 // `gj` and `gk` under wrap: the rounds of `move_screen_vertical` of motions.rs. A row is walked
 // once to count its segments and once to come to the one wanted, whatever the count; no room for
-// segments is needed.
+// segments is needed. Long by its lists of parameters, a line for each.
 use crate::Glided;
 use crate::Offset;
 use crate::Seat;
@@ -19,8 +19,8 @@ ghost use Rattle.screen_segments.specs.Parts.{layOf};
 ghost use Rattle.text.specs.Offsets.{IsLine};
 ghost use Rattle.lists.specs.Rounds.{rounds};
 ghost use Rattle.screen.specs.Screen.{stepScreen};
-ghost use Rattle.screen.specs.Walks.{placeAt, aheadAt, seatAt, Ready, IsSpot, Leads};
-ghost use Rattle.screen.specs.Keeping.{orOwn, glided};
+ghost use Rattle.screen.specs.Walks.{placeAt, aheadAt, seatAt, Ready, IsSpot, WalksTo};
+ghost use Rattle.screen.specs.Keeping.{orOwn, OffsetIs, glided, GlidesTo};
 
 // So many rounds from a spot: segments of its row, and then from row to visible row.
 fn walk(
@@ -38,10 +38,8 @@ fn walk(
 ) -> Spot
     requires { ⌜ Ready (now zeros) (now doubles) (now white) (now t) (now folds) rows width ×
         IsSpot (now t) (layOf (widthBy (now zeros) (now doubles)) word width) from ⌝ }
-    ensures { λ r. ⌜ Leads (now (t .entry)) (now (folds .entry))
+    ensures { λ r. ⌜ WalksTo (now (t .entry)) (now (folds .entry))
         (layOf (widthBy (now (zeros .entry)) (now (doubles .entry))) word width) down n from r ⌝ }
-    ensures { λ r. ⌜ IsSpot (now (t .entry))
-        (layOf (widthBy (now (zeros .entry)) (now (doubles .entry))) word width) r ⌝ }
 {
     let mut row = from.row;
     let mut start = from.start;
@@ -253,8 +251,7 @@ fn rounds_from(
 // The offset at hand, or a place's own.
 fn or_own(offset: Offset, own: usize) -> usize
     requires { ⌜ own ≤ 1048576 ⌝ }
-    ensures { λ r. ⌜ r ≡ orOwn offset own ⌝ }
-    ensures { λ r. ⌜ r ≤ 4294967295 ⌝ }
+    ensures { λ r. ⌜ OffsetIs (orOwn offset own) r ⌝ }
 {
     match offset {
         Offset::Absent => own,
@@ -281,10 +278,9 @@ pub fn screen_from(
     requires { ⌜ Ready (now zeros) (now doubles) (now white) (now t) (now folds) rows width ×
         (0 < n) ⌝ }
     requires { ⌜ (col ≤ 1048576) × IsLine (now t) l ⌝ }
-    ensures { λ r. ⌜ r ≡ glided (now (t .entry)) (now (folds .entry))
+    ensures { λ r. ⌜ GlidesTo (glided (now (t .entry)) (now (folds .entry))
         (layOf (widthBy (now (zeros .entry)) (now (doubles .entry))) word width) down n offset
-        (record { row = l .row; col = col }) ⌝ }
-    ensures { λ r. ⌜ r .offset ≤ 4294967295 ⌝ }
+        (record { row = l .row; col = col })) r ⌝ }
 {
     let s = seat(zeros, doubles, white, t, width, word, down, l, col);
     let kept = or_own(offset, s.offset);

@@ -90,8 +90,8 @@ fn unkept(to: Target) -> Kept
     }
 }
 
-// So many segments down or up, count 0 as 1, by the offset at hand; with mode None or width 0 as `j`
-// and `k`, and then none is kept.
+// So many segments down or up, count 0 as 1, by the offset at hand; with mode None or width 0 as
+// `j` and `k`, and then none is kept.
 pub fn move_screen(
     zeros: &[u32],
     doubles: &[u32],

@@ -1,6 +1,5 @@
 -- A row of a wide character and `ab`, in one segment: `b` is 2 characters behind its start, and 3 cells. It holds by computation. Assumes nothing.
-use mathlib.Core.Path.{_≡_, refl}
-use mathlib.Core.List.{[], _∷_}
+use Rattle.lists.proofs.Kit.{_≡_, refl, [], _∷_}
 use Rattle.chars.specs.Width.{zeroWidths, doubleWidths, widthBy, widthOf}
 use Rattle.row_cells.specs.Offsets.{cellsIn, pairsBefore}
 use Rattle.screen_segments.specs.Parts.{offsetIn}

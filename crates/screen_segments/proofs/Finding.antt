@@ -1,12 +1,6 @@
 -- A walk over the segments of a row stops at the one that is looked for. Assumes nothing.
-use mathlib.Core.Path.{_≡_, refl, sym, ap, _∙_}
-use mathlib.Core.List.{List, [], _∷_}
-use mathlib.Core.Bool.{Bool, true, false}
-use Prim.Native.Nat.{ℕ, _+_, _-_, _*_, _/_, _≤_, _<_, min}
-use native.Mathlib.Decide.{decLt}
-use native.Mathlib.Omega.{arith}
-use lib.ListN.{length, getD, take, drop}
-use borrow.Author.Tests.{ne-eqb}
+use Rattle.lists.proofs.Kit.{_≡_, refl, sym, ap, _∙_, List, [], _∷_, Bool, true, false, ℕ, _+_, _-_, _*_, _/_, _≤_, _<_, min, decLt, arith, length, getD, take}
+use Rattle.lists.proofs.Kit.{drop, ne-eqb}
 use Rattle.chars.specs.White.{isWhite}
 use Rattle.row_segment.specs.Segments.{firstSegment}
 use Rattle.row_wrap.specs.Segments.{segmentsFrom}
@@ -44,8 +38,7 @@ part-eq : (segs : List ℕ) {k start end j : ℕ} → getD segs (2 * k) 0 ≡ st
 part-eq segs {k} s e q = (λ i. record { index = k; start = sym s i; end = sym e i }) ∙ ap (partAt segs) q
 
 module _ {w : ℕ → ℕ} {word : Bool} {width : ℕ} {row : List ℕ} {col index k start m : ℕ} (p : 0 < width) (so-far : Seeking w word width row col index k start)
-    (h : start < length row)
-    (slice : m ≡ firstSegment w isWhite word width (take (length row - start) (drop start row))) where
+    (h : start < length row) (slice : m ≡ firstSegment w isWhite word width (take (length row - start) (drop start row))) where
   next : NextSegment w isWhite word width row (2 * k) start (start + m)
   next = walk-next (so-far .passed) h slice
 
@@ -66,9 +59,7 @@ module _ {w : ℕ → ℕ} {word : Bool} {width : ℕ} {row : List ℕ} {col ind
 
   -- it has the number
   pub found-index : k ≡ index → record { index = k; start = start; end = start + m } ≡ partFor (layOf w word width row) col index
-  found-index e =
-      part-eq (layOf w word width row) low high
-      (omega (arith, seat-from here k col there (omega (arith, low, so-far .behind))))
+  found-index e = part-eq (layOf w word width row) low high (omega (arith, seat-from here k col there (omega (arith, low, so-far .behind))))
 
   -- it holds the column
   pub found-col : col < start + m → record { index = k; start = start; end = start + m } ≡ partFor (layOf w word width row) col index
@@ -80,8 +71,7 @@ module _ {w : ℕ → ℕ} {word : Bool} {width : ℕ} {row : List ℕ} {col ind
   pub found-last : start + m ≡ length row → start + m ≤ col → record { index = k; start = start; end = start + m } ≡ partFor (layOf w word width row) col index
   found-last e l =
       let end = walk-end (next .onward) (omega arith) in
-      part-eq (layOf w word width row) low high
-      (omega (arith, seat-last here col (omega arith), end, ap length is-lay, here .pairs, so-far .upto))
+      part-eq (layOf w word width row) low high (omega (arith, seat-last here col (omega arith), end, ap length is-lay, here .pairs, so-far .upto))
 
   -- or the walk goes on
   pub seek-on : (k ≡ index → ⊥) → start + m ≤ col → (start + m ≡ length row → ⊥) → Seeking w word width row col index (k + 1) (start + m)
@@ -103,8 +93,7 @@ seek-empty w word width row col index e =
     rw (by-laid, least-is)
 
 -- a walk that ends behind the row had nothing to walk
-pub seek-void :
-    {w : ℕ → ℕ} {word : Bool} {width : ℕ} {row : List ℕ} {col index k start : ℕ} → Seeking w word width row col index k start → length row ≤ start →
+pub seek-void : {w : ℕ → ℕ} {word : Bool} {width : ℕ} {row : List ℕ} {col index k start : ℕ} → Seeking w word width row col index k start → length row ≤ start →
     record { index = 0; start = 0; end = 0 } ≡ partFor (layOf w word width row) col index
 seek-void {w} {word} {width} {row} {col} {index} {k} {start} s h = go (decLt 0 (length row))
   where

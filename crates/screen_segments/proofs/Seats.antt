@@ -1,13 +1,6 @@
 -- The segments of a row, by their number: each holds the place that a screen move gives it. Assumes nothing.
-use mathlib.Core.Path.{_≡_, refl, ap}
-use mathlib.Core.List.{List, [], _∷_}
-use mathlib.Core.Bool.{and-false}
-use Prim.Native.Nat.{ℕ, zero, suc, _+_, _-_, _*_, _/_, _≤_, _<_}
-use native.Mathlib.Decide.{decLt}
-use native.Mathlib.Omega.{arith}
-use lib.Dec.{leb}
-use lib.ListN.{length, getD}
-use borrow.Author.Tests.{lt-ltb, le-ltb}
+use Rattle.lists.proofs.Kit.{_≡_, refl, ap, List, [], _∷_, and-false, ℕ, zero, suc, _+_, _-_, _*_, _/_, _≤_, _<_, decLt, arith, length, getD, leb, lt-ltb}
+use Rattle.lists.proofs.Kit.{le-ltb}
 use Rattle.chars.specs.White.{isWhite}
 use Rattle.row_wrap.specs.declared.Wrap.{Wrap}
 use Rattle.row_wrap.specs.Modes.{segmentsOf}
@@ -70,8 +63,7 @@ tiles-within a z (s ∷ e ∷ rest) (suc k) t h =
       low = rw product-is (omega (arith, t .0, t .1, by-tiles-within .low));
       long = rw (sum-is, product-is) (by-tiles-within .long);
       high = rw sum-is (by-tiles-within .high);
-      after =
-          λ col l.
+      after = λ col l.
           let l2 : getD rest (2 * k) 0 ≤ col = rw product-is at l in
           omega (
             arith,
@@ -88,9 +80,7 @@ module _ {len : ℕ} {segs : List ℕ} (l : Laid len segs) where
       go : Dec (0 < len) → segmentIndex segs (clampTo (getD segs (2 * j) 0) (getD segs (2 * j + 1) 0) offset len) ≡ j
       go (yes p) =
           let by-tiles-within = tiles-within 0 len segs j (l .tiles p) (omega (arith, l .pairs)) in
-          rw (lt-ltb _ _ (by-tiles-within .long))
-          (index-only len segs _ j (l .tiles p)
-          (record {
+          rw (lt-ltb _ _ (by-tiles-within .long)) (index-only len segs _ j (l .tiles p) (record {
             there = omega (arith, l .pairs);
             low = omega (arith, by-tiles-within .long, by-tiles-within .high);
             high = omega (arith, by-tiles-within .long, by-tiles-within .high);

@@ -1,6 +1,7 @@
 -- The segments of a row by their number: `lay` is how a row is broken, start, end, start, end .. From `step_screen` of motions.rs.
 -- Definitions only; the laws are in `proofs/Seats.antt` and `proofs/Finding.antt`. Assumes nothing.
-use Prim.Native.Nat.{ℕ, _+_, _-_, _*_, _/_, min, max}
+use Prim.Native.Nat.{ℕ, _+_, _-_, _*_, _/_, _≤_, _<_, min, max}
+use mathlib.Core.Path.{_≡_}
 use mathlib.Core.List.{List}
 use mathlib.Core.Bool.{Bool, cond}
 use lib.Dec.{ltb}
@@ -41,3 +42,12 @@ partAt segs j = record { index = j; start = getD segs (2 * j) 0; end = getD segs
 -- the segment of a column, or an earlier one that has the number
 abbrev pub partFor : List ℕ → ℕ → ℕ → Part
 partFor segs col index = partAt segs (min index (segmentIndex segs col))
+
+-- r is that segment, and how many there are
+pub record PartIs (row segs : List ℕ) (col index : ℕ) (r : Part) : Type 0 where
+  pub part : r ≡ partFor segs col index
+  pub inside : r .index ≤ length row
+
+pub record CountIs (segs : List ℕ) (r : ℕ) : Type 0 where
+  pub count : r ≡ segmentCount segs
+  pub some : 0 < r

@@ -7,11 +7,10 @@ ghost use mathlib.Core.Path.{_≡_};
 ghost use mathlib.Core.Bool.{cond};
 ghost use Prim.Native.Nat.{_+_, _-_, _≤_, _<_};
 ghost use lib.Dec.{ltb};
-ghost use lib.ListN.{length};
 ghost use Rattle.chars.specs.Width.{widthBy};
 ghost use Rattle.row_segment.specs.Lent.{Tables};
-ghost use Rattle.screen_segments.specs.Parts.{segmentCount, aheadOf, clampTo};
-ghost use Rattle.screen_segments.specs.Parts.{layOf, partFor};
+ghost use Rattle.screen_segments.specs.Parts.{aheadOf, clampTo};
+ghost use Rattle.screen_segments.specs.Parts.{layOf, PartIs, CountIs};
 
 // A segment of a row: its number, and where it starts and ends in the row.
 pub struct Part {
@@ -33,10 +32,9 @@ pub fn find_segment(
     index: usize,
 ) -> Part
     requires { ⌜ Tables (now zeros) (now doubles) (now white) × (0 < width) ⌝ }
-    ensures { λ r. ⌜ r ≡ partFor
+    ensures { λ r. ⌜ PartIs (now (row .entry))
         (layOf (widthBy (now (zeros .entry)) (now (doubles .entry))) word width (now (row .entry)))
-        col index ⌝ }
-    ensures { λ r. ⌜ r .index ≤ length (now (row .entry)) ⌝ }
+        col index r ⌝ }
 {
     let mut k: usize = 0;
     let mut start: usize = 0;
@@ -84,10 +82,9 @@ pub fn segment_count(
     word: bool,
 ) -> usize
     requires { ⌜ Tables (now zeros) (now doubles) (now white) × (0 < width) ⌝ }
-    ensures { λ r. ⌜ r ≡ segmentCount
+    ensures { λ r. ⌜ CountIs
         (layOf (widthBy (now (zeros .entry)) (now (doubles .entry))) word width (now (row .entry)))
-        ⌝ }
-    ensures { λ r. ⌜ 0 < r ⌝ }
+        r ⌝ }
 {
     let n = row.len();
     let last = find_segment(zeros, doubles, white, row, width, word, n, n);

@@ -1,12 +1,6 @@
 -- Laws of lines: one from its pieces, and how long they are. Assumes nothing.
-use mathlib.Core.Path.{_≡_, refl, sym, subst}
-use mathlib.Core.List.{List, [], _∷_, _++_}
-use mathlib.Core.Bool.{Bool, true, false, cond}
-use Prim.Native.Nat.{ℕ, suc, _+_, _*_, _≤_, _<_}
-use native.Mathlib.Omega.{arith}
-use lib.Dec.{eqb}
-use lib.ListN.{length, length-append, length-take}
-use borrow.Author.Tests.{ne-eqb}
+use Rattle.lists.proofs.Kit.{_≡_, refl, sym, subst, List, [], _∷_, _++_, Bool, true, false, cond, ℕ, suc, _+_, _*_, _≤_, _<_, arith, length, length-append}
+use Rattle.lists.proofs.Kit.{length-take, eqb, ne-eqb}
 use Rattle.text.specs.Text.{rows, onFirst}
 use Rattle.text.proofs.Rows.{rows-pos}
 use Rattle.lists.specs.Codes.{codes}
@@ -50,8 +44,7 @@ pub length-line : (what : List ℕ) (k : Caret) → length (lineOf what k) ≡ l
 unfolding lineOf codes
 length-line what k = simp length-append (omega arith)
 
-pub wrote-line :
-    (what : List ℕ) (k : Caret) {out o p q r s u : List ℕ} {at a b c d e f : ℕ} → Wrote out at what a o → Wrote o a (32 ∷ []) b p →
+pub wrote-line : (what : List ℕ) (k : Caret) {out o p q r s u : List ℕ} {at a b c d e f : ℕ} → Wrote out at what a o → Wrote o a (32 ∷ []) b p →
     Wrote p b (decimal (k .row)) c q → Wrote q c (32 ∷ []) d r → Wrote r d (decimal (k .col)) e s → Wrote s e (10 ∷ []) f u →
     Wrote out at (lineOf what k) f u
 unfolding lineOf codes
@@ -66,12 +59,10 @@ module _ (t : List ℕ) (k : Caret) where
   shown-turned : (row : List ℕ) → length (shownOf (keyPart row) (turned t k row)) ≤ 24 * length row + 1
   unfolding shownOf codes
   shown-turned [] = subst (λ (m : Moved). length (shownOf (keyPart []) m) ≤ 24 * 0 + 1) (sym turned-none) (omega arith)
-  shown-turned (x ∷ row) =
-      omega (arith, shown-most (keyPart (x ∷ row)) (turned t k (x ∷ row)), length-take (upTo 32 (x ∷ row)) (x ∷ row))
+  shown-turned (x ∷ row) = omega (arith, shown-most (keyPart (x ∷ row)) (turned t k (x ∷ row)), length-take (upTo 32 (x ∷ row)) (x ∷ row))
 
   line-most : (row : List ℕ) (c : Caret) → length (lineOf (shownOf (keyPart row) (turned t k row)) c) ≤ 24 * (length row + 1)
-  line-most row c =
-      omega (arith, length-line (shownOf (keyPart row) (turned t k row)) c, shown-turned row, length-decimal (c .row), length-decimal (c .col))
+  line-most row c = omega (arith, length-line (shownOf (keyPart row) (turned t k row)) c, shown-turned row, length-decimal (c .row), length-decimal (c .col))
 
 -- the bytes of rows, with a separator for each
 size : List (List ℕ) → ℕ

@@ -1,11 +1,5 @@
 -- What a session prints is ASCII, and so its own encoding: keys that are known, numbers, spaces and ends of lines. Assumes nothing.
-use mathlib.Core.Path.{_≡_, refl}
-use mathlib.Core.List.{List, [], _∷_, _++_}
-use mathlib.Core.Bool.{Bool, true, false, cond, _||_}
-use Prim.Native.Nat.{ℕ, zero, suc, _+_, _/_, _%_, _<_}
-use native.Mathlib.Omega.{arith}
-use lib.Dec.{eqb, ltb}
-use borrow.Author.Tests.{le-ltb, ltb-true}
+use Rattle.lists.proofs.Kit.{_≡_, refl, List, [], _∷_, _++_, Bool, true, false, cond, _||_, ℕ, zero, suc, _+_, _/_, _%_, _<_, arith, eqb, ltb, le-ltb, ltb-true}
 use Rattle.lists.specs.Lists.{any}
 use Rattle.lists.specs.Codes.{codes}
 use Rattle.utf8.specs.Encoding.{utf8, isAbove}
@@ -43,8 +37,7 @@ unfolding spell any
 plain-spell zero n = refl
 plain-spell (suc k) n = go (ltb n 10) refl (plain-spell k (n / 10))
   where
-    go :
-        (b : Bool) → ltb n 10 ≡ b → any isAbove (spell k (n / 10)) ≡ false →
+    go : (b : Bool) → ltb n 10 ≡ b → any isAbove (spell k (n / 10)) ≡ false →
         any isAbove (cond b ((48 + n) ∷ []) (spell k (n / 10) ++ ((48 + n % 10) ∷ []))) ≡ false
     go true p ih = plain-digit n (ltb-true n 10 p)
     go false p ih = plain-append (spell k (n / 10)) ((48 + n % 10) ∷ []) ih (plain-digit (n % 10) (omega arith))

@@ -1,9 +1,5 @@
 -- A key with a byte above ASCII is unknown, so that what is printed of a key is ASCII. Assumes nothing.
-use mathlib.Core.Path.{_≡_, refl, ap}
-use mathlib.Core.List.{List, [], _∷_}
-use mathlib.Core.Bool.{Bool, true, false, cond, not, _&&_}
-use Prim.Native.Nat.{ℕ}
-use native.Mathlib.Omega.{arith}
+use Rattle.lists.proofs.Kit.{_≡_, refl, ap, List, [], _∷_, Bool, true, false, cond, not, _&&_, ℕ, arith}
 use Rattle.lists.specs.Lists.{any, isSame}
 use Rattle.lists.specs.Codes.{codes}
 use Rattle.lists.proofs.Same.{same-true}
@@ -24,8 +20,7 @@ unfolding allPlain found
 found-none [] p name h = refl
 found-none (k ∷ l) p name h = go (isSame name (k .name)) (any isAbove (k .name)) refl refl p (λ q. found-none l q name h)
   where
-    go :
-        (b c : Bool) → isSame name (k .name) ≡ b → any isAbove (k .name) ≡ c → (not c && allPlain l) ≡ true →
+    go : (b c : Bool) → isSame name (k .name) ≡ b → any isAbove (k .name) ≡ c → (not c && allPlain l) ≡ true →
         (allPlain l ≡ true → found l name ≡ Key.Unknown) → cond b (k .key) (found l name) ≡ Key.Unknown
     go true true s a q ih = let never : _≡_ {A = ℕ} 0 1 = cc in absurd (omega arith)
     go true false s a q ih =

@@ -1,11 +1,5 @@
 -- Laws of what an input prints: refused or run, and within the room. Assumes nothing.
-use mathlib.Core.Path.{_≡_, refl, ap, sym, _∙_}
-use mathlib.Core.List.{List}
-use mathlib.Core.Bool.{Bool, true, false, cond}
-use Prim.Native.Nat.{ℕ, _≤_}
-use native.Mathlib.Omega.{arith}
-use lib.ListN.{length, drop}
-use lib.Seq.{sets-eq, length-take-le}
+use Rattle.lists.proofs.Kit.{_≡_, refl, ap, sym, _∙_, List, Bool, true, false, cond, ℕ, _≤_, arith, length, drop, sets-eq, length-take-le}
 use Rattle.lists.specs.Codes.{codes}
 use Rattle.print.specs.Print.{Wrote}
 use Rattle.utf8.specs.Walks.{pointsOf}

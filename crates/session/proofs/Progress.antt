@@ -1,10 +1,6 @@
 -- Laws of the loop: the lines of command rows one after another. Assumes nothing.
-use mathlib.Core.Path.{_≡_, ap, sym, subst, _∙_}
-use mathlib.Core.List.{List, [], _∷_, _++_, append-assoc, append-nil}
-use mathlib.Core.Bool.{true, false}
-use Prim.Native.Nat.{ℕ, _+_, _-_, _≤_, _<_}
-use native.Mathlib.Omega.{arith}
-use lib.ListN.{length, take, drop, length-append}
+use Rattle.lists.proofs.Kit.{_≡_, ap, sym, subst, _∙_, List, [], _∷_, _++_, append-assoc, append-nil, true, false, ℕ, _+_, _-_, _≤_, _<_, arith, length, take}
+use Rattle.lists.proofs.Kit.{drop, length-append}
 use Rattle.print.specs.Print.{Wrote}
 use Rattle.print.proofs.Laws.{wrote-none, wrote-then}
 use Rattle.session_row.specs.Commands.{keyPart, Ends}
@@ -32,12 +28,10 @@ progress-start input t out =
       near = omega arith;
     }
 
-pub progress-end :
-    {input t out₀ out : List ℕ} {k : Caret} {at i : ℕ} (p : Progress input t out₀ k at i out) → commandRows (splitFrom 10 input i) ≡ [] →
+pub progress-end : {input t out₀ out : List ℕ} {k : Caret} {at i : ℕ} (p : Progress input t out₀ k at i out) → commandRows (splitFrom 10 input i) ≡ [] →
     Wrote out₀ 0 (outputOf t input) at out
 unfolding linesOf
-progress-end {input} {t} {out₀} {out} {k} {at} p e =
-    subst (λ (s : List ℕ). Wrote out₀ 0 s at out)
+progress-end {input} {t} {out₀} {out} {k} {at} p e = subst (λ (s : List ℕ). Wrote out₀ 0 s at out)
     (sym (p .rest ∙ ap (λ (rs : List (List ℕ)). p .so-far ++ linesOf t k rs) e ∙ append-nil (p .so-far))) (p .wrote)
 
 module _ {input t out₀ out : List ℕ} {k : Caret} {at i e : ℕ} (p : Progress input t out₀ k at i out) (h : i ≤ length input) (w : Ends input i 10 e) where

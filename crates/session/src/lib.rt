@@ -1,5 +1,6 @@
 // Document 01's session: command rows, a row with only a full stop, and a text, all of it UTF-8
-// (document 02, #105). Every command row prints a line: its key, and the row and column of the caret then.
+// (document 02, #105). Every command row prints a line: its key, and the row and column of the
+// caret then.
 use motions::Caret;
 use motions::Moved;
 use print::put;

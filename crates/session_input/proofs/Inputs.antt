@@ -1,12 +1,5 @@
 -- Laws of an input: when it is refused. Assumes nothing.
-use mathlib.Core.Path.{_≡_, refl, _∙_}
-use mathlib.Core.List.{List}
-use mathlib.Core.Bool.{Bool, true, false, cond, not, _||_}
-use Prim.Native.Nat.{ℕ, _≤_, _<_}
-use native.Mathlib.Omega.{arith}
-use lib.Dec.{ltb}
-use lib.ListN.{length}
-use borrow.Author.Tests.{lt-ltb, le-ltb, ltb-false}
+use Rattle.lists.proofs.Kit.{_≡_, refl, _∙_, List, Bool, true, false, cond, not, _||_, ℕ, _≤_, _<_, arith, length, ltb, lt-ltb, le-ltb, ltb-false}
 use Rattle.text.specs.Text.{rows}
 use Rattle.utf8.specs.Decoding.{decoding}
 use Rattle.session_input.specs.declared.Begin.the-variants.{At, Refused}

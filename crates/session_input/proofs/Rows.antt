@@ -1,11 +1,5 @@
 -- Laws of an input: its rows one after another, and where the text begins. Assumes nothing.
-use mathlib.Core.Path.{_≡_, ap, sym, _∙_}
-use mathlib.Core.List.{List, _∷_}
-use mathlib.Core.Bool.{true, false}
-use Prim.Native.Nat.{ℕ, _+_, _-_, _≤_, _<_}
-use native.Mathlib.Omega.{arith}
-use lib.ListN.{length, take, drop, length-drop}
-use lib.Seq.{length-take-le}
+use Rattle.lists.proofs.Kit.{_≡_, ap, sym, _∙_, List, _∷_, true, false, ℕ, _+_, _-_, _≤_, _<_, arith, length, take, drop, length-drop, length-take-le}
 use Rattle.lists.specs.Lists.{upTo}
 use Rattle.lists.proofs.Splits.{splitFrom, split-from-start, split-from-end, split-from-step}
 use Rattle.text.specs.Text.{rows}

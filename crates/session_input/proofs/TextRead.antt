@@ -1,13 +1,6 @@
 -- Laws of an input as UTF-8: what the check tells, and the text that is read. Assumes nothing.
-use mathlib.Core.Path.{_≡_, refl, ap, sym, _∙_}
-use mathlib.Core.List.{List, [], _∷_, _++_}
-use mathlib.Core.Bool.{Bool, true, false, cond}
-use Prim.Native.Nat.{ℕ, _+_, _-_, _≤_, _<_}
-use native.Mathlib.Omega.{arith}
-use lib.Dec.{leb}
-use lib.ListN.{length, take, drop, length-append, length-drop, drop-of-length-le}
-use lib.Seq.{take-all, take-at, length-take-le}
-use borrow.Author.Tests.{leb-true, leb-false}
+use Rattle.lists.proofs.Kit.{_≡_, refl, ap, sym, _∙_, List, [], _++_, Bool, true, false, cond, ℕ, _-_, _≤_, arith, length, take, drop, length-append}
+use Rattle.lists.proofs.Kit.{length-drop, drop-of-length-le, take-all, take-at, length-take-le, leb, leb-true, leb-false}
 use Rattle.utf8.specs.declared.Checked.the-variants.{Points, Bad as Checked·Bad}
 use Rattle.utf8.specs.declared.Decoded.the-variants.{Text, Bad, Refused}
 use Rattle.utf8.specs.Decoding.{Reading, text, bad, decoding, reading}
@@ -40,14 +33,12 @@ text-none input from room h = record { front = rw (drop-of-length-le input h); w
 
 -- by the answers of the decoder; d is what stands from the index on
 module _ (d room : List ℕ) where
-  decoded-cases :
-      (r : Reading) → decoding d ≡ r → {n : ℕ} → Text n ≡ decoded r (length room) → (room′ : List ℕ) → room′ ≡ decodedIn r room →
+  decoded-cases : (r : Reading) → decoding d ≡ r → {n : ℕ} → Text n ≡ decoded r (length room) → (room′ : List ℕ) → room′ ≡ decodedIn r room →
       (take n room′ ≡ textOf r) × (n ≤ length room′)
   unfolding decoded decodedIn textOf
   decoded-cases (text t) e {n} q room′ left = go (leb (length t) (length room)) refl q left
     where
-      go :
-          (b : Bool) → leb (length t) (length room) ≡ b → Text n ≡ cond b (Text (length t)) (Refused 14) →
+      go : (b : Bool) → leb (length t) (length room) ≡ b → Text n ≡ cond b (Text (length t)) (Refused 14) →
           room′ ≡ cond b (t ++ drop (length t) room) room → (take n room′ ≡ t) × (n ≤ length room′)
       go true p f l =
           let size-is : length t ≡ n = cc in
@@ -92,5 +83,4 @@ module _ (input : List ℕ) (from : ℕ) (room room′ : List ℕ) (h : length i
   text-bad {p} e = record { front = sym (bad-none part room (decoding part) p e) ∙ ap pointsOf part-is; within = omega arith; counts = refl }
 
   pub text-short : {f : ℕ} → Refused f ≡ decoded (decoding part) (length room) → ⊥
-  text-short {f} e =
-      short-never part room (decoding part) refl f e (omega (arith, ap length part-is, length-drop from input))
+  text-short {f} e = short-never part room (decoding part) refl f e (omega (arith, ap length part-is, length-drop from input))

@@ -1,18 +1,10 @@
 -- Where the text of an input begins: at its end, or behind a byte 10; and so it is UTF-8 where the whole is. Assumes nothing.
-use mathlib.Core.Path.{_≡_, refl, ap, sym, subst, _∙_}
-use mathlib.Core.List.{List, [], _∷_, _++_, append-assoc}
-use mathlib.Core.Bool.{Bool, true, false, cond, not, _||_}
-use mathlib.Core.Logic.{_⊎_, inl, inr, ⊎-elim}
-use Prim.Native.Nat.{ℕ, zero, suc, _+_, _≤_, _<_}
-use native.Mathlib.Omega.{arith}
-use lib.Dec.{eqb, ltb}
-use lib.ListN.{length, drop, drop-of-length-le}
-use lib.Seq.{drop-append-add}
-use borrow.Author.Tests.{eqb-true}
+use Rattle.lists.proofs.Kit.{_≡_, refl, ap, sym, subst, _∙_, List, [], _∷_, _++_, append-assoc, Bool, true, false, cond, not, _||_, _⊎_, inl, inr, ⊎-elim, ℕ}
+use Rattle.lists.proofs.Kit.{suc, _+_, arith, length, drop, drop-of-length-le, drop-append-add, eqb, ltb, eqb-true}
 use Rattle.lists.specs.Lists.{onFirst}
 use Rattle.text.specs.Text.{rows}
 use Rattle.utf8.specs.Decoding.{Reading, text, bad, decoding, reading}
-use Rattle.utf8.specs.Walks.{textOf as readText, pointsOf}
+use Rattle.utf8.specs.Walks.{textOf as readText}
 use Rattle.utf8.proofs.Cuts.{good-behind}
 use Rattle.session_input.specs.Parts.{isStop, hasStop, textAt, textOf, isBad, isRefused}
 
@@ -79,8 +71,7 @@ text-behind (row ∷ next ∷ rest) = go (isStop row) (text-behind (next ∷ res
         let the-text = textAt (next ∷ rest) in
         let n = length row + 1 + the-text in
         let by-past = past the-text n (omega arith) in
-        ⊎-elim (λ none. inl (by-past ∙ none))
-        (λ some. inr (
+        ⊎-elim (λ none. inl (by-past ∙ none)) (λ some. inr (
           row ++ (10 ∷ some .0),
           ap (λ (l : List ℕ). row ++ (10 ∷ l)) (some .1) ∙ sym (append-assoc row (10 ∷ some .0) (10 ∷ drop the-text after))
               ∙ ap (λ (l : List ℕ). (row ++ (10 ∷ some .0)) ++ (10 ∷ l)) (sym by-past),
@@ -110,7 +101,5 @@ unfolding Behind readText reading
 text-good input e =
     let n = textAt (rows input) in
     let by-good-read = good-read (decoding input) (taken-good input e) in
-    ⊎-elim (λ none. rw none)
-    (λ some. good-behind (some .0) 10 (drop n input) (by-good-read .0) (omega arith)
-    (subst (λ (l : List ℕ). decoding l ≡ text (by-good-read .0)) (some .1) (by-good-read .1)))
-    (input-behind input)
+    ⊎-elim (λ none. rw none) (λ some. good-behind (some .0) 10 (drop n input) (by-good-read .0) (omega arith)
+    (subst (λ (l : List ℕ). decoding l ≡ text (by-good-read .0)) (some .1) (by-good-read .1))) (input-behind input)

@@ -1,5 +1,5 @@
--- The keys of a session by their bytes. Document 01, "The session".
--- What the contracts of `session_keys` and `session_presses` cite. Definitions only; the laws are in `proofs/` of `session_presses`. Assumes nothing.
+-- The keys of a session by their bytes. Document 01, "The session". What the contracts of `session_keys` and `session_presses` cite. Definitions only;
+-- the laws are in `proofs/` of `session_presses`. Long by its keys: a clause for each. Assumes nothing.
 use Prim.Native.Nat.{ℕ}
 use Prim.Native.String.{String}
 use mathlib.Core.List.{List, [], _∷_, _++_}

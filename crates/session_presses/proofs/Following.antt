@@ -1,10 +1,5 @@
 -- After `$`, `j` and `k` follow the ends of the rows: the sticky column is past the cells of every row. Assumes nothing.
-use mathlib.Core.Path.{_≡_, refl, subst}
-use mathlib.Core.List.{List, [], _∷_}
-use mathlib.Core.Bool.{Bool, true, false, cond}
-use Prim.Native.Nat.{ℕ, _≤_}
-use native.Mathlib.Omega.{arith}
-use lib.Dec.{eqb}
+use Rattle.lists.proofs.Kit.{_≡_, refl, subst, List, [], _∷_, Bool, true, false, cond, ℕ, _≤_, arith, eqb}
 use Rattle.lists.specs.Codes.{codes}
 use Rattle.lists.specs.Lists.{isSame}
 use Rattle.chars.specs.Width.{zeroWidths, doubleWidths, widthOf}
@@ -56,12 +51,9 @@ module _ (t : List ℕ) (n : ℕ) (k : Caret) where
       there : verticalRefusal t [] 8 k ≡ 0 → AtEnd t (atTarget (moveVertical (widthAs Narrow) t [] 8 (deltaOf down n) (k .row) (k .col) (k .sticky)))
       there z =
           let brief = accepted-short t (lowest-none (textRefusal t) _ z .0) in
-          rw (at .aims-past)
-          (record {
-            on-last =
-                vertical-last (widthAs Narrow) thin t brief 8 (omega arith) pastEnds (omega arith) [] (deltaOf down n) (k .row) (k .col)
-                (own t [] 8 k z .in-row)
-                (at .on-last);
+          rw (at .aims-past) (record {
+            on-last = vertical-last (widthAs Narrow) thin t brief 8 (omega arith) pastEnds (omega arith) [] (deltaOf down n) (k .row) (k .col)
+                (own t [] 8 k z .in-row) (at .on-last);
             aims-past = refl;
           })
 

@@ -1,7 +1,5 @@
 -- A law of keys: an empty one is unknown. Assumes nothing.
-use mathlib.Core.Path.{_≡_, refl}
-use mathlib.Core.List.{List, []}
-use Prim.Native.Nat.{ℕ}
+use Rattle.lists.proofs.Kit.{_≡_, refl, List, [], ℕ}
 use Rattle.lists.specs.Codes.{codes}
 use Rattle.lists.specs.Lists.{isSame}
 use Rattle.motions.specs.declared.Caret.{Caret}

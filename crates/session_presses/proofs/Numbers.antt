@@ -1,11 +1,5 @@
 -- No key that is known refuses with 0: so 0 stands for an unknown key alone. Assumes nothing.
-use mathlib.Core.Path.{_≡_, refl, sym, _∙_}
-use mathlib.Core.List.{List, [], _∷_}
-use mathlib.Core.Bool.{Bool, true, false, cond, _&&_, _||_}
-use Prim.Native.Nat.{ℕ, _+_}
-use native.Mathlib.Omega.{arith}
-use lib.Dec.{eqb, ltb}
-use borrow.Author.Tests.{eqb-false}
+use Rattle.lists.proofs.Kit.{_≡_, refl, sym, _∙_, List, [], _∷_, Bool, true, false, cond, _&&_, _||_, ℕ, _+_, arith, eqb, ltb, eqb-false}
 use Rattle.text_check.specs.Accept.{textRefusal}
 use Rattle.text.specs.Text.{rowCount, rowLen, rowAt}
 use Rattle.text.specs.Offsets.{rowStart}
@@ -123,8 +117,7 @@ unfolding allActs found isKnown
 found-unknown [] name all q = refl
 found-unknown (key ∷ rest) name all q = go (isSame name (key .name)) (isAct (actOf (key .key))) refl all q (found-unknown rest name)
   where
-    go :
-        (s a : Bool) → isAct (actOf (key .key)) ≡ a → (a && allActs rest) ≡ true → isAct (actOf (cond s (key .key) (found rest name))) ≡ false →
+    go : (s a : Bool) → isAct (actOf (key .key)) ≡ a → (a && allActs rest) ≡ true → isAct (actOf (cond s (key .key) (found rest name))) ≡ false →
         (allActs rest ≡ true → isAct (actOf (found rest name)) ≡ false → isKnown rest name ≡ false) → (s || isKnown rest name) ≡ false
     go true true e all q ih = let never : _≡_ {A = Bool} true false = sym e ∙ q in let nonsense : _≡_ {A = ℕ} 0 1 = cc in absurd (omega arith)
     go true false e all q ih = let never : _≡_ {A = ℕ} 0 1 = cc in absurd (omega arith)

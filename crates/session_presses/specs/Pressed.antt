@@ -1,5 +1,5 @@
--- What a key does: its move, and the sticky column after it. Document 01, "The session", and document 02, #104.
--- Definitions only; the laws are in `proofs/Laws.antt` and `proofs/Numbers.antt`. Assumes nothing.
+-- What a key does: its move, and the sticky column after it. Document 01, "The session", and document 02, #104. Definitions only; the laws are in
+-- `proofs/Laws.antt` and `proofs/Numbers.antt`. Long by its keys: a clause for each. Assumes nothing.
 use Prim.Native.Nat.{ℕ}
 use mathlib.Core.List.{List, []}
 use mathlib.Core.Bool.{Bool, true, false}

@@ -15,8 +15,8 @@ ghost use Rattle.session_presses.specs.Pressed.{held as Pressed·held};
 // The keyword list `@,48-57,_`.
 const LIST: [u32; 9] = [64, 44, 52, 56, 45, 53, 55, 44, 95];
 
-// What becomes of the sticky column after a key: it is cleared, stays as the move left it, or is set
-// past the end of every row.
+// What becomes of the sticky column after a key: it is cleared, stays as the move left it, or is
+// set past the end of every row.
 pub enum Column {
     Cleared,
     Kept,

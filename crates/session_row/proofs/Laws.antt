@@ -1,14 +1,6 @@
 -- Laws of command rows: what a comparison tells, the value of digits, and a row's count. Assumes nothing.
-use mathlib.Core.Path.{_≡_, sym, _∙_}
-use mathlib.Core.List.{List}
-use mathlib.Core.Bool.{Bool}
-use Prim.Native.Nat.{ℕ, _+_, _*_, _-_, _^_, _≤_, _<_}
-use native.Mathlib.Numerals.{add-one}
-use native.Mathlib.Nat.{pow-suc, pow-le-pow-right}
-use native.Mathlib.Omega.{arith}
-use lib.ListN.{length, getD, take, drop, drop-of-length-le, length-drop}
-use lib.Seq.{take-all}
-use borrow.Author.Tests.{lt-ltb, le-ltb, le-leb, lt-leb}
+use Rattle.lists.proofs.Kit.{_≡_, sym, _∙_, List, Bool, ℕ, _+_, _*_, _-_, _^_, _≤_, _<_, pow-suc, pow-le-pow-right, add-one, arith, length, getD, take, drop}
+use Rattle.lists.proofs.Kit.{drop-of-length-le, length-drop, take-all, lt-ltb, le-ltb, le-leb, lt-leb}
 use Rattle.lists.specs.Lists.{upTo, isSame}
 use Rattle.lists.proofs.Lists.{drop-at}
 use Rattle.lists.proofs.Same.{same-true}
@@ -20,8 +12,7 @@ same-told a b e = record { is = sym e; equal = λ h. same-true a b (e ∙ h) }
 
 -- digits
 module _ (l : List ℕ) (n i : ℕ) where
-  pub digits-on :
-      i < length l → 48 ≤ getD l i 0 → getD l i 0 ≤ 57 → digitsFrom n (drop i l) ≡ digitsFrom (n * 10 + (getD l i 0 - 48)) (drop (i + 1) l)
+  pub digits-on : i < length l → 48 ≤ getD l i 0 → getD l i 0 ≤ 57 → digitsFrom n (drop i l) ≡ digitsFrom (n * 10 + (getD l i 0 - 48)) (drop (i + 1) l)
   unfolding digitsFrom
   digits-on h p q = rw (drop-at l i h, le-leb 48 (getD l i 0) p, le-leb (getD l i 0) 57 q)
 

@@ -1,13 +1,6 @@
 -- Where characters on or back lead from a position in the text is a position of the text: a row of it, and at most the row's character count.
 -- Assumes nothing.
-use mathlib.Core.Path.{_≡_, refl}
-use mathlib.Core.List.{List}
-use mathlib.Core.Bool.{Bool, true, false, cond}
-use Prim.Native.Nat.{ℕ, _+_, _-_, _≤_, _<_, _^_}
-use native.Mathlib.Omega.{arith}
-use lib.Dec.{ltb}
-use lib.ListN.{length}
-use borrow.Author.Tests.{ltb-true}
+use Rattle.lists.proofs.Kit.{_≡_, refl, List, Bool, true, false, cond, ℕ, _+_, _-_, _≤_, _<_, _^_, arith, length, ltb, ltb-true}
 use Rattle.text.specs.Text.{rowCount, rowLen, position}
 use Rattle.text.proofs.Parts.{count-le, row-fits}
 use Rattle.text.specs.declared.Position.{Position}
@@ -20,8 +13,7 @@ pub accepted-in : {t : List ℕ} {p : Position} {e : Entry} → Accepted t p e �
 accepted-in h = record { in-row = h .here .in-row; in-col = omega (arith, h .here .in-col) }
 
 pub inside-fits : {t : List ℕ} {p : Position} → length t ≤ 1048576 → Inside t p → (p .row < 2 ^ 32) × (p .col < 2 ^ 32)
-inside-fits {t} {p} b i =
-    (omega (arith, b, i .in-row, count-le t), omega (arith, b, i .in-col, row-fits t (p .row) (i .in-row)))
+inside-fits {t} {p} b i = (omega (arith, b, i .in-row, count-le t), omega (arith, b, i .in-col, row-fits t (p .row) (i .in-row)))
 
 -- a choice of two positions
 pub either-in : (t : List ℕ) (b : Bool) (p q : Position) → Inside t p → Inside t q → Inside t (cond b p q)
@@ -44,6 +36,5 @@ module _ (t : List ℕ) (p : Position) (i : Inside t p) where
 
   pub backspace-in : Inside t (backspaceBack t p)
   unfolding backspaceBack
-  backspace-in =
-      either-in t (ltb 0 (p .col)) _ _ (position-in t (p .row) (p .col - 1) (i .in-row) (omega (arith, i .in-col)))
+  backspace-in = either-in t (ltb 0 (p .col)) _ _ (position-in t (p .row) (p .col - 1) (i .in-row) (omega (arith, i .in-col)))
       (either-in t (ltb 0 (p .row)) _ _ (position-in t (p .row - 1) (rowLen t (p .row - 1) - 1) (omega (arith, i .in-row)) (omega arith)) i)

@@ -1,12 +1,6 @@
 -- A walk on offsets goes through the rounds of `<Space>` and `<BS>`, by the code points around it.
 -- Assumes nothing.
-use mathlib.Core.Path.{_≡_, ap, sym, _∙_}
-use mathlib.Core.List.{List}
-use Prim.Native.Nat.{ℕ, _+_, _-_, _≤_, _<_}
-use native.Mathlib.Decide.{decLt}
-use native.Mathlib.Omega.{arith}
-use lib.ListN.{length, getD}
-use borrow.Author.Tests.{lt-ltb, le-ltb}
+use Rattle.lists.proofs.Kit.{_≡_, ap, sym, _∙_, List, ℕ, _+_, _-_, _≤_, _<_, decLt, arith, length, getD, lt-ltb, le-ltb}
 use Rattle.text.specs.Text.{rowCount, rowLen, position}
 use Rattle.text.specs.declared.Line.{Line}
 use Rattle.text.specs.Offsets.{rowStart, Stands, lineAt}

@@ -8,6 +8,7 @@ ghost use Rattle.positions.specs.Positions.{Accepted};
 ghost use Rattle.lists.specs.Rounds.{rounds};
 ghost use Rattle.steps.specs.Steps.{times, spaceFwd, backspaceBack};
 
+// On by so many characters, over the ends of rows.
 pub fn space_fwd(t: &[u32], p: Position, e: Entry, count: u32) -> Position
     requires { ⌜ Accepted (now t) p e ⌝ }
     ensures { λ r. ⌜ r ≡ rounds (spaceFwd (now (t .entry))) (times count) p ⌝ }
@@ -53,6 +54,7 @@ pub fn space_fwd(t: &[u32], p: Position, e: Entry, count: u32) -> Position
     }
 }
 
+// Back by so many characters, over the ends of rows.
 pub fn backspace_back(t: &[u32], p: Position, e: Entry, count: u32) -> Position
     requires { ⌜ Accepted (now t) p e ⌝ }
     ensures { λ r. ⌜ r ≡ rounds (backspaceBack (now (t .entry))) (times count) p ⌝ }

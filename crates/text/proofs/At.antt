@@ -1,12 +1,7 @@
 -- Row, column and offset: the laws by which a walk on offsets follows a definition on rows and columns, with no list of rows in sight.
 -- Assumes nothing.
-use mathlib.Core.Path.{_≡_, refl, ap, _∙_}
-use mathlib.Core.List.{List, [], _∷_}
-use Prim.Native.Nat.{ℕ, _+_, _-_, _≤_, _<_}
-use native.Mathlib.Decide.{decLt, ℕ-discrete}
-use native.Mathlib.Omega.{arith}
-use lib.ListN.{length, getD, drop, length-drop}
-use lib.Seq.{getD-drop, getD-take}
+use Rattle.lists.proofs.Kit.{_≡_, refl, ap, _∙_, List, [], _∷_, ℕ, _+_, _-_, _≤_, _<_, decLt, ℕ-discrete, arith, length, getD, drop, length-drop, getD-drop}
+use Rattle.lists.proofs.Kit.{getD-take}
 use Rattle.text.specs.Text.{rows, rowCount, rowAt, rowLen}
 use Rattle.text.specs.Offsets.{rowStart, At}
 use Rattle.text.proofs.Rows.{rows-pos, start-zero, count-nl, count-end, rest-nl, rest-on, rest-end}

@@ -1,13 +1,6 @@
 -- The place before an offset, that an offset has one row and one column, and the last place of a text.
 -- Assumes nothing.
-use mathlib.Core.Path.{_≡_, refl, ap}
-use mathlib.Core.List.{List}
-use Prim.Native.Nat.{ℕ, zero, suc, _+_, _-_, _≤_, _<_}
-use native.Mathlib.Nat.{add-zero}
-use native.Mathlib.Numerals.{add-one}
-use native.Mathlib.Decide.{decLt, ℕ-discrete}
-use native.Mathlib.Omega.{arith}
-use lib.ListN.{length, getD}
+use Rattle.lists.proofs.Kit.{_≡_, refl, ap, List, ℕ, zero, suc, _+_, _-_, _≤_, _<_, add-zero, add-one, decLt, ℕ-discrete, arith, length, getD}
 use Rattle.text.specs.Text.{rows, rowCount, rowLen}
 use Rattle.text.specs.Offsets.{startIn, rowStart, At}
 use Rattle.text.proofs.Rows.{rows-pos, start-zero}

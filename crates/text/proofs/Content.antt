@@ -1,14 +1,7 @@
 -- The rows with content, by offsets: the next row is one exactly if it starts before the end of the text.
 -- Assumes nothing.
-use mathlib.Core.Path.{_≡_, refl, ap, sym}
-use mathlib.Core.List.{List}
-use mathlib.Core.Bool.{Bool, true, false, cond, _&&_, and-false}
-use Prim.Native.Nat.{ℕ, _+_, _-_, _≤_, _<_}
-use native.Mathlib.Decide.{decLt, ℕ-discrete}
-use native.Mathlib.Omega.{arith}
-use lib.Dec.{eqb, ltb}
-use lib.ListN.{length, getD}
-use borrow.Author.Tests.{eq-eqb, ne-eqb, lt-ltb, le-ltb, ltb-true}
+use Rattle.lists.proofs.Kit.{_≡_, refl, ap, sym, List, Bool, true, false, cond, _&&_, and-false, ℕ, _+_, _-_, _≤_, _<_, decLt, ℕ-discrete, arith, length, getD}
+use Rattle.lists.proofs.Kit.{eqb, ltb, eq-eqb, ne-eqb, lt-ltb, le-ltb, ltb-true}
 use Rattle.text.specs.Text.{rowCount, rowLen, contentRows}
 use Rattle.text.specs.Offsets.{rowStart}
 use Rattle.text.proofs.Rows.{rows-pos}

@@ -1,7 +1,6 @@
 -- Worked examples of the definitions, as theorems: each holds by computation.
 -- The rows of a text, and what a text is refused for. Assumes nothing.
-use mathlib.Core.Path.{_≡_, refl}
-use mathlib.Core.List.{[], _∷_}
+use Rattle.lists.proofs.Kit.{_≡_, refl, [], _∷_}
 use Rattle.lists.specs.Lists.{any}
 use Rattle.text_check.specs.Accept.{textRefusal}
 use Rattle.text.specs.Text.{onFirst, rows, contentRowCount}

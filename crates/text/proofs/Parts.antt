@@ -1,14 +1,7 @@
 -- Rows as parts of the text: where they start, how far they go, and what the text holds from one on. What stands above cites `At` instead.
 -- Assumes nothing.
-use mathlib.Core.Path.{_≡_, ap, _∙_}
-use mathlib.Core.List.{List, [], _∷_}
-use Prim.Native.Nat.{ℕ, zero, suc, _+_, _≤_, _<_}
-use native.Mathlib.Nat.{add-zero}
-use native.Mathlib.Numerals.{add-one}
-use native.Mathlib.Decide.{ℕ-discrete}
-use native.Mathlib.Omega.{arith}
-use lib.ListN.{length, getD, take, drop, length-take, length-drop}
-use lib.Seq.{drop-cons, getD-drop, drop-drop}
+use Rattle.lists.proofs.Kit.{_≡_, ap, _∙_, List, [], _∷_, ℕ, zero, suc, _+_, _≤_, _<_, add-zero, add-one, ℕ-discrete, arith, length, getD, take, drop}
+use Rattle.lists.proofs.Kit.{length-take, length-drop, drop-cons, getD-drop, drop-drop}
 use Rattle.text.specs.Text.{rows, rowCount, rowAt, rowLen}
 use Rattle.text.specs.Offsets.{startIn, rowStart}
 use Rattle.text.proofs.Rows.{rows-nl, rows-on, rows-nil, rows-pos, on-length, on-head, on-later, on-start, start-void, start-zero}
@@ -75,19 +68,17 @@ module _ (t : List ℕ) (r : ℕ) (h : r < rowCount t) where
 
   -- it lies within the text
   pub row-fits : rowStart t r + rowLen t r ≤ length t
-  row-fits =
-      omega (arith, from-row t r h .within, ap length row-part, length-take (rowLen t r) (drop (rowStart t r) t), length-drop (rowStart t r) t)
+  row-fits = omega (arith, from-row t r h .within, ap length row-part, length-take (rowLen t r) (drop (rowStart t r) t), length-drop (rowStart t r) t)
 
   -- from its column c on, the text has the rest of the row, and the rows after it
   pub rows-at : (c : ℕ) → c ≤ rowLen t r → rows (drop (rowStart t r + c) t) ≡ drop c (rowAt t r) ∷ drop (r + 1) (rows t)
-  rows-at c l =
-      rw (
-        ← drop-drop c (rowStart t r) t,
-        in-first (drop (rowStart t r) t) c (omega (arith, ap length row-first)),
-        ← row-first,
-        from-row t r h .has,
-        drop-drop 1 r (rows t),
-      )
+  rows-at c l = rw (
+    ← drop-drop c (rowStart t r) t,
+    in-first (drop (rowStart t r) t) c (omega (arith, ap length row-first)),
+    ← row-first,
+    from-row t r h .has,
+    drop-drop 1 r (rows t),
+  )
 
 -- where the next row starts
 start-next : (rs : List (List ℕ)) (r : ℕ) → r < length rs → startIn rs (suc r) ≡ startIn rs r + length (getD rs r []) + 1

@@ -1,15 +1,7 @@
 -- Laws of the list of rows, by the code point at an offset of the text, as a loop reads it. What stands above cites `At` instead.
 -- Assumes nothing.
-use mathlib.Core.Path.{_≡_, refl, sym, _∙_}
-use mathlib.Core.List.{List, [], _∷_}
-use mathlib.Core.Bool.{Bool, true, false, cond}
-use Prim.Native.Nat.{ℕ, zero, suc, _+_, _-_, _≤_, _<_}
-use native.Mathlib.Numerals.{add-one, sub-one}
-use native.Mathlib.Decide.{decLe}
-use native.Mathlib.Omega.{arith}
-use lib.Dec.{eqb}
-use lib.ListN.{length, getD, drop, drop-of-length-le}
-use borrow.Author.Tests.{eq-eqb, ne-eqb}
+use Rattle.lists.proofs.Kit.{_≡_, refl, sym, _∙_, List, [], _∷_, Bool, true, false, cond, ℕ, zero, suc, _+_, _-_, _≤_, _<_, add-one, sub-one, decLe, arith}
+use Rattle.lists.proofs.Kit.{length, getD, drop, drop-of-length-le, eqb, eq-eqb, ne-eqb}
 use Rattle.text.specs.Text.{onFirst, rows, rowCount, rowLen}
 use Rattle.text.specs.Offsets.{startIn, rowStart}
 use Rattle.lists.specs.Lists.{split}

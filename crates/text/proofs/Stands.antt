@@ -1,15 +1,7 @@
--- An offset beside its row and the row's start, as walks keep them: one code point on or back, and the row of an offset.
--- Assumes nothing.
-use mathlib.Core.Path.{_≡_, refl, ap, sym, _∙_}
-use mathlib.Core.List.{List, [], _∷_}
-use mathlib.Core.Bool.{Bool, true, false, cond}
-use Prim.Native.Nat.{ℕ, zero, suc, _+_, _-_, _≤_, _<_}
-use native.Mathlib.Numerals.{add-one}
-use native.Mathlib.Decide.{ℕ-discrete}
-use native.Mathlib.Omega.{arith}
-use lib.Dec.{eqb, ltb}
-use lib.ListN.{length, getD}
-use borrow.Author.Tests.{eq-eqb, ne-eqb, ltb-true, ltb-false}
+-- An offset beside its row and the row's start, as walks keep them: one code point on or back, and the row of an offset. Long by its steps: one code
+-- point on, one back, and over a row's end. Assumes nothing.
+use Rattle.lists.proofs.Kit.{_≡_, refl, ap, sym, _∙_, List, [], _∷_, Bool, true, false, cond, ℕ, zero, suc, _+_, _-_, _≤_, _<_, add-one, ℕ-discrete, arith}
+use Rattle.lists.proofs.Kit.{length, getD, eqb, ltb, eq-eqb, ne-eqb, ltb-true, ltb-false}
 use Rattle.text.specs.Text.{rowCount, rowLen}
 use Rattle.text.specs.Offsets.{rowStart, At, Stands, IsLine, lineAt, Reached, endFrom, rowOf}
 use Rattle.text.specs.declared.Line.{Line}
@@ -108,8 +100,7 @@ module _ {t : List ℕ} {row start at : ℕ} (s : Stands t row start at) where
 
   -- the same row, at another offset
   pub stands-in : (b : ℕ) → start ≤ b → b ≤ start + rowLen t row → Stands t row start b
-  stands-in b l h =
-      at-stands (at-col (stands-at s) (b - start) b (omega arith) (omega (arith, s .from))) start (s .begins)
+  stands-in b l h = at-stands (at-col (stands-at s) (b - start) b (omega arith) (omega (arith, s .from))) start (s .begins)
 
   -- the end of the row
   pub stands-end : endFrom t at ≡ start + rowLen t row

@@ -1,12 +1,6 @@
 -- A stretch of the text that is passed over: the rows go on by the separators that it has.
 -- Assumes nothing.
-use mathlib.Core.Path.{_≡_, refl, ap, _∙_}
-use mathlib.Core.List.{List, _∷_}
-use Prim.Native.Nat.{ℕ, zero, suc, _+_, _-_, _≤_}
-use native.Mathlib.Nat.{add-zero}
-use native.Mathlib.Decide.{ℕ-discrete}
-use native.Mathlib.Omega.{arith}
-use lib.ListN.{length, getD, take, drop}
+use Rattle.lists.proofs.Kit.{_≡_, refl, ap, _∙_, List, _∷_, ℕ, zero, suc, _+_, _-_, _≤_, add-zero, ℕ-discrete, arith, length, getD, take, drop}
 use Rattle.lists.proofs.Lists.{drop-at}
 use Rattle.text.specs.Text.{rowCount}
 use Rattle.text.specs.Offsets.{rowStart, Stands, rowOf}
@@ -22,8 +16,7 @@ passes : (t : List ℕ) (k row start at s : ℕ) → Stands t row start at → a
 passes t zero row start at s w h e =
     let none : s ≡ 0 = omega (arith, ap length rows-nil) in
     rw (none, add-zero row, add-zero at) (at-stands (stands-at w) (rowStart t row) refl)
-passes t (suc k) row start at s w h e =
-    go (ℕ-discrete (getD t at 0) 10) (λ r b n v l c. passes t k r b (at + 1) n v l c)
+passes t (suc k) row start at s w h e = go (ℕ-discrete (getD t at 0) 10) (λ r b n v l c. passes t k r b (at + 1) n v l c)
   where
     split : take (suc k) (drop at t) ≡ getD t at 0 ∷ take k (drop (at + 1) t)
     split = ap (take (suc k)) (drop-at t at (omega arith))
@@ -33,16 +26,14 @@ passes t (suc k) row start at s w h e =
         let same : at + 1 + k ≡ at + suc k = omega arith in
         rw (← q, ← same) v
 
-    go : Dec (getD t at 0 ≡ 10) →
-        ((r b n : ℕ) → Stands t r b (at + 1) → at + 1 + k ≤ length t → n + 1 ≡ rowCount (take k (drop (at + 1) t)) →
+    go : Dec (getD t at 0 ≡ 10) → ((r b n : ℕ) → Stands t r b (at + 1) → at + 1 + k ≤ length t → n + 1 ≡ rowCount (take k (drop (at + 1) t)) →
         Stands t (r + n) (rowStart t (r + n)) (at + 1 + k)) →
         Stands t (row + s) (rowStart t (row + s)) (at + suc k)
     go (yes n) ih =
         let s-plus-one : s + 1 ≡ suc (rowCount (take k (drop (at + 1) t))) = e ∙ ap rowCount split ∙ count-cons-nl (getD t at 0) (take k (drop (at + 1) t)) n in
         let by-rows-pos = rows-pos (take k (drop (at + 1) t)) in
         place (row + 1 + (s - 1)) (omega arith) (ih (row + 1) (at + 1) (s - 1) (step-nl w (omega arith) n) (omega arith) (omega arith))
-    go (no n) ih =
-        place (row + s) refl
+    go (no n) ih = place (row + s) refl
         (ih row start s (step-char w (omega arith) n) (omega arith) (e ∙ ap rowCount split ∙ count-cons-on (getD t at 0) (take k (drop (at + 1) t)) n))
 
 -- from one offset on to another, and back

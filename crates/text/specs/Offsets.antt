@@ -49,6 +49,12 @@ pub record Reached (t : List ℕ) (r : ℕ) (l : Line) : Type 0 where
 abbrev pub endFrom : List ℕ → ℕ → ℕ
 endFrom t at = at + rowLen (drop at t) 0
 
+-- e is that end
+pub record EndsAt (t : List ℕ) (at e : ℕ) : Type 0 where
+  pub place : e ≡ endFrom t at
+  pub after : at ≤ e
+  pub inside : e ≤ length t
+
 -- the row of an offset: the separators before it
 unfoldable pub rowOf : List ℕ → ℕ → ℕ
 rowOf t zero = 0

@@ -1,6 +1,7 @@
 -- What a text is: its rows, and those with content. A text is a list of code points.
 -- From document 01, "Text, rows, carets". Definitions only; the laws are in `proofs/`. Assumes nothing.
-use Prim.Native.Nat.{ℕ, _-_}
+use mathlib.Core.Path.{_≡_}
+use Prim.Native.Nat.{ℕ, _+_, _-_, _≤_}
 use mathlib.Core.List.{List, [], _∷_}
 use mathlib.Core.Bool.{cond, _&&_}
 use lib.ListN.{length, getD}
@@ -28,6 +29,11 @@ rowAt t r = getD (rows t) r []
 
 abbrev pub rowLen : List ℕ → ℕ → ℕ
 rowLen t r = length (rowAt t r)
+
+-- r is how many separators a part has, one fewer than its rows
+pub record Separators (part : List ℕ) (r : ℕ) : Type 0 where
+  pub count : r + 1 ≡ rowCount part
+  pub inside : r ≤ length part
 
 -- the last column of a row: 0 of an empty one
 abbrev pub lastCol : List ℕ → ℕ → ℕ

@@ -3,7 +3,7 @@
 ghost use mathlib.Core.Path.{_≡_};
 ghost use Prim.Native.Nat.{_+_, _-_, _≤_, min, max};
 ghost use lib.ListN.{length};
-ghost use Rattle.text.specs.Text.{rowCount, contentRows, contentRowCount};
+ghost use Rattle.text.specs.Text.{rowCount, Separators, contentRows, contentRowCount};
 
 pub mod offsets;
 
@@ -32,7 +32,7 @@ const STRETCH: usize = 256;
 // loop by the end alone, so that the compiler reads and counts many code points at a time.
 fn few(part: &[u32]) -> u32
     requires { ⌜ length (now part) ≤ 1048576 ⌝ }
-    ensures { λ r. ⌜ (r + 1 ≡ rowCount (now (part .entry))) × (r ≤ length (now (part .entry))) ⌝ }
+    ensures { λ r. ⌜ Separators (now (part .entry)) r ⌝ }
 {
     let mut n: u32 = 0;
     let mut i: usize = 0;
@@ -49,7 +49,7 @@ fn few(part: &[u32]) -> u32
 
 // How many separators a part of a text has, stretch by stretch.
 pub fn separators(part: &[u32]) -> usize
-    ensures { λ r. ⌜ (r + 1 ≡ rowCount (now (part .entry))) × (r ≤ length (now (part .entry))) ⌝ }
+    ensures { λ r. ⌜ Separators (now (part .entry)) r ⌝ }
 {
     let len = part.len();
     let mut n: usize = 0;
@@ -108,12 +108,14 @@ pub fn least(a: usize, b: usize) -> usize
     if a < b { a } else { b }
 }
 
+// The greater of two.
 pub fn most(a: usize, b: usize) -> usize
     ensures { λ r. ⌜ r ≡ max a b ⌝ }
 {
     if a < b { b } else { a }
 }
 
+// The difference, 0 where the second is the greater.
 pub fn minus(a: usize, b: usize) -> usize
     ensures { λ r. ⌜ r ≡ a - b ⌝ }
 {

@@ -9,7 +9,8 @@ ghost use mathlib.Core.Path.{_≡_};
 ghost use Prim.Native.Nat.{_+_, _-_, _≤_, _<_};
 ghost use lib.ListN.{length};
 ghost use Rattle.text.specs.Text.{rowCount, rowAt, rowLen};
-ghost use Rattle.text.specs.Offsets.{rowStart, Stands, IsLine, lineAt, Reached, endFrom, rowOf};
+ghost use Rattle.text.specs.Offsets.{rowStart, Stands, IsLine, lineAt, Reached, EndsAt};
+ghost use Rattle.text.specs.Offsets.{rowOf};
 
 // Row `to`, which lies below row `row`, by a walk from the offset `at` of that one; or the last row
 // where the text has no row `to`.
@@ -146,6 +147,7 @@ pub fn next_line(t: &[u32], l: Line) -> Line
     }
 }
 
+// The row before a row; of the first, the first itself.
 pub fn prev_line(t: &[u32], l: Line) -> Line
     requires { ⌜ IsLine (now t) l ⌝ }
     ensures { λ r. ⌜ r ≡ lineAt (now (t .entry)) (l .row - 1) ⌝ }
@@ -197,8 +199,7 @@ pub fn line_to(t: &[u32], row: usize, at: usize, to: usize) -> Line
 // The end of the row that has the offset `at`: its separator, or the end of the text.
 pub fn row_end(t: &[u32], at: usize) -> usize
     requires { ⌜ at ≤ length (now t) ⌝ }
-    ensures { λ e. ⌜ (e ≡ endFrom (now (t .entry)) at) × (at ≤ e) ×
-        (e ≤ length (now (t .entry))) ⌝ }
+    ensures { λ e. ⌜ EndsAt (now (t .entry)) at e ⌝ }
 {
     let mut e = at;
     while e < t.len() {

@@ -1,13 +1,7 @@
 -- Laws of the check of a text: what its two passes find, and what an accepted text is.
 -- Assumes nothing.
-use mathlib.Core.Path.{_≡_, refl}
-use mathlib.Core.List.{List, [], _∷_}
-use mathlib.Core.Bool.{Bool, true, false, cond, _&&_, _||_}
-use Prim.Native.Nat.{ℕ, _≤_}
-use native.Mathlib.Omega.{arith}
-use lib.Dec.{ltb, leb, eqb}
-use lib.ListN.{length}
-use borrow.Author.Tests.{ltb-false, leb-false, le-leb, le-ltb, lt-ltb, ne-eqb}
+use Rattle.lists.proofs.Kit.{_≡_, refl, List, [], _∷_, Bool, true, false, cond, _&&_, _||_, ℕ, _≤_, arith, length, ltb, leb, eqb, ltb-false, leb-false, le-leb}
+use Rattle.lists.proofs.Kit.{le-ltb, lt-ltb, ne-eqb}
 use Rattle.lists.specs.Lists.{any}
 use Rattle.chars.specs.Scalar.{notScalar}
 use Rattle.text_check.specs.Accept.{isBreak, isLow, isSeparator, isHigh, highRefusal, textRefusal}
@@ -55,12 +49,23 @@ no-separator-below x e =
     let below = leb-false 0x2028 x e in
     rw (ne-eqb x 0x2028 (λ q. omega (arith, below, q)), ne-eqb x 0x2029 (λ q. omega (arith, below, q)))
 
+-- what a pass over the high clears, where it is left out for a text without any
+pub high-clear : (t : List ℕ) (high : Bool) → (high ≡ false → any isHigh t ≡ false) → cond high (highRefusal t) 0 ≡ 0 →
+    (any notScalar t ≡ false) × (any isSeparator t ≡ false)
+unfolding highRefusal
+high-clear t false low e = (none notScalar scalar-below t (low refl), none isSeparator no-separator-below t (low refl))
+high-clear t true low e = go (any notScalar t) (any isSeparator t) e
+  where
+    go : (w s : Bool) → _≡_ {A = ℕ} (cond w 2 (cond s 3 0)) 0 → (w ≡ false) × (s ≡ false)
+    go true s e = absurd (omega arith)
+    go false true e = absurd (omega arith)
+    go false false e = (refl, refl)
+
 -- the check of an accepted length by its two passes
 pub by-passes : (t : List ℕ) → length t ≤ 1048576 → (f : ℕ) → f ≡ cond (any isHigh t) (highRefusal t) 0 →
     textRefusal t ≡ cond (eqb f 0) (cond (any isLow t) 3 0) f
 unfolding textRefusal highRefusal
-by-passes t h f e =
-    rw (le-ltb 1048576 (length t) h, breaks t, e)
+by-passes t h f e = rw (le-ltb 1048576 (length t) h, breaks t, e)
     (go (any isHigh t) (any notScalar t) (any isLow t) (any isSeparator t) (none notScalar scalar-below t) (none isSeparator no-separator-below t))
   where
     go : (h w l s : Bool) → (h ≡ false → w ≡ false) → (h ≡ false → s ≡ false) →
@@ -93,3 +98,8 @@ all-scalar t e = go (ltb 1048576 (length t)) (any notScalar t) (any isBreak t) e
     go true b d h = absurd (omega arith)
     go false true d h = absurd (omega arith)
     go false false d h = refl
+
+-- and what is short, and has none of what is refused, is accepted
+pub accepted-clear : (t : List ℕ) → length t ≤ 1048576 → any notScalar t ≡ false → any isSeparator t ≡ false → any isLow t ≡ false → textRefusal t ≡ 0
+unfolding textRefusal
+accepted-clear t h scalars separators low = rw (le-ltb 1048576 (length t) h, breaks t, scalars, low, separators)

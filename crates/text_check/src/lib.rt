@@ -5,7 +5,7 @@ ghost use Rattle.text_check.specs.Accept.{highRefusal, textRefusal};
 
 // What is to be found from U+2028 on, where there is anything: 2 a value that is no scalar value, 3
 // one of the two separators; else 0.
-fn high_refusal(t: &[u32], high: bool) -> u32
+pub fn high_refusal(t: &[u32], high: bool) -> u32
     ensures { λ r. ⌜ r ≡ cond high (highRefusal (now (t .entry))) 0 ⌝ }
 {
     if !high {

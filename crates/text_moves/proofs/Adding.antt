@@ -1,12 +1,6 @@
 -- Counts of a way add, so many of it and then so many more: one more of the count is one and then the rest, for each way that is a round again and again.
 -- A way that stops stays where it stopped. Assumes nothing.
-use mathlib.Core.Path.{_≡_, refl, ap, _∙_}
-use mathlib.Core.List.{List}
-use mathlib.Core.Bool.{Bool, true, false, cond}
-use Prim.Native.Nat.{ℕ, suc, _+_, _-_, _<_, min, max}
-use native.Mathlib.Omega.{arith}
-use lib.Dec.{eqb, leb}
-use borrow.Author.Tests.{eqb-true, leb-true}
+use Rattle.lists.proofs.Kit.{_≡_, refl, ap, _∙_, List, Bool, true, false, cond, ℕ, suc, _+_, _-_, _<_, min, max, arith, eqb, leb, eqb-true, leb-true}
 use Rattle.lists.specs.Rounds.{rounds}
 use Rattle.lists.proofs.Rounds.{rounds-add, counts-add}
 use Rattle.text.specs.Text.{contentRows}
@@ -58,8 +52,7 @@ module _ (t : List ℕ) where
       last : ℕ
       last = contentRows t - 1
 
-      on : leb last (p .row) ≡ false → (b : Bool) → leb last (min (p .row + max 1 1) last) ≡ b →
-          atRow t (min (p .row + max (n + 1) 1) last) ≡
+      on : leb last (p .row) ≡ false → (b : Bool) → leb last (min (p .row + max 1 1) last) ≡ b → atRow t (min (p .row + max (n + 1) 1) last) ≡
           cond b (atRow t (min (p .row + max 1 1) last)) (atRow t (min (min (p .row + max 1 1) last + max n 1) last))
       on q true e = ap (atRow t) (omega (arith, leb-true last (min (p .row + max 1 1) last) e))
       on q false e = ap (atRow t) (omega arith)

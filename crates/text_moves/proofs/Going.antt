@@ -1,10 +1,6 @@
 -- Where each move leads from a position in the text is a position of the text: a row of it, and at most the row's character count.
 -- Assumes nothing.
-use mathlib.Core.List.{List}
-use mathlib.Core.Bool.{true, false, _&&_}
-use Prim.Native.Nat.{ℕ, _+_, _-_, _≤_, min, max}
-use native.Mathlib.Omega.{arith}
-use lib.Dec.{eqb, ltb, leb}
+use Rattle.lists.proofs.Kit.{List, true, false, _&&_, ℕ, _+_, _-_, _≤_, min, max, arith, eqb, ltb, leb}
 use Rattle.lists.proofs.Rounds.{rounds-keep}
 use Rattle.text.specs.Text.{rowAt, rowLen, contentRows}
 use Rattle.text.proofs.Rows.{rows-pos}
@@ -35,17 +31,14 @@ gone-in t way.FirstNonBlank n p i = col-in t p i (min (indentOf (rowAt t (p .row
 gone-in t way.LineEnd n p i = col-in t p i (rowLen t (p .row) - 1) (omega arith)
 gone-in t way.GotoColumn n p i = col-in t p i (min (n - 1) (rowLen t (p .row) - 1)) (omega arith)
 gone-in t way.LastNonBlank n p i = col-in t p i (solidOf (rowAt t (p .row)) - 1) (omega (arith, solid-le (rowAt t (p .row))))
-gone-in t way.ParagraphPrev n p i =
-    up-at-in t p i (paragraphs t false (max n 1 - 1) (p .row)) (paragraphs-in t false (max n 1 - 1) (p .row) (i .in-row))
-gone-in t way.ParagraphNext n p i =
-    down-at-in t p i (paragraphs t true (max n 1 - 1) (p .row)) (paragraphs-in t true (max n 1 - 1) (p .row) (i .in-row))
+gone-in t way.ParagraphPrev n p i = up-at-in t p i (paragraphs t false (max n 1 - 1) (p .row)) (paragraphs-in t false (max n 1 - 1) (p .row) (i .in-row))
+gone-in t way.ParagraphNext n p i = down-at-in t p i (paragraphs t true (max n 1 - 1) (p .row)) (paragraphs-in t true (max n 1 - 1) (p .row) (i .in-row))
 gone-in t way.SectionBackward n p i = back-in t p i 123 n
 gone-in t way.SectionForward n p i = on-in t p i 123 n
 gone-in t way.SectionEndBackward n p i = back-in t p i 125 n
 gone-in t way.SectionEndForward n p i = on-in t p i 125 n
 gone-in t way.NextLine n p i = either-in t (leb (contentRows t - 1) (p .row)) p _ i (content-in t (p .row + max n 1))
 gone-in t way.PrevLine n p i = either-in t (eqb (p .row) 0) p _ i (row-in t (p .row - max n 1) (omega (arith, i .in-row)))
-gone-in t way.ThisLine n p i =
-    either-in t (ltb 0 (max n 1 - 1) && leb (contentRows t - 1) (p .row)) p _ i (content-in t (p .row + (max n 1 - 1)))
+gone-in t way.ThisLine n p i = either-in t (ltb 0 (max n 1 - 1) && leb (contentRows t - 1) (p .row)) p _ i (content-in t (p .row + (max n 1 - 1)))
 gone-in t way.Top n p i = row-in t 0 (rows-pos t)
 gone-in t way.Bottom n p i = bottom-in t n (eqb n 0)

@@ -1,9 +1,6 @@
 -- Where a paragraph motion was led to, as its callers go by: what the walk answered, for the count that it was given.
 -- Assumes nothing.
-use Prim.Native.Nat.{ℕ, _-_}
-use mathlib.Core.Path.{_≡_, ap, sym, _∙_}
-use mathlib.Core.List.{List}
-use mathlib.Core.Bool.{Bool}
+use Rattle.lists.proofs.Kit.{_≡_, ap, sym, _∙_, List, Bool, ℕ, _-_}
 use Rattle.row_walks.specs.Paragraphs.{paragraphs}
 use Rattle.row_walks.specs.declared.Paragraph.{Paragraph}
 

@@ -1,10 +1,6 @@
 -- Where each move to another row leads from a position in the text is a position of the text: a row of it, and at most the row's character count.
 -- Assumes nothing.
-use mathlib.Core.List.{List}
-use mathlib.Core.Bool.{Bool, true, false, cond}
-use Prim.Native.Nat.{ℕ, zero, suc, _+_, _-_, _≤_, _<_, min, max}
-use native.Mathlib.Omega.{arith}
-use lib.Dec.{eqb}
+use Rattle.lists.proofs.Kit.{List, Bool, true, false, cond, ℕ, zero, suc, _+_, _-_, _≤_, _<_, min, max, arith, eqb}
 use Rattle.text.specs.Text.{rowCount, rowLen, contentRows}
 use Rattle.text.proofs.Content.{content-near}
 use Rattle.margins.specs.Margins.{firstNonBlank}
@@ -51,8 +47,7 @@ module _ (t : List ℕ) (p : Position) (i : Inside t p) where
   back-in x n = position-in t _ 0 (omega (arith, up-in t x (max n 1) (p .row), i .in-row)) (omega arith)
 
   pub on-in : (x n : ℕ) → Inside t (sectionOn t x n p)
-  on-in x n =
-      position-in t _ 0 (omega (arith, down-in t x (max n 1) (p .row) (contentRows t - 1 - p .row), i .in-row, content-near t)) (omega arith)
+  on-in x n = position-in t _ 0 (omega (arith, down-in t x (max n 1) (p .row) (contentRows t - 1 - p .row), i .in-row, content-near t)) (omega arith)
 
   -- paragraphs
   pub up-at-in : (r : Paragraph) → LeadsIn t r → Inside t (upAt p r)

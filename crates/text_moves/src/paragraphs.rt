@@ -13,6 +13,7 @@ ghost use Rattle.row_walks.specs.declared.Paragraph.the-variants.{At};
 ghost use Rattle.positions.specs.Positions.{Accepted};
 ghost use Rattle.text_moves.specs.Paragraphs.{downAt, paragraphPrev, paragraphNext};
 
+// Back over so many paragraphs, to the empty row before them or the first place of the text.
 pub fn paragraph_prev(t: &[u32], p: Position, e: Entry, count: u32) -> Position
     requires { ⌜ Accepted (now t) p e ⌝ }
     ensures { λ r. ⌜ r ≡ paragraphPrev (now (t .entry)) count p ⌝ }
@@ -45,6 +46,7 @@ fn down_at(t: &[u32], p: Position, last: usize, l: Line) -> Position
     Position { row: row, col: 0 }
 }
 
+// On over so many paragraphs, to the empty row behind them or the last place of the text.
 pub fn paragraph_next(t: &[u32], p: Position, e: Entry, count: u32) -> Position
     requires { ⌜ Accepted (now t) p e ⌝ }
     ensures { λ r. ⌜ r ≡ paragraphNext (now (t .entry)) count p ⌝ }

@@ -23,6 +23,7 @@ pub fn at_line(t: &[u32], l: Line) -> Position
     Position { row: row, col: col }
 }
 
+// The first row.
 pub fn top(t: &[u32]) -> Position
     requires { ⌜ length (now t) ≤ 1048576 ⌝ }
     ensures { λ r. ⌜ r ≡ atRow (now (t .entry)) 0 ⌝ }
@@ -44,6 +45,8 @@ fn at_row(t: &[u32], p: Position, e: Entry, to: usize) -> Position
     at_line(t, l)
 }
 
+// The row with the number `count`, counted from 1, or the last row where it is 0 or there are
+// fewer.
 pub fn bottom(t: &[u32], p: Position, e: Entry, count: u32) -> Position
     requires { ⌜ Accepted (now t) p e ⌝ }
     ensures { λ r. ⌜ r ≡ bottom (now (t .entry)) count ⌝ }
@@ -55,6 +58,7 @@ pub fn bottom(t: &[u32], p: Position, e: Entry, count: u32) -> Position
     at_row(t, p, e, least(count as usize - 1, last))
 }
 
+// So many rows down, no further than the last.
 pub fn next_line(t: &[u32], p: Position, e: Entry, count: u32) -> Position
     requires { ⌜ Accepted (now t) p e ⌝ }
     ensures { λ r. ⌜ r ≡ nextLine (now (t .entry)) count p ⌝ }
@@ -66,6 +70,7 @@ pub fn next_line(t: &[u32], p: Position, e: Entry, count: u32) -> Position
     at_row(t, p, e, least(p.row + most(count as usize, 1), last))
 }
 
+// So many rows up, no further than the first.
 pub fn prev_line(t: &[u32], p: Position, e: Entry, count: u32) -> Position
     requires { ⌜ Accepted (now t) p e ⌝ }
     ensures { λ r. ⌜ r ≡ prevLine (now (t .entry)) count p ⌝ }
@@ -76,6 +81,7 @@ pub fn prev_line(t: &[u32], p: Position, e: Entry, count: u32) -> Position
     at_row(t, p, e, minus(p.row, most(count as usize, 1)))
 }
 
+// One row less than `count` down, no further than the last.
 pub fn this_line(t: &[u32], p: Position, e: Entry, count: u32) -> Position
     requires { ⌜ Accepted (now t) p e ⌝ }
     ensures { λ r. ⌜ r ≡ thisLine (now (t .entry)) count p ⌝ }

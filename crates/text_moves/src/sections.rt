@@ -10,6 +10,7 @@ ghost use Prim.Native.Nat.{_<_};
 ghost use Rattle.positions.specs.Positions.{Accepted};
 ghost use Rattle.text_moves.specs.Sections.{sectionBack, sectionOn};
 
+// Back to the start of the row that begins with x, so many times, or to the first row.
 pub fn section_back(t: &[u32], p: Position, e: Entry, x: u32, count: u32) -> Position
     requires { ⌜ Accepted (now t) p e × (10 < x) ⌝ }
     ensures { λ r. ⌜ r ≡ sectionBack (now (t .entry)) x count p ⌝ }
@@ -22,6 +23,7 @@ pub fn section_back(t: &[u32], p: Position, e: Entry, x: u32, count: u32) -> Pos
     Position { row: row, col: 0 }
 }
 
+// On to the start of the row that begins with x, so many times, or to the last row.
 pub fn section_on(t: &[u32], p: Position, e: Entry, x: u32, count: u32) -> Position
     requires { ⌜ Accepted (now t) p e × (10 < x) ⌝ }
     ensures { λ r. ⌜ r ≡ sectionOn (now (t .entry)) x count p ⌝ }

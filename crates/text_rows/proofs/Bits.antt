@@ -1,13 +1,7 @@
 -- All bits of a text together are at least what each value is. Assumes nothing.
-use mathlib.Core.Path.{_≡_, refl, _∙_}
-use mathlib.Core.List.{List, [], _∷_}
-use mathlib.Core.Bool.{Bool, true, false, _||_, true≢false}
-use Prim.Native.Nat.{ℕ, _+_, _≤_, _<_}
-use native.Mathlib.Omega.{arith}
+use Rattle.lists.proofs.Kit.{_≡_, refl, _∙_, List, [], _∷_, Bool, true, false, _||_, true≢false, ℕ, _+_, _≤_, _<_, arith, length, getD, drop, drop-of-length-le}
+use Rattle.lists.proofs.Kit.{leb, leb-false, lt-leb}
 use lib.Bits.{bitOr, or-add-and, and-le-l, and-le-r}
-use lib.Dec.{leb}
-use lib.ListN.{length, getD, drop, drop-of-length-le}
-use borrow.Author.Tests.{leb-false, lt-leb}
 use Rattle.lists.specs.Lists.{any}
 use Rattle.lists.proofs.Lists.{drop-at}
 use Rattle.text_check.specs.Accept.{isHigh}

@@ -1,24 +1,15 @@
 -- Every separator is a mark, and so is every low line break that a text may not hold: a text with no more marks than separators has none of these.
 -- Assumes nothing.
-use mathlib.Core.Path.{_≡_, refl, sym, ap, _∙_}
-use mathlib.Core.List.{List, [], _∷_}
-use mathlib.Core.Bool.{Bool, true, false, _&&_, _||_, true≢false}
-use Prim.Native.Nat.{ℕ, suc, _+_, _≤_, _<_}
-use native.Mathlib.Decide.{ℕ-discrete}
-use native.Mathlib.Omega.{arith}
-use lib.Dec.{eqb, leb}
-use lib.ListN.{length, getD, drop, drop-of-length-le}
-use borrow.Author.Tests.{leb-true, ne-eqb}
+use Rattle.lists.proofs.Kit.{_≡_, refl, sym, ap, _∙_, List, [], _∷_, Bool, true, false, _&&_, _||_, true≢false, ℕ, zero, suc, _+_, _≤_, _<_, ℕ-discrete, arith}
+use Rattle.lists.proofs.Kit.{length, getD, take, drop, drop-of-length-le, eqb, leb, leb-true, ne-eqb}
 use Rattle.lists.specs.Lists.{any}
 use Rattle.lists.proofs.Lists.{drop-at}
 use Rattle.lists.proofs.Both.{both}
-use Rattle.text_check.specs.Accept.{isLow, textRefusal}
-use Rattle.text_check.proofs.Accepted.{by-passes}
+use Rattle.text_check.specs.Accept.{isLow}
 use Rattle.text.specs.Text.{rowCount}
 use Rattle.text.proofs.Parts.{count-cons-nl, count-cons-on}
 use Rattle.text.proofs.Rows.{rows-nil}
-use Rattle.text_rows.specs.Pass.{isMark, marksIn, allBits}
-use Rattle.text_rows.proofs.Bits.{bits-low}
+use Rattle.text_rows.specs.Pass.{isMark, marksIn}
 
 -- one code point more
 module _ (x : ℕ) (t : List ℕ) where
@@ -33,6 +24,16 @@ module _ (x : ℕ) (t : List ℕ) where
 marks-nil : marksIn [] ≡ 0
 unfolding marksIn
 marks-nil = refl
+
+-- in two parts
+pub marks-parts : (k : ℕ) (t : List ℕ) → marksIn t ≡ marksIn (take k t) + marksIn (drop k t)
+marks-parts zero t = omega (arith, marks-nil)
+marks-parts (suc k) [] = marks-nil ∙ omega (arith, marks-nil)
+marks-parts (suc k) (x ∷ t) = go (isMark x) refl (marks-parts k t)
+  where
+    go : (b : Bool) → isMark x ≡ b → marksIn t ≡ marksIn (take k t) + marksIn (drop k t) → marksIn (x ∷ t) ≡ marksIn (x ∷ take k t) + marksIn (drop k t)
+    go true e ih = omega (arith, marks-more x t e, marks-more x (take k t) e, ih)
+    go false e ih = omega (arith, marks-same x t e, marks-same x (take k t) e, ih)
 
 -- of a loop that has come to i
 module _ (t : List ℕ) (i : ℕ) where
@@ -87,7 +88,3 @@ all-separators (x ∷ t) e = go (ℕ-discrete x 10) (isMark x) refl (all-separat
     go (yes q) b m ih = rw (ap isLow q) (ih (omega (arith, e, count-cons-nl x t q, marks-more x t (separator-mark x q))))
     go (no n) true m ih = absurd (omega (arith, e, count-cons-on x t n, marks-more x t m, rows-marks t))
     go (no n) false m ih = rw (no-mark-low x m) (ih (omega (arith, e, count-cons-on x t n, marks-same x t m)))
-
--- such a text is accepted, if its length is and nothing in it is from U+2000 on
-pub accepted : (t : List ℕ) → length t ≤ 1048576 → leb 0x2000 (allBits 0 t) ≡ false → marksIn t + 1 ≡ rowCount t → textRefusal t ≡ 0
-accepted t h low e = by-passes t h 0 (rw (bits-low t low)) ∙ rw (all-separators t e)

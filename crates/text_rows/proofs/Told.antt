@@ -1,12 +1,5 @@
 -- What is known where rows are told: the three answers follow. Assumes nothing.
-use mathlib.Core.Path.{_≡_, refl, sym, _∙_}
-use mathlib.Core.List.{List}
-use mathlib.Core.Bool.{true, cond}
-use Prim.Native.Nat.{ℕ, _+_, _≤_}
-use native.Mathlib.Omega.{arith}
-use lib.Dec.{eqb}
-use lib.ListN.{length, take}
-use borrow.Author.Tests.{eqb-true, le-ltb}
+use Rattle.lists.proofs.Kit.{_≡_, refl, sym, _∙_, List, true, cond, ℕ, _≤_, arith, length, take, eqb, eqb-true, le-ltb}
 use Rattle.lists.specs.Lists.{isSame}
 use Rattle.lists.proofs.Both.{both}
 use Rattle.text_check.specs.Accept.{textRefusal}
@@ -32,7 +25,11 @@ module _ (t starts : List ℕ) where
 
       number : (content g : ℕ) → g ≡ cond (eqb content (contentRows t)) 0 16 → g ≡ tableRefusal (rowCount t) t starts content
       unfolding tableRefusal
-      number content g e = e ∙ sym (rw (le-ltb (length starts) (rowCount t) (omega (arith, told .room some, told-count)), both (eqb rows (rowCount t)) (isSame (take (rowCount t) starts) (rowStarts t)) (told .held some) .1))
+      number content g e = e ∙ sym (rw (
+        le-ltb (length starts) (rowCount t) (omega (arith, told .room some, told-count)),
+        both (eqb rows (rowCount t)) (isSame
+            (take (rowCount t) starts) (rowStarts t)) (told .held some) .1,
+      ))
 
       pub told-found : (content g : ℕ) → g ≡ cond (eqb content (contentRows t)) 0 16 → record { refusal = 0; rows = rows; table = g } ≡ foundIn t starts content
       told-found content g e i = record { refusal = sym (told .accepted some) i; rows = told-count i; table = number content g e i }

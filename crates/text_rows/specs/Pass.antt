@@ -1,5 +1,5 @@
 -- What one pass over a text tells of it and of its table of row starts. Definitions only; the laws are in `proofs/`. Assumes nothing.
-use Prim.Native.Nat.{ℕ, suc, _+_, _%_, _≤_}
+use Prim.Native.Nat.{ℕ, suc, _+_, _%_, _≤_, _<_}
 use mathlib.Core.Path.{_≡_}
 use mathlib.Core.List.{List, [], _∷_}
 use mathlib.Core.Bool.{Bool, true, cond}
@@ -35,6 +35,11 @@ pub record ReadIn (t : List ℕ) (r : Held) : Type 0 where
   pub high : r .high ≡ leb 0x2000 (allBits 0 t)
   pub marks : r .marks ≡ marksIn t
   pub few : r .marks ≤ length t
+
+-- an offset further on than `at`, in a text so long
+pub record Further (at len r : ℕ) : Type 0 where
+  pub on : at < r
+  pub within : r ≤ len
 
 -- where rows are told, the text is accepted, and the table holds their starts
 pub record Tells (t starts : List ℕ) (rows : ℕ) : Type 0 where

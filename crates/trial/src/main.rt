@@ -2,6 +2,7 @@
 use libc::STDIN_FILENO;
 use libc::STDOUT_FILENO;
 
+// From standard input to standard output.
 fn main() {
     // One byte more than a session takes, so that an input that is too long is seen.
     let mut input = [0u8; 16385];

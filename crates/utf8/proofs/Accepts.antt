@@ -1,12 +1,6 @@
 -- Reading against the definition: it gives a text exactly where the bytes are the encoding of that text, so that each accepted byte string is the
 -- only encoding of one text; and else the place of the longest beginning that some accepted byte string has. Assumes nothing.
-use mathlib.Core.Path.{_≡_, refl, ap, sym, subst, _∙_}
-use mathlib.Core.List.{List, _++_}
-use mathlib.Core.Logic.{_↔_}
-use mathlib.Core.Bool.{false}
-use Prim.Native.Nat.{ℕ, suc, _+_, _<_}
-use native.Mathlib.Omega.{arith}
-use lib.ListN.{length, take}
+use Rattle.lists.proofs.Kit.{_≡_, refl, sym, subst, List, _++_, false, _↔_, ℕ, suc, _+_, arith, take}
 use Rattle.chars.specs.Scalar.{notScalar}
 use Rattle.lists.specs.Lists.{any}
 use Rattle.lists.specs.Beginnings.{Begins, Place}
@@ -18,8 +12,7 @@ use Rattle.utf8.proofs.Places.{IsText, wrong-from}
 
 -- the text is read exactly where it is scalar and its encoding is what was read
 pub decoding-text : (b t : List ℕ) → (decoding b ≡ text t) ↔ ((any notScalar t ≡ false) × (utf8 t ≡ b))
-decoding-text b t =
-    (reads-encoded 0 b t, λ w. subst (λ (l : List ℕ). decoding l ≡ text t) (w .1) (encoded-reads t 0 (w .0)))
+decoding-text b t = (reads-encoded 0 b t, λ w. subst (λ (l : List ℕ). decoding l ≡ text t) (w .1) (encoded-reads t 0 (w .0)))
 
 -- no two texts have one encoding
 pub utf8-one : (t u : List ℕ) → any notScalar t ≡ false → any notScalar u ≡ false → utf8 t ≡ utf8 u → t ≡ u
@@ -53,11 +46,9 @@ bad-place b n e =
     let n-plus-one : n + 1 ≡ suc (by-wrong-from .passed) = omega arith in
     record {
       inside = omega (arith, by-wrong-from .inside);
-      begins =
-          subst (λ (m : ℕ). Begins Accepted (take m b)) passed-is
+      begins = subst (λ (m : ℕ). Begins Accepted (take m b)) passed-is
           (by-wrong-from .rest, accepted-text (take (by-wrong-from .passed) b ++ by-wrong-from .rest) (by-wrong-from .begins));
-      longest =
-          λ l g.
+      longest = λ l g.
           let here = subst (λ (m : ℕ). Accepted (take m b ++ g .0)) n-plus-one (g .1) in
           bad-refused (take (suc (by-wrong-from .passed)) b ++ g .0) n (by-wrong-from .longest (omega arith) (g .0)) here;
     }

@@ -1,15 +1,9 @@
 -- What the check found, and what the decoder then answers and leaves in the room. Assumes nothing.
-use mathlib.Core.Path.{_≡_, refl, sym, _∙_}
-use mathlib.Core.List.{List, _++_}
-use mathlib.Core.Bool.{true, false}
-use Prim.Native.Nat.{ℕ, _≤_, _<_}
-use native.Mathlib.Omega.{arith}
-use lib.ListN.{length, drop}
-use borrow.Author.Tests.{le-leb, lt-leb}
+use Rattle.lists.proofs.Kit.{_≡_, refl, sym, _∙_, List, _++_, ℕ, _≤_, _<_, arith, length, drop, le-leb, lt-leb}
 use Rattle.utf8.specs.declared.Checked.the-variants.{Points, Bad}
 use Rattle.utf8.specs.declared.Decoded.the-variants.{Text, Bad as Decoded·Bad, Refused}
 use Rattle.utf8.specs.Decoding.{Reading, text, bad, decoding}
-use Rattle.utf8.specs.Calls.{tally, checked, decoded, decodedIn}
+use Rattle.utf8.specs.Calls.{tally, checked, decoded, decodedIn, DecodesTo}
 use Rattle.utf8.specs.Walks.{textOf, pointsOf, Holds}
 
 tally-points : (r : Reading) (n : ℕ) → tally r ≡ Points n → (r ≡ text (textOf r)) × (length (textOf r) ≡ n)
@@ -24,20 +18,17 @@ tally-bad (bad p) place e = let p-is : p ≡ place = cc in rw p-is
 
 module _ (b room : List ℕ) where
   -- by what was read
-  text-fits :
-      (t : List ℕ) → decoding b ≡ text t → length t ≤ length room →
+  text-fits : (t : List ℕ) → decoding b ≡ text t → length t ≤ length room →
       (decoded (decoding b) (length room) ≡ Text (length t)) × (decodedIn (decoding b) room ≡ t ++ drop (length t) room)
   unfolding decoded decodedIn
   text-fits t e h = (rw (e, le-leb (length t) (length room) h), rw (e, le-leb (length t) (length room) h))
 
-  text-short :
-      (t : List ℕ) → decoding b ≡ text t → length room < length t →
+  text-short : (t : List ℕ) → decoding b ≡ text t → length room < length t →
       (decoded (decoding b) (length room) ≡ Refused 14) × (decodedIn (decoding b) room ≡ room)
   unfolding decoded decodedIn
   text-short t e h = (rw (e, lt-leb (length t) (length room) h), rw (e, lt-leb (length t) (length room) h))
 
-  bad-kept :
-      (place : ℕ) → decoding b ≡ bad place → (decoded (decoding b) (length room) ≡ Decoded·Bad place) × (decodedIn (decoding b) room ≡ room)
+  bad-kept : (place : ℕ) → decoding b ≡ bad place → (decoded (decoding b) (length room) ≡ Decoded·Bad place) × (decodedIn (decoding b) room ≡ room)
   unfolding decoded decodedIn
   bad-kept place e = (rw e, rw e)
 
@@ -53,15 +44,16 @@ module _ (b room : List ℕ) where
         let by-tally-points = tally-points (decoding b) n e in
         sym (text-fits (pointsOf b) (by-tally-points .0) (omega (arith, by-tally-points .1)) .0 ∙ rw (by-tally-points .1))
 
-    pub check-short : length room < n → (Refused 14 ≡ decoded (decoding b) (length room)) × (room ≡ decodedIn (decoding b) room)
+    pub check-short : length room < n → DecodesTo b room (Refused 14) room
     check-short h =
         let by-tally-points = tally-points (decoding b) n e in
         let by-text-short = text-short (pointsOf b) (by-tally-points .0) (omega (arith, by-tally-points .1)) in
-        (sym (by-text-short .0), sym (by-text-short .1))
+        record { answer = sym (by-text-short .0); left = sym (by-text-short .1) }
 
-  pub check-bad :
-      (place : ℕ) → checked b ≡ Bad place → (Decoded·Bad place ≡ decoded (decoding b) (length room)) × (room ≡ decodedIn (decoding b) room)
-  check-bad place e = let by-bad-kept = bad-kept place (tally-bad (decoding b) place e) in (sym (by-bad-kept .0), sym (by-bad-kept .1))
+  pub check-bad : (place : ℕ) → checked b ≡ Bad place → DecodesTo b room (Decoded·Bad place) room
+  check-bad place e =
+      let by-bad-kept = bad-kept place (tally-bad (decoding b) place e) in
+      record { answer = sym (by-bad-kept .0); left = sym (by-bad-kept .1) }
 
   -- by what was written
   pub written-in : Holds b 0 0 room → (points : List ℕ) → points ≡ pointsOf b ++ drop (length (pointsOf b)) room → points ≡ decodedIn (decoding b) room

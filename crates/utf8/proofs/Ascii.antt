@@ -1,15 +1,8 @@
 -- ASCII: a string of it is its own encoding, and is read byte by byte. Assumes nothing.
-use mathlib.Core.Path.{_≡_, refl, ap}
-use mathlib.Core.List.{List, [], _∷_, _++_}
-use mathlib.Core.Bool.{Bool, true, false, _||_}
-use Prim.Native.Nat.{ℕ, suc, _+_, _-_, _≤_, _<_}
-use native.Mathlib.Omega.{arith}
-use lib.Dec.{ltb}
-use lib.ListN.{length, getD, take, drop}
-use borrow.Author.Tests.{ltb-false}
+use Rattle.lists.proofs.Kit.{_≡_, refl, List, [], _∷_, Bool, true, false, _||_, ℕ, suc, _+_, _-_, _≤_, _<_, arith, length, getD, take, drop, ltb, ltb-false}
 use Rattle.lists.specs.Lists.{any}
 use Rattle.lists.proofs.Lists.{drop-at}
-use Rattle.utf8.specs.Encoding.{encoding, utf8, isAbove}
+use Rattle.utf8.specs.Encoding.{utf8, isAbove}
 use Rattle.utf8.specs.Decoding.{onto, readingFrom}
 use Rattle.utf8.proofs.Encodings.{encoding-one}
 use Rattle.utf8.proofs.Leads.{lead-one}
@@ -33,8 +26,7 @@ utf8-ascii [] e = refl
 utf8-ascii (a ∷ s) e = let by-plain-first = plain-first a s e in rw (encoding-one a (by-plain-first .0), utf8-ascii s (by-plain-first .1))
 
 -- the first byte of a stretch of ASCII, and the others
-pub plain-on :
-    (b : List ℕ) (at until : ℕ) → at < until → until ≤ length b → any isAbove (take (until - at) (drop at b)) ≡ false →
+pub plain-on : (b : List ℕ) (at until : ℕ) → at < until → until ≤ length b → any isAbove (take (until - at) (drop at b)) ≡ false →
     (getD b at 0 < 0x80) × (any isAbove (take (until - (at + 1)) (drop (at + 1) b)) ≡ false)
 plain-on b at until h k e =
     let difference-is : until - at ≡ suc (until - (at + 1)) = omega arith in

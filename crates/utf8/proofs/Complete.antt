@@ -1,18 +1,12 @@
 -- What was encoded is read, code point by code point. Assumes nothing.
-use mathlib.Core.Path.{_≡_, refl, ap, sym, subst, _∙_}
-use mathlib.Core.List.{List, [], _∷_, _++_}
-use mathlib.Core.Bool.{Bool, true, false, not, _&&_, _||_}
-use Prim.Native.Nat.{ℕ, _+_, _*_, _-_, _/_, _%_, _≤_, _<_}
-use native.Mathlib.Decide.{decLt}
-use native.Mathlib.Omega.{arith}
-use native.Mathlib.Decide.{ℕ-discrete}
-use lib.ListN.{length}
+use Rattle.lists.proofs.Kit.{_≡_, refl, ap, _∙_, List, [], _∷_, _++_, Bool, true, false, not, _||_, ℕ, _+_, _*_, _-_, _/_, _%_, _≤_, _<_, decLt, ℕ-discrete}
+use Rattle.lists.proofs.Kit.{arith, length}
 use Rattle.chars.specs.Scalar.{isScalar, notScalar}
 use Rattle.lists.specs.Lists.{any}
 use Rattle.utf8.specs.Encoding.{encoding, utf8}
-use Rattle.utf8.specs.Decoding.{text, onto, isLead, tailsOf, lowOf, highOf, bitsOf, reading, readingFrom}
+use Rattle.utf8.specs.Decoding.{text, onto, lowOf, highOf, bitsOf, reading, readingFrom}
 use Rattle.utf8.proofs.Encodings.{scalar-most, scalar-above, encoding-one, encoding-two, encoding-three, encoding-four}
-use Rattle.utf8.proofs.Leads.{lead-one, lead-two, lead-three, lead-four, low-e0, low-f0, low-else, high-ed, high-f4, high-else, low-least, high-most}
+use Rattle.utf8.proofs.Leads.{lead-one, lead-two, lead-three, lead-four, low-e0, low-f0, low-else, high-ed, high-f4, high-else}
 use Rattle.utf8.proofs.Readings.{read-one, read-two, read-three, read-four}
 
 -- the second byte of three stands between the bounds of the first, and so does that of four
@@ -49,8 +43,7 @@ module _ (x at : ℕ) (s : List ℕ) where
       (read-two at lead-byte x s (by-lead-two .0) second-byte (by-lead-two .1) lo hi (omega (arith, by-lead-two .2))
       ∙ read-from (at + 1 + 1) (at + 2) (omega arith))
 
-  on-three :
-      0x800 ≤ x → x < 0x10000 → (0xd800 ≤ x → 0xdfff < x) → readingFrom at (encoding x ++ s) ≡ onto x (readingFrom (at + length (encoding x)) s)
+  on-three : 0x800 ≤ x → x < 0x10000 → (0xd800 ≤ x → 0xdfff < x) → readingFrom at (encoding x ++ s) ≡ onto x (readingFrom (at + length (encoding x)) s)
   on-three h k scalar =
       let lead-byte = 0xe0 + x / 4096 in
       let second-byte = 0x80 + x / 64 % 64 in
@@ -86,8 +79,7 @@ module _ (x at : ℕ) (s : List ℕ) where
       ) in
       rw (encoding-four x lead-byte second-byte third-byte fourth-byte h refl refl refl refl)
       (read-four at lead-byte x s (by-lead-four .0) second-byte third-byte fourth-byte (by-lead-four .1) lo hi (omega arith) (omega arith)
-      (omega arith) (omega arith) value
-      ∙ read-from (at + 1 + 1 + 1 + 1) (at + 4) (omega arith))
+      (omega arith) (omega arith) value ∙ read-from (at + 1 + 1 + 1 + 1) (at + 4) (omega arith))
 
   pub encoded-on : isScalar x ≡ true → readingFrom at (encoding x ++ s) ≡ onto x (readingFrom (at + length (encoding x)) s)
   encoded-on is = go (decLt x 0x80) (decLt x 0x800) (decLt x 0x10000)
@@ -104,8 +96,7 @@ unfolding any utf8 onto reading
 encoded-reads [] at e = refl
 encoded-reads (x ∷ t) at e = go (isScalar x) refl e (λ h. encoded-reads t (at + length (encoding x)) h)
   where
-    go :
-        (b : Bool) → isScalar x ≡ b → (not b || any notScalar t) ≡ false →
+    go : (b : Bool) → isScalar x ≡ b → (not b || any notScalar t) ≡ false →
         (any notScalar t ≡ false → readingFrom (at + length (encoding x)) (utf8 t) ≡ text t) → readingFrom at (encoding x ++ utf8 t) ≡ text (x ∷ t)
     go true p q ih = encoded-on x at (utf8 t) p ∙ rw (ih q)
     go false p q ih = let never : _≡_ {A = ℕ} 0 1 = cc in absurd (omega arith)

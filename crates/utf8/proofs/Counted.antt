@@ -1,11 +1,6 @@
 -- Laws of the first pass: the count goes on by a sequence or by a stretch of ASCII, and ends. Assumes nothing.
-use mathlib.Core.Path.{_≡_, refl, ap, sym, subst, _∙_}
-use mathlib.Core.List.{List, [], _∷_}
-use mathlib.Core.Bool.{false}
-use Prim.Native.Nat.{ℕ, zero, suc, _+_, _-_, _≤_, _<_}
-use native.Mathlib.Nat.{add-zero, zero-add}
-use native.Mathlib.Omega.{arith}
-use lib.ListN.{length, getD, take, drop, drop-of-length-le}
+use Rattle.lists.proofs.Kit.{_≡_, refl, ap, sym, subst, _∙_, List, false, ℕ, zero, suc, _+_, _-_, _≤_, _<_, add-zero, zero-add, arith, length, getD, take, drop}
+use Rattle.lists.proofs.Kit.{drop-of-length-le}
 use Rattle.lists.specs.Lists.{any}
 use Rattle.lists.proofs.Lists.{drop-at}
 use Rattle.utf8.specs.declared.Step.{Step}
@@ -15,7 +10,7 @@ use Rattle.utf8.specs.declared.Checked.the-variants.{Points, Bad as Chec
 use Rattle.utf8.specs.declared.Walk.{Walk}
 use Rattle.utf8.specs.declared.Walk.the-variants.{On, Bad as Walk·Bad}
 use Rattle.utf8.specs.Encoding.{isAbove}
-use Rattle.utf8.specs.Decoding.{Reading, text, bad, onto, reading, readingFrom, decoding}
+use Rattle.utf8.specs.Decoding.{Reading, text, bad, onto, reading, readingFrom}
 use Rattle.utf8.specs.Sequences.{Stepped}
 use Rattle.utf8.specs.Calls.{tally, checked}
 use Rattle.utf8.specs.Walks.{plus, Counts, Walked}
@@ -23,8 +18,7 @@ use Rattle.utf8.proofs.Ascii.{plain-first}
 use Rattle.utf8.proofs.Starts.{begins-one}
 
 -- what a step answered, by its case
-pub stepped-good :
-    (b : List ℕ) (from : ℕ) (r : Reading) {s : Step} {next x : ℕ} → Stepped b from r s → s ≡ Good next x →
+pub stepped-good : (b : List ℕ) (from : ℕ) (r : Reading) {s : Step} {next x : ℕ} → Stepped b from r s → s ≡ Good next x →
     (r ≡ onto x (readingFrom next (drop next b))) × (from ≤ next) × (next ≤ length b)
 stepped-good b from r w e = subst (λ (q : Step). Stepped b from r q) e w
 
@@ -70,8 +64,7 @@ module _ {b : List ℕ} {at n : ℕ} (w : Counts b at n) where
   counts-end h = w .count ∙ rw (drop-of-length-le b h) (ap Points (add-zero n))
 
 -- a stretch of ASCII
-pub counts-plain :
-    (b : List ℕ) (m at n : ℕ) → Counts b at n → at + m ≤ length b → any isAbove (take m (drop at b)) ≡ false → Counts b (at + m) (n + m)
+pub counts-plain : (b : List ℕ) (m at n : ℕ) → Counts b at n → at + m ≤ length b → any isAbove (take m (drop at b)) ≡ false → Counts b (at + m) (n + m)
 counts-plain b zero at n w h e = rw (add-zero at, add-zero n) w
 counts-plain b (suc m) at n w h e =
     let at-below : at < length b = omega arith in
@@ -81,8 +74,7 @@ counts-plain b (suc m) at n w h e =
     let same-sum : n + suc m ≡ n + 1 + m = omega arith in
     rw (sum-is, same-sum) (counts-plain b m (at + 1) (n + 1) by-counts-on (omega arith) (by-plain-first .1))
 
-pub counts-to :
-    {b : List ℕ} {at n : ℕ} (until : ℕ) → Counts b at n → at ≤ until → until ≤ length b → any isAbove (take (until - at) (drop at b)) ≡ false →
+pub counts-to : {b : List ℕ} {at n : ℕ} (until : ℕ) → Counts b at n → at ≤ until → until ≤ length b → any isAbove (take (until - at) (drop at b)) ≡ false →
     Counts b until (n + (until - at))
 counts-to {b} {at} {n} until w h k e =
     let sum-is : at + (until - at) ≡ until = omega arith in

@@ -1,11 +1,6 @@
 -- Bytes cut behind an ASCII byte: the whole is read exactly where both parts are, one after the other. Assumes nothing.
-use mathlib.Core.Path.{_≡_, refl, ap, sym, _∙_}
-use mathlib.Core.List.{List, [], _∷_, _++_}
-use mathlib.Core.Bool.{Bool, true, false, cond, _&&_}
-use Prim.Native.Nat.{ℕ, zero, suc, _+_, _*_, _-_, _≤_, _<_}
-use native.Mathlib.Omega.{arith}
-use lib.Dec.{leb}
-use lib.ListN.{length}
+use Rattle.lists.proofs.Kit.{_≡_, refl, ap, sym, _∙_, List, [], _∷_, _++_, Bool, true, false, cond, _&&_, ℕ, zero, suc, _+_, _*_, _-_, _≤_, _<_, arith, length}
+use Rattle.lists.proofs.Kit.{leb}
 use Rattle.utf8.specs.Decoding.{Reading, text, bad, onto, isLead, tailsOf, lowOf, highOf, bitsOf, ended, reading, readingFrom, decoding}
 use Rattle.utf8.specs.Walks.{textOf, pointsOf}
 use Rattle.utf8.proofs.Leads.{low-least}
@@ -35,8 +30,7 @@ unfolding behind
 behind-cond true p r n = refl
 behind-cond false p r n = refl
 
-reading-cut :
-    (s : List ℕ) (left low high value at x : ℕ) (u : List ℕ) → x < 0x80 → 0x80 ≤ low →
+reading-cut : (s : List ℕ) (left low high value at x : ℕ) (u : List ℕ) → x < 0x80 → 0x80 ≤ low →
     reading left low high value at (s ++ (x ∷ u)) ≡ behind (reading left low high value at s) (onto x (readingFrom (at + length s + 1) u))
 unfolding reading behind
 reading-cut [] zero low high value at x u h k =
@@ -51,8 +45,7 @@ reading-cut (a ∷ s) zero low high value at x u h k =
       sum-is,
       reading-cut s (tailsOf a) (lowOf a) (highOf a) (bitsOf a) (at + 1) x u h (low-least a),
       behind-ended (tailsOf a) (bitsOf a) reading-here onto-here,
-    )
-    (behind-cond (isLead a) (ended (tailsOf a) (bitsOf a) reading-here) onto-here at)
+    ) (behind-cond (isLead a) (ended (tailsOf a) (bitsOf a) reading-here) onto-here at)
 reading-cut (a ∷ s) (suc left) low high value at x u h k =
     let sum-is : at + suc (length s) + 1 ≡ at + 1 + length s + 1 = omega arith in
     let onto-here = onto x (readingFrom (at + 1 + length s + 1) u) in
@@ -62,10 +55,8 @@ reading-cut (a ∷ s) (suc left) low high value at x u h k =
     (behind-cond (leb low a && leb a high) (ended left bits reading-here) onto-here at)
 
 -- the whole is read part by part
-pub decoding-cut :
-    (s : List ℕ) (x : ℕ) (u : List ℕ) → x < 0x80 → decoding (s ++ (x ∷ u)) ≡ behind (decoding s) (onto x (readingFrom (0 + length s + 1) u))
-decoding-cut s x u h =
-    sym (reading-fresh 0x80 0 0 0 (s ++ (x ∷ u))) ∙ reading-cut s 0 0x80 0 0 0 x u h (omega arith)
+pub decoding-cut : (s : List ℕ) (x : ℕ) (u : List ℕ) → x < 0x80 → decoding (s ++ (x ∷ u)) ≡ behind (decoding s) (onto x (readingFrom (0 + length s + 1) u))
+decoding-cut s x u h = sym (reading-fresh 0x80 0 0 0 (s ++ (x ∷ u))) ∙ reading-cut s 0 0x80 0 0 0 x u h (omega arith)
     ∙ ap (λ (p : Reading). behind p (onto x (readingFrom (0 + length s + 1) u))) (reading-fresh 0x80 0 0 0 s)
 
 -- what stands behind is read where the whole is

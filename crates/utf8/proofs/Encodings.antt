@@ -1,13 +1,6 @@
 -- The encoding of a scalar value: its bytes, by how many there are; and what a scalar value is. Assumes nothing.
-use mathlib.Core.Path.{_≡_, refl, ap}
-use mathlib.Core.List.{List, [], _∷_}
-use mathlib.Core.Bool.{Bool, true, false, _&&_, _||_}
-use Prim.Native.Nat.{ℕ, _+_, _*_, _-_, _/_, _%_, _≤_, _<_}
-use native.Mathlib.Decide.{decLt}
-use native.Mathlib.Omega.{arith}
-use lib.Dec.{leb, ltb}
-use lib.ListN.{length}
-use borrow.Author.Tests.{lt-ltb, le-ltb, le-leb, ltb-true, leb-true}
+use Rattle.lists.proofs.Kit.{_≡_, refl, ap, [], _∷_, Bool, true, false, _&&_, _||_, ℕ, _+_, _/_, _%_, _≤_, _<_, decLt, arith, length, leb, ltb, lt-ltb, le-ltb}
+use Rattle.lists.proofs.Kit.{le-leb, ltb-true, leb-true}
 use Rattle.chars.specs.Scalar.{isScalar}
 use Rattle.utf8.specs.Encoding.{encoding}
 
@@ -45,17 +38,14 @@ module _ (x : ℕ) where
   unfolding encoding
   encoding-two a b h k ea eb = rw (le-ltb x 0x80 h, lt-ltb x 0x800 k, ea, eb)
 
-  pub encoding-three :
-      (a b c : ℕ) → 0x800 ≤ x → x < 0x10000 → 0xe0 + x / 4096 ≡ a → 0x80 + x / 64 % 64 ≡ b → 0x80 + x % 64 ≡ c → encoding x ≡ a ∷ b ∷ c ∷ []
+  pub encoding-three : (a b c : ℕ) → 0x800 ≤ x → x < 0x10000 → 0xe0 + x / 4096 ≡ a → 0x80 + x / 64 % 64 ≡ b → 0x80 + x % 64 ≡ c → encoding x ≡ a ∷ b ∷ c ∷ []
   unfolding encoding
   encoding-three a b c h k ea eb ec = rw (le-ltb x 0x80 (omega arith), le-ltb x 0x800 h, lt-ltb x 0x10000 k, ea, eb, ec)
 
-  pub encoding-four :
-      (a b c d : ℕ) → 0x10000 ≤ x → 0xf0 + x / 262144 ≡ a → 0x80 + x / 4096 % 64 ≡ b → 0x80 + x / 64 % 64 ≡ c → 0x80 + x % 64 ≡ d →
+  pub encoding-four : (a b c d : ℕ) → 0x10000 ≤ x → 0xf0 + x / 262144 ≡ a → 0x80 + x / 4096 % 64 ≡ b → 0x80 + x / 64 % 64 ≡ c → 0x80 + x % 64 ≡ d →
       encoding x ≡ a ∷ b ∷ c ∷ d ∷ []
   unfolding encoding
-  encoding-four a b c d h ea eb ec ed =
-      rw (le-ltb x 0x80 (omega arith), le-ltb x 0x800 (omega arith), le-ltb x 0x10000 h, ea, eb, ec, ed)
+  encoding-four a b c d h ea eb ec ed = rw (le-ltb x 0x80 (omega arith), le-ltb x 0x800 (omega arith), le-ltb x 0x10000 h, ea, eb, ec, ed)
 
 -- how many bytes it has
 module _ (x : ℕ) where

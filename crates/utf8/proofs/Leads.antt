@@ -1,10 +1,5 @@
 -- The bytes that begin a sequence: what follows each, by the ranges of RFC 3629, section 4. Assumes nothing.
-use mathlib.Core.Path.{_≡_, refl}
-use mathlib.Core.Bool.{Bool, true, false, cond}
-use Prim.Native.Nat.{ℕ, _-_, _≤_, _<_}
-use native.Mathlib.Omega.{arith}
-use lib.Dec.{eqb, ltb}
-use borrow.Author.Tests.{lt-ltb, le-ltb, le-leb, lt-leb, eq-eqb, ne-eqb, eqb-true}
+use Rattle.lists.proofs.Kit.{_≡_, refl, Bool, true, false, cond, ℕ, _-_, _≤_, _<_, arith, eqb, lt-ltb, le-ltb, le-leb, lt-leb, eq-eqb, ne-eqb, eqb-true}
 use Rattle.utf8.specs.Decoding.{isLead, tailsOf, lowOf, highOf, bitsOf}
 
 module _ (a : ℕ) where
@@ -95,8 +90,7 @@ module _ (a : ℕ) where
   unfolding lowOf highOf
   low-high = go (eqb a 0xe0) (eqb a 0xf0) (eqb a 0xed) (eqb a 0xf4) refl refl refl refl
     where
-      go :
-          (b c d e : Bool) → eqb a 0xe0 ≡ b → eqb a 0xf0 ≡ c → eqb a 0xed ≡ d → eqb a 0xf4 ≡ e →
+      go : (b c d e : Bool) → eqb a 0xe0 ≡ b → eqb a 0xf0 ≡ c → eqb a 0xed ≡ d → eqb a 0xf4 ≡ e →
           cond b 0xa0 (cond c 0x90 0x80) ≤ cond d 0x9f (cond e 0x8f 0xbf)
       go true c true e p q r s = absurd (omega (arith, eqb-true a 0xe0 p, eqb-true a 0xed r))
       go true c false true p q r s = absurd (omega (arith, eqb-true a 0xe0 p, eqb-true a 0xf4 s))

@@ -1,15 +1,11 @@
 -- What a sequence that has begun goes on to: with any bytes that can follow it is the encoding of the value that they hold. Assumes nothing.
-use mathlib.Core.Path.{_≡_, sym}
-use mathlib.Core.List.{List, [], _∷_, _++_}
-use mathlib.Core.Bool.{true, false}
-use Prim.Native.Nat.{ℕ, zero, suc, _+_, _*_, _-_, _≤_, _<_}
-use native.Mathlib.Decide.{decLt}
-use native.Mathlib.Omega.{arith}
+use Rattle.lists.proofs.Kit.{_≡_, List, [], _∷_, _++_, true, ℕ, zero, suc, _+_, _*_, _-_, _≤_, _<_, decLt, arith}
 use Rattle.chars.specs.Scalar.{isScalar}
 use Rattle.utf8.specs.Encoding.{encoding}
 use Rattle.utf8.specs.Decoding.{isLead, tailsOf, lowOf, highOf, bitsOf}
 use Rattle.utf8.proofs.Encodings.{scalar-low, scalar-high, encoding-one, encoding-two, encoding-three, encoding-four}
-use Rattle.utf8.proofs.Leads.{lead-one, lead-two, lead-three, lead-four, lead-not-low, lead-not-high, low-e0, low-f0, low-else, high-ed, high-f4, high-else, low-least, high-most}
+use Rattle.utf8.proofs.Leads.{lead-one, lead-two, lead-three, lead-four, lead-not-low, lead-not-high, low-e0, low-f0, high-ed, high-f4, low-least}
+use Rattle.utf8.proofs.Leads.{high-most}
 
 -- p begins a sequence of which so many bytes are left, the next of them from low to high
 unfoldable pub Opens : List ℕ → ℕ → ℕ → ℕ → ℕ → Type 0

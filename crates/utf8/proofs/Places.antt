@@ -1,12 +1,6 @@
 -- Where reading goes wrong: the bytes before that place begin a string that is read, and with the byte there they begin none. Assumes nothing.
-use mathlib.Core.Path.{_≡_, refl, ap}
-use mathlib.Core.List.{List, [], _∷_, _++_}
-use mathlib.Core.Bool.{Bool, true, false, cond, _&&_}
-use Prim.Native.Nat.{ℕ, zero, suc, _+_, _*_, _-_, _≤_, _<_}
-use native.Mathlib.Omega.{arith}
-use lib.Dec.{leb}
-use lib.ListN.{length, take}
-use borrow.Author.Tests.{le-leb}
+use Rattle.lists.proofs.Kit.{_≡_, refl, ap, List, [], _∷_, _++_, Bool, true, false, cond, _&&_, ℕ, zero, suc, _+_, _*_, _-_, _≤_, _<_, arith, length, take, leb}
+use Rattle.lists.proofs.Kit.{le-leb}
 use Rattle.utf8.specs.Decoding.{Reading, text, bad, onto, isLead, tailsOf, lowOf, highOf, bitsOf, ended, reading}
 use Rattle.utf8.proofs.Leads.{low-high}
 
@@ -59,14 +53,12 @@ wrong-from [] (suc left) low high value at h n e =
     let at-is : at ≡ n = cc in
     let by-finish = finish (suc left) low high value at h in
     record { passed = 0; place = omega arith; inside = omega arith; rest = by-finish .0; begins = by-finish .1; longest = λ l. absurd (omega arith) }
-wrong-from (a ∷ s) zero low high value at h n e =
-    go (isLead a) refl e (wrong-from s (tailsOf a) (lowOf a) (highOf a) (bitsOf a) (at + 1) (low-high a) n)
+wrong-from (a ∷ s) zero low high value at h n e = go (isLead a) refl e (wrong-from s (tailsOf a) (lowOf a) (highOf a) (bitsOf a) (at + 1) (low-high a) n)
   where
     r : List ℕ → Reading
     r = reading (tailsOf a) (lowOf a) (highOf a) (bitsOf a) (at + 1)
 
-    go :
-        (b : Bool) → isLead a ≡ b → cond b (ended (tailsOf a) (bitsOf a) (r s)) (bad at) ≡ bad n →
+    go : (b : Bool) → isLead a ≡ b → cond b (ended (tailsOf a) (bitsOf a) (r s)) (bad at) ≡ bad n →
         (r s ≡ bad n → Wrong (tailsOf a) (lowOf a) (highOf a) (bitsOf a) (at + 1) s n) → Wrong 0 low high value at (a ∷ s) n
     go true l q ih =
         let by-ih = ih (bad-ended (tailsOf a) (bitsOf a) n (r s) q) in
@@ -76,8 +68,7 @@ wrong-from (a ∷ s) zero low high value at h n e =
           inside = omega (arith, by-ih .inside);
           rest = by-ih .rest;
           begins = rw l (ended-text (tailsOf a) (bitsOf a) (r (take (by-ih .passed) s ++ by-ih .rest)) (by-ih .begins));
-          longest =
-              λ m u. rw l (ended-bad (tailsOf a) (bitsOf a) n (r (take (suc (by-ih .passed)) s ++ u)) (by-ih .longest (omega arith) u));
+          longest = λ m u. rw l (ended-bad (tailsOf a) (bitsOf a) n (r (take (suc (by-ih .passed)) s ++ u)) (by-ih .longest (omega arith) u));
         }
     go false l q ih =
         let at-is : at ≡ n = cc in
@@ -91,8 +82,7 @@ wrong-from (a ∷ s) (suc left) low high value at h n e =
     r : List ℕ → Reading
     r = reading left 0x80 0xbf bits (at + 1)
 
-    go :
-        (b : Bool) → (leb low a && leb a high) ≡ b → cond b (ended left bits (r s)) (bad at) ≡ bad n →
+    go : (b : Bool) → (leb low a && leb a high) ≡ b → cond b (ended left bits (r s)) (bad at) ≡ bad n →
         (r s ≡ bad n → Wrong left 0x80 0xbf bits (at + 1) s n) → Wrong (suc left) low high value at (a ∷ s) n
     go true l q ih =
         let by-ih = ih (bad-ended left bits n (r s) q) in

@@ -1,13 +1,6 @@
 -- Laws of what the encoder writes: the bytes of a code point, and one code point after another. Assumes nothing.
-use mathlib.Core.Path.{_≡_, refl, ap, sym, subst, _∙_}
-use mathlib.Core.List.{List, [], _∷_, _++_}
-use mathlib.Core.Bool.{Bool, true, false, cond, not, _||_}
-use Prim.Native.Nat.{ℕ, zero, suc, _+_, _*_, _/_, _%_, _≤_, _<_}
-use native.Mathlib.Nat.{add-zero}
-use native.Mathlib.Numerals.{add-one, add-two, add-three}
-use native.Mathlib.Omega.{arith}
-use lib.ListN.{length, getD, set, drop, length-set, length-append, drop-of-length-le}
-use lib.Seq.{sets}
+use Rattle.lists.proofs.Kit.{_≡_, refl, ap, sym, _∙_, List, [], _∷_, _++_, Bool, true, false, not, _||_, ℕ, suc, _+_, _/_, _%_, _≤_, _<_, add-zero, add-one}
+use Rattle.lists.proofs.Kit.{add-two, add-three, arith, length, getD, set, drop, length-set, length-append, drop-of-length-le, sets}
 use Rattle.lists.specs.Lists.{any}
 use Rattle.lists.proofs.Lists.{drop-at}
 use Rattle.chars.specs.Scalar.{isScalar, notScalar}
@@ -29,8 +22,7 @@ module _ (x : ℕ) where
           size = simp length-set;
         }
 
-    pub put-three :
-        0x800 ≤ x → x < 0x10000 →
+    pub put-three : 0x800 ≤ x → x < 0x10000 →
         Put bytes at (encoding x) (at + 3) (set (set (set bytes at (0xe0 + x / 4096)) (at + 1) (0x80 + x / 64 % 64)) (at + 2) (0x80 + x % 64))
     put-three h k =
         record {
@@ -39,9 +31,7 @@ module _ (x : ℕ) where
           size = simp length-set;
         }
 
-    pub put-four :
-        0x10000 ≤ x →
-        Put bytes at (encoding x) (at + 4)
+    pub put-four : 0x10000 ≤ x → Put bytes at (encoding x) (at + 4)
         (set (set (set (set bytes at (0xf0 + x / 262144)) (at + 1) (0x80 + x / 4096 % 64)) (at + 2) (0x80 + x / 64 % 64)) (at + 3) (0x80 + x % 64))
     put-four h =
         record {
@@ -95,9 +85,7 @@ module _ {t room bytes : List ℕ} {at i : ℕ} (w : Laying t room at i bytes) w
         within = omega arith;
         scalar = scalar-first value (drop (i + 1) t) (rw (drop-at t i h) at (w .scalar)) .1;
         total = omega (arith, w .total, p .next, ap length (utf8-at t i h), length-append (encoding value) rest);
-        whole =
-            rw (p .left, p .next)
-            (sym (sets-append (encoding value) rest bytes at) ∙ ap (sets bytes at) (sym (utf8-at t i h)) ∙ w .whole);
+        whole = rw (p .left, p .next) (sym (sets-append (encoding value) rest bytes at) ∙ ap (sets bytes at) (sym (utf8-at t i h)) ∙ w .whole);
         size = p .size ∙ w .size;
       }
 

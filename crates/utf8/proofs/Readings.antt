@@ -1,9 +1,5 @@
 -- Laws of reading: a byte that can stand there, and one that can't; and a whole sequence. Assumes nothing.
-use mathlib.Core.Path.{_≡_, refl, ap}
-use mathlib.Core.List.{List, [], _∷_}
-use mathlib.Core.Bool.{true, false, and-false}
-use Prim.Native.Nat.{ℕ, suc, _+_, _*_, _-_, _≤_, _<_}
-use borrow.Author.Tests.{le-leb, lt-leb}
+use Rattle.lists.proofs.Kit.{_≡_, refl, ap, List, [], _∷_, true, false, and-false, ℕ, suc, _+_, _*_, _-_, _≤_, _<_, le-leb, lt-leb}
 use Rattle.utf8.specs.Decoding.{bad, onto, isLead, tailsOf, lowOf, highOf, bitsOf, ended, reading, readingFrom}
 
 -- between two sequences nothing is kept of the first
@@ -13,9 +9,7 @@ reading-fresh low high value at [] = refl
 reading-fresh low high value at (a ∷ s) = refl
 
 module _ (at a : ℕ) (s : List ℕ) where
-  pub lead-on :
-      isLead a ≡ true →
-      readingFrom at (a ∷ s) ≡ ended (tailsOf a) (bitsOf a) (reading (tailsOf a) (lowOf a) (highOf a) (bitsOf a) (at + 1) s)
+  pub lead-on : isLead a ≡ true → readingFrom at (a ∷ s) ≡ ended (tailsOf a) (bitsOf a) (reading (tailsOf a) (lowOf a) (highOf a) (bitsOf a) (at + 1) s)
   unfolding reading
   lead-on e = rw e
 
@@ -24,9 +18,7 @@ module _ (at a : ℕ) (s : List ℕ) where
   lead-bad e = rw e
 
   module _ (left low high value : ℕ) where
-    pub tail-on :
-        low ≤ a → a ≤ high →
-        reading (suc left) low high value at (a ∷ s) ≡
+    pub tail-on : low ≤ a → a ≤ high → reading (suc left) low high value at (a ∷ s) ≡
         ended left (value * 64 + (a - 0x80)) (reading left 0x80 0xbf (value * 64 + (a - 0x80)) (at + 1) s)
     unfolding reading
     tail-on h k = rw (le-leb low a h, le-leb a high k)
@@ -45,21 +37,18 @@ module _ (at a x : ℕ) (s : List ℕ) (lead : isLead a ≡ true) where
   unfolding reading ended
   read-one t e = rw (lead, t, e) (ap (onto x) (reading-fresh _ _ x (at + 1) s))
 
-  pub read-two :
-      (b : ℕ) → tailsOf a ≡ 1 → lowOf a ≤ b → b ≤ highOf a → bitsOf a * 64 + (b - 0x80) ≡ x →
+  pub read-two : (b : ℕ) → tailsOf a ≡ 1 → lowOf a ≤ b → b ≤ highOf a → bitsOf a * 64 + (b - 0x80) ≡ x →
       readingFrom at (a ∷ b ∷ s) ≡ onto x (readingFrom (at + 1 + 1) s)
   unfolding reading ended
   read-two b t h k e = rw (lead, t, le-leb (lowOf a) b h, le-leb b (highOf a) k, e) (ap (onto x) (reading-fresh _ _ x (at + 1 + 1) s))
 
-  pub read-three :
-      (b c : ℕ) → tailsOf a ≡ 2 → lowOf a ≤ b → b ≤ highOf a → 0x80 ≤ c → c ≤ 0xbf → (bitsOf a * 64 + (b - 0x80)) * 64 + (c - 0x80) ≡ x →
+  pub read-three : (b c : ℕ) → tailsOf a ≡ 2 → lowOf a ≤ b → b ≤ highOf a → 0x80 ≤ c → c ≤ 0xbf → (bitsOf a * 64 + (b - 0x80)) * 64 + (c - 0x80) ≡ x →
       readingFrom at (a ∷ b ∷ c ∷ s) ≡ onto x (readingFrom (at + 1 + 1 + 1) s)
   unfolding reading ended
   read-three b c t h k i j e =
       rw (lead, t, le-leb (lowOf a) b h, le-leb b (highOf a) k, le-leb 0x80 c i, le-leb c 0xbf j, e) (ap (onto x) (reading-fresh _ _ x (at + 1 + 1 + 1) s))
 
-  pub read-four :
-      (b c d : ℕ) → tailsOf a ≡ 3 → lowOf a ≤ b → b ≤ highOf a → 0x80 ≤ c → c ≤ 0xbf → 0x80 ≤ d → d ≤ 0xbf →
+  pub read-four : (b c d : ℕ) → tailsOf a ≡ 3 → lowOf a ≤ b → b ≤ highOf a → 0x80 ≤ c → c ≤ 0xbf → 0x80 ≤ d → d ≤ 0xbf →
       ((bitsOf a * 64 + (b - 0x80)) * 64 + (c - 0x80)) * 64 + (d - 0x80) ≡ x →
       readingFrom at (a ∷ b ∷ c ∷ d ∷ s) ≡ onto x (readingFrom (at + 1 + 1 + 1 + 1) s)
   unfolding reading ended

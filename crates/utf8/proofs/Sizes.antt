@@ -1,13 +1,6 @@
 -- How large what is answered is: no more code points than bytes, a place within them, and at most four bytes for a code point. Assumes nothing.
-use mathlib.Core.Path.{_≡_, refl, ap}
-use mathlib.Core.List.{List, [], _∷_}
-use mathlib.Core.Bool.{Bool, true, false, cond}
-use Prim.Native.Nat.{ℕ, _+_, _*_, _≤_, _<_}
-use native.Mathlib.Decide.{decLt}
-use native.Mathlib.Omega.{arith}
-use lib.Dec.{leb, ltb, eqb}
-use lib.ListN.{length, length-append}
-use borrow.Author.Tests.{ltb-false}
+use Rattle.lists.proofs.Kit.{_≡_, refl, ap, List, [], _∷_, Bool, true, false, cond, ℕ, _*_, _≤_, _<_, decLt, arith, length, length-append, leb, ltb, eqb}
+use Rattle.lists.proofs.Kit.{ltb-false}
 use Rattle.lists.specs.Lists.{any}
 use Rattle.chars.specs.Scalar.{notScalar}
 use Rattle.utf8.specs.declared.Decoded.the-variants.{Text, Bad, Refused}
@@ -69,8 +62,7 @@ pub encoded-most : (t : List ℕ) (room n : ℕ) → encoded t room ≡ Bytes n 
 unfolding encoded encodeRefusal
 encoded-most t room n e = go (ltb 1048576 (length t)) (any notScalar t) (leb (length (utf8 t)) room) refl e
   where
-    go :
-        (b c d : Bool) → ltb 1048576 (length t) ≡ b →
+    go : (b c d : Bool) → ltb 1048576 (length t) ≡ b →
         cond (eqb (cond b 1 (cond c 2 (cond d 0 14))) 0) (Bytes (length (utf8 t))) (Encoded·Refused (cond b 1 (cond c 2 (cond d 0 14)))) ≡ Bytes n →
         n ≤ 4194304
     go true c d p q = let never : _≡_ {A = ℕ} 0 1 = cc in absurd (omega arith)

@@ -1,12 +1,6 @@
 -- What is read is a text of scalar values, and the bytes are its encoding. Assumes nothing.
-use mathlib.Core.Path.{_≡_, refl, ap, sym, subst, _∙_}
-use mathlib.Core.List.{List, [], _∷_, _++_}
-use mathlib.Core.Bool.{Bool, true, false, cond, not, _&&_, _||_}
-use Prim.Native.Nat.{ℕ, zero, suc, _+_, _*_, _-_, _≤_}
-use native.Mathlib.Omega.{arith}
-use lib.Dec.{leb}
-use lib.Seq.{append-snoc}
-use borrow.Author.Tests.{leb-true}
+use Rattle.lists.proofs.Kit.{_≡_, refl, subst, List, [], _∷_, _++_, Bool, true, false, cond, _&&_, ℕ, zero, suc, _+_, _*_, _-_, arith, append-snoc, leb}
+use Rattle.lists.proofs.Kit.{leb-true}
 use Rattle.chars.specs.Scalar.{notScalar}
 use Rattle.lists.specs.Lists.{any}
 use Rattle.utf8.specs.Encoding.{encoding, utf8}
@@ -34,8 +28,7 @@ ended-encodes zero low high value p s (text u) o ih t e =
 ended-encodes zero low high value p s (bad n) o ih t e = let never : _≡_ {A = ℕ} 0 1 = cc in absurd (omega arith)
 ended-encodes (suc left) low high value p s r o ih t e = ih t e
 
-encodes-from :
-    (s : List ℕ) (left low high value at : ℕ) (p t : List ℕ) → Opens p left low high value → reading left low high value at s ≡ text t →
+encodes-from : (s : List ℕ) (left low high value at : ℕ) (p t : List ℕ) → Opens p left low high value → reading left low high value at s ≡ text t →
     Encodes t (held left p ++ s)
 unfolding reading held any utf8 Opens
 encodes-from [] zero low high value at p t o e = let value-is : [] ≡ t = cc in subst (λ (l : List ℕ). Encodes l []) value-is (refl, refl)
@@ -45,8 +38,7 @@ encodes-from (a ∷ s) zero low high value at p t o e = go (isLead a) refl e (en
     r : Reading
     r = reading (tailsOf a) (lowOf a) (highOf a) (bitsOf a) (at + 1) s
 
-    go :
-        (b : Bool) → isLead a ≡ b → cond b (ended (tailsOf a) (bitsOf a) r) (bad at) ≡ text t →
+    go : (b : Bool) → isLead a ≡ b → cond b (ended (tailsOf a) (bitsOf a) r) (bad at) ≡ text t →
         ((u : List ℕ) → Opens (a ∷ []) (tailsOf a) (lowOf a) (highOf a) (bitsOf a) → r ≡ text u → Encodes u (held (tailsOf a) (a ∷ []) ++ s)) →
         Encodes t (a ∷ s)
     go true l q ih =
@@ -62,14 +54,12 @@ encodes-from (a ∷ s) (suc left) low high value at p t o e =
     r : Reading
     r = reading left 0x80 0xbf bits (at + 1) s
 
-    go :
-        (b c : Bool) → leb low a ≡ b → leb a high ≡ c → cond (b && c) (ended left bits r) (bad at) ≡ text t →
+    go : (b c : Bool) → leb low a ≡ b → leb a high ≡ c → cond (b && c) (ended left bits r) (bad at) ≡ text t →
         ((u : List ℕ) → Opens (p ++ (a ∷ [])) left 0x80 0xbf bits → r ≡ text u → Encodes u (held left (p ++ (a ∷ [])) ++ s)) →
         Encodes t (p ++ (a ∷ s))
     go true true h k q ih =
         let here = o a (leb-true low a h) (leb-true a high k) in
-        subst (λ (l : List ℕ). Encodes t l) (append-snoc p a s)
-        (ended-encodes left 0x80 0xbf bits (p ++ (a ∷ [])) s r here (λ u v. ih u here v) t q)
+        subst (λ (l : List ℕ). Encodes t l) (append-snoc p a s) (ended-encodes left 0x80 0xbf bits (p ++ (a ∷ [])) s r here (λ u v. ih u here v) t q)
     go true false h k q ih = let never : _≡_ {A = ℕ} 0 1 = cc in absurd (omega arith)
     go false c h k q ih = let never : _≡_ {A = ℕ} 0 1 = cc in absurd (omega arith)
 

@@ -1,10 +1,5 @@
 -- Laws of the sequence that begins at an index, by its lead: a single byte, none at all, or what `follow` goes on with. Assumes nothing.
-use mathlib.Core.Path.{_≡_, sym, _∙_}
-use mathlib.Core.List.{List}
-use mathlib.Core.Bool.{true, false}
-use Prim.Native.Nat.{ℕ, _+_, _-_, _≤_, _<_}
-use native.Mathlib.Omega.{arith}
-use lib.ListN.{length, getD, drop}
+use Rattle.lists.proofs.Kit.{_≡_, sym, _∙_, List, true, false, ℕ, _+_, _-_, _≤_, _<_, arith, length, getD, drop}
 use Rattle.lists.proofs.Lists.{drop-at}
 use Rattle.utf8.specs.Decoding.{bad, onto, isLead, tailsOf, lowOf, highOf, bitsOf, ended, reading, readingFrom}
 use Rattle.utf8.specs.Sequences.{bitsBelow, Begun}
@@ -29,28 +24,19 @@ module _ (b : List ℕ) (at : ℕ) (h : at < length b) where
   pub begins-high : 0xf4 < lead → readingFrom at (drop at b) ≡ bad at
   begins-high l = begins-none (lead-not-high lead l)
 
-  begins-more :
-      (left value lo hi : ℕ) → (isLead lead ≡ true) × (tailsOf lead ≡ left) × (bitsOf lead ≡ value) → lo ≡ lowOf lead → hi ≡ highOf lead →
+  begins-more : (left value lo hi : ℕ) → (isLead lead ≡ true) × (tailsOf lead ≡ left) × (bitsOf lead ≡ value) → lo ≡ lowOf lead → hi ≡ highOf lead →
       readingFrom at (drop at b) ≡ ended left value (reading left lo hi value (at + 1) (drop (at + 1) b))
-  begins-more left value lo hi f el eh =
-      rw (drop-at b at h, el, eh) (lead-on at lead (drop (at + 1) b) (f .0) ∙ rw (f .1, f .2))
+  begins-more left value lo hi f el eh = rw (drop-at b at h, el, eh) (lead-on at lead (drop (at + 1) b) (f .0) ∙ rw (f .1, f .2))
 
-  pub begins-two :
-      0xc2 ≤ lead → lead < 0xe0 →
-      readingFrom at (drop at b) ≡ ended 1 (lead - 0xc0) (reading 1 0x80 0xbf (lead - 0xc0) (at + 1) (drop (at + 1) b))
-  begins-two l m =
-      begins-more 1 (lead - 0xc0) 0x80 0xbf (lead-two lead l m)
+  pub begins-two : 0xc2 ≤ lead → lead < 0xe0 → readingFrom at (drop at b) ≡ ended 1 (lead - 0xc0) (reading 1 0x80 0xbf (lead - 0xc0) (at + 1) (drop (at + 1) b))
+  begins-two l m = begins-more 1 (lead - 0xc0) 0x80 0xbf (lead-two lead l m)
       (sym (low-else lead (λ e. omega arith) (λ e. omega arith))) (sym (high-else lead (λ e. omega arith) (λ e. omega arith)))
 
   module _ (lo hi : ℕ) (el : lo ≡ lowOf lead) (eh : hi ≡ highOf lead) where
-    pub begins-three :
-        0xe0 ≤ lead → lead < 0xf0 →
-        readingFrom at (drop at b) ≡ ended 2 (lead - 0xe0) (reading 2 lo hi (lead - 0xe0) (at + 1) (drop (at + 1) b))
+    pub begins-three : 0xe0 ≤ lead → lead < 0xf0 → readingFrom at (drop at b) ≡ ended 2 (lead - 0xe0) (reading 2 lo hi (lead - 0xe0) (at + 1) (drop (at + 1) b))
     begins-three l m = begins-more 2 (lead - 0xe0) lo hi (lead-three lead l m) el eh
 
-    pub begins-four :
-        0xf0 ≤ lead → lead ≤ 0xf4 →
-        readingFrom at (drop at b) ≡ ended 3 (lead - 0xf0) (reading 3 lo hi (lead - 0xf0) (at + 1) (drop (at + 1) b))
+    pub begins-four : 0xf0 ≤ lead → lead ≤ 0xf4 → readingFrom at (drop at b) ≡ ended 3 (lead - 0xf0) (reading 3 lo hi (lead - 0xf0) (at + 1) (drop (at + 1) b))
     begins-four l m = begins-more 3 (lead - 0xf0) lo hi (lead-four lead l m) el eh
 
     -- `follow` can go on

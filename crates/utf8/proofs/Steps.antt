@@ -1,9 +1,5 @@
 -- Laws of the walk through a sequence: one byte more of it, its end, and each way that it goes wrong. Assumes nothing.
-use mathlib.Core.Path.{_≡_, ap, _∙_}
-use mathlib.Core.List.{List}
-use Prim.Native.Nat.{ℕ, zero, suc, _+_, _*_, _-_, _≤_, _<_}
-use native.Mathlib.Omega.{arith}
-use lib.ListN.{length, getD, drop, drop-of-length-le}
+use Rattle.lists.proofs.Kit.{_≡_, ap, _∙_, List, ℕ, zero, suc, _+_, _*_, _-_, _≤_, _<_, arith, length, getD, drop, drop-of-length-le}
 use Rattle.lists.proofs.Lists.{drop-at}
 use Rattle.utf8.specs.Decoding.{Reading, bad, onto, ended, reading, readingFrom}
 use Rattle.utf8.specs.Sequences.{bitsBelow, Begun}
@@ -50,8 +46,7 @@ module _ {b : List ℕ} {r : Reading} {from at left least most value : ℕ} (w :
     pub follows-high : most < getD b at 0 → r ≡ bad at
     follows-high l = same-more h ∙ rw (drop-at b at k) (tail-high at (getD b at 0) (drop (at + 1) b) (left - 1) least most value l)
 
-    pub follows-on :
-        least ≤ getD b at 0 → getD b at 0 ≤ most → Follows b r from (at + 1) (left - 1) 0x80 0xbf (value * 64 + (getD b at 0 - 0x80))
+    pub follows-on : least ≤ getD b at 0 → getD b at 0 ≤ most → Follows b r from (at + 1) (left - 1) 0x80 0xbf (value * 64 + (getD b at 0 - 0x80))
     follows-on l m =
         record {
           begun =

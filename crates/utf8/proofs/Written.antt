@@ -1,14 +1,10 @@
 -- Laws of the second pass: the writing goes on by a code point, and ends with all of them written. Assumes nothing.
-use mathlib.Core.Path.{_≡_, refl, ap, sym, subst, _∙_}
-use mathlib.Core.List.{List, [], _∷_, _++_}
-use Prim.Native.Nat.{ℕ, _+_, _-_, _≤_, _<_}
-use native.Mathlib.Decide.{decLt}
-use native.Mathlib.Numerals.{add-one}
-use native.Mathlib.Omega.{arith}
-use lib.ListN.{length, getD, take, drop, set, length-set, length-drop, drop-of-length-le, take-append-drop}
-use lib.Seq.{take-suc, take-suc-set, take-all, drop-set-lt, drop-drop}
+use Rattle.lists.proofs.Kit.{_≡_, refl, ap, sym, _∙_, List, [], _∷_, _++_, false, ℕ, _+_, _-_, _≤_, _<_, add-one, decLt, arith, length, getD, take, drop, set}
+use Rattle.lists.proofs.Kit.{length-set, length-drop, drop-of-length-le, take-append-drop, take-suc, take-suc-set, take-all, drop-set-lt, drop-drop}
+use Rattle.lists.specs.Lists.{any}
 use Rattle.lists.proofs.Lists.{drop-at}
 use Rattle.utf8.specs.declared.Spot.{Spot}
+use Rattle.utf8.specs.Encoding.{isAbove}
 use Rattle.utf8.specs.Decoding.{Reading, text, bad, onto, reading, readingFrom}
 use Rattle.utf8.specs.Walks.{pointsOf, Holds, Wrote}
 
@@ -42,11 +38,15 @@ pub record Going (b room : List ℕ) (before at n : ℕ) (points : List ℕ) : T
   pub kept : drop n points ≡ drop n room
   pub size : length points ≡ length room
 
+-- and the bytes up to `until` are ASCII
+pub record Widening (b room : List ℕ) (before until at n : ℕ) (points : List ℕ) : Type 0 where
+  pub going : Going b room before at n points
+  pub ascii : any isAbove (take (until - at) (drop at b)) ≡ false
+
 pub going-start : {b room : List ℕ} {at n : ℕ} → Holds b at n room → Going b room n at n room
 going-start h = record { holds = h; onward = omega arith; kept = refl; size = refl }
 
-pub going-wrote :
-    {b room points : List ℕ} {before at n until : ℕ} → Going b room before at n points → until ≤ at →
+pub going-wrote : {b room points : List ℕ} {before at n until : ℕ} → Going b room before at n points → until ≤ at →
     Wrote b room before until (record { at = at; count = n }) points
 going-wrote g h = record { holds = g .holds; reached = h; onward = g .onward; kept = g .kept; size = g .size }
 
@@ -82,8 +82,7 @@ module _ {b room points : List ℕ} {before at n : ℕ} (g : Going b room before
                 within = h;
                 rest = found .1 ∙ ap text (sym (next-is .2));
                 most = omega (arith, next-is .0);
-                front =
-                    rw (add-one n, take-suc-set points n x going-room, take-suc (pointsOf b) n 0 (next-is .0), g .holds .front, next-is .1);
+                front = rw (add-one n, take-suc-set points n x going-room, take-suc (pointsOf b) n 0 (next-is .0), g .holds .front, next-is .1);
                 room = simp length-set (g .holds .room);
               };
           onward = omega (arith, g .onward);

@@ -1,5 +1,6 @@
 -- What the public calls of `src/` answer and leave in lent places. Document 02, #105.
 -- Definitions only; the laws are in `proofs/Answers.antt` and `proofs/Encodes.antt`. Assumes nothing.
+use mathlib.Core.Path.{_≡_}
 use Prim.Native.Nat.{ℕ}
 use mathlib.Core.List.{List, _++_}
 use mathlib.Core.Bool.{cond}
@@ -46,3 +47,12 @@ encoded t room = let f = encodeRefusal t room in cond (eqb f 0) (Bytes (length (
 
 unfoldable pub encodedIn : List ℕ → List ℕ → List ℕ
 encodedIn t room = cond (eqb (encodeRefusal t (length room)) 0) (utf8 t ++ drop (length (utf8 t)) room) room
+
+-- what a call answers, and what it leaves in the room that it is lent
+pub record DecodesTo (bytes points : List ℕ) (r : Decoded) (points′ : List ℕ) : Type 0 where
+  pub answer : r ≡ decoded (decoding bytes) (length points)
+  pub left : points′ ≡ decodedIn (decoding bytes) points
+
+pub record EncodesTo (points bytes : List ℕ) (r : Encoded) (bytes′ : List ℕ) : Type 0 where
+  pub answer : r ≡ encoded points (length bytes)
+  pub left : bytes′ ≡ encodedIn points bytes

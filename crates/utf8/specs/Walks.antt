@@ -1,6 +1,6 @@
 -- How far the two passes of the decoder have come, the first of which counts code points and the second writes them; and what the encoder writes.
 -- Definitions only. Assumes nothing.
-use Prim.Native.Nat.{ℕ, _+_, _≤_}
+use Prim.Native.Nat.{ℕ, _+_, _≤_, _<_}
 use mathlib.Core.Path.{_≡_}
 use mathlib.Core.List.{List, []}
 use lib.ListN.{length, take, drop}
@@ -23,6 +23,11 @@ pub record Counts (b : List ℕ) (at n : ℕ) : Type 0 where
   pub within : at ≤ length b
   pub fewer : n ≤ at
   pub count : checked b ≡ plus n (tally (readingFrom at (drop at b)))
+
+-- r is an index past `at`, of a sequence of len bytes or its end
+pub record Onward (at len r : ℕ) : Type 0 where
+  pub onward : at < r
+  pub inside : r ≤ len
 
 -- the count went on to an index at or past `until`, or met the place
 abbrev pub Walked : List ℕ → ℕ → Walk → Type 0

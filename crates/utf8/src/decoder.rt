@@ -13,8 +13,8 @@ ghost use lib.ListN.{length, take, drop};
 ghost use Rattle.lists.specs.Lists.{any};
 ghost use Rattle.utf8.specs.Encoding.{isAbove};
 ghost use Rattle.utf8.specs.Decoding.{decoding};
-ghost use Rattle.utf8.specs.Calls.{checked, decoded, decodedIn};
-ghost use Rattle.utf8.specs.Walks.{Counts, Walked, Holds, Wrote};
+ghost use Rattle.utf8.specs.Calls.{checked, decodedIn, DecodesTo};
+ghost use Rattle.utf8.specs.Walks.{Counts, Onward, Walked, Holds, Wrote};
 
 // How many bytes a stretch has.
 const STRETCH: usize = 64;
@@ -36,7 +36,7 @@ fn plain(bytes: &[u8]) -> bool
 // Where the stretch from an index on ends.
 fn stretch(at: usize, len: usize) -> usize
     requires { ⌜ at < len ⌝ }
-    ensures { λ r. ⌜ (at < r) × (r ≤ len) ⌝ }
+    ensures { λ r. ⌜ Onward at len r ⌝ }
 {
     if len - at < STRETCH {
         len
@@ -163,9 +163,7 @@ fn write(bytes: &[u8], points: &mut [u32])
 // the place of the first byte that can't stand there (13), and then too little room (14); nothing
 // is written then.
 pub fn decode(bytes: &[u8], points: &mut [u32]) -> Decoded
-    ensures { λ r. ⌜ r ≡ decoded (decoding (now (bytes .entry))) (length (now (points .entry))) ⌝ }
-    ensures { λ _. ⌜ now (points .exit) ≡ decodedIn (decoding (now (bytes .entry)))
-        (now (points .entry)) ⌝ }
+    ensures { λ r. ⌜ DecodesTo (now (bytes .entry)) (now (points .entry)) r (now (points .exit)) ⌝ }
 {
     match check(bytes) {
         Checked::Points(n) => {

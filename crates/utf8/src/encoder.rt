@@ -8,7 +8,7 @@ ghost use lib.Seq.{sets};
 ghost use Rattle.lists.specs.Lists.{any};
 ghost use Rattle.chars.specs.Scalar.{notScalar};
 ghost use Rattle.utf8.specs.Encoding.{encoding, utf8};
-ghost use Rattle.utf8.specs.Calls.{encoded, encodedIn};
+ghost use Rattle.utf8.specs.Calls.{EncodesTo};
 ghost use Rattle.utf8.specs.Walks.{Put};
 
 // How many bytes the encoding of x has.
@@ -87,8 +87,7 @@ fn write(points: &[u32], bytes: &mut [u8])
 // points (1), a value that is no scalar value (2) and then too little room (14); nothing is written
 // then.
 pub fn encode(points: &[u32], bytes: &mut [u8]) -> Encoded
-    ensures { λ r. ⌜ r ≡ encoded (now (points .entry)) (length (now (bytes .entry))) ⌝ }
-    ensures { λ _. ⌜ now (bytes .exit) ≡ encodedIn (now (points .entry)) (now (bytes .entry)) ⌝ }
+    ensures { λ r. ⌜ EncodesTo (now (points .entry)) (now (bytes .entry)) r (now (bytes .exit)) ⌝ }
 {
     if points.len() > 1048576 {
         return Encoded::Refused(1);

@@ -1,9 +1,5 @@
 -- A row of an accepted text may be walked. Assumes nothing.
-use mathlib.Core.Path.{_≡_, ap, _∙_}
-use mathlib.Core.List.{List}
-use Prim.Native.Nat.{ℕ, _-_, _≤_, min}
-use native.Mathlib.Omega.{arith}
-use lib.ListN.{length}
+use Rattle.lists.proofs.Kit.{_≡_, ap, _∙_, List, ℕ, _-_, _≤_, min, arith, length}
 use Rattle.text.specs.Text.{rowCount, rowAt}
 use Rattle.text.proofs.Parts.{row-fits}
 use Rattle.text.specs.Offsets.{lineAt}

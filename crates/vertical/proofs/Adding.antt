@@ -1,11 +1,6 @@
 -- Counts of `j` and `k` add, over any width function: so many rows and then so many more, with the sticky column that the first move left, are as many as
 -- both. Assumes nothing.
-use mathlib.Core.Path.{_≡_, refl, ap, sym, _∙_}
-use mathlib.Core.List.{List}
-use mathlib.Core.Bool.{Bool}
-use Prim.Native.Nat.{ℕ, _+_, _<_}
-use native.Mathlib.Decide.{ℕ-discrete}
-use borrow.Author.Tests.{eq-eqb, ne-eqb}
+use Rattle.lists.proofs.Kit.{_≡_, refl, ap, sym, _∙_, List, Bool, ℕ, _+_, _<_, ℕ-discrete, eq-eqb, ne-eqb}
 use Rattle.text.specs.Text.{rowCount}
 use Rattle.visible_rows.specs.Visible.{verticalRow, deltaOf}
 use Rattle.visible_rows.proofs.Adding.{rows-add, back-none}
@@ -19,8 +14,7 @@ landed-twice : (w : ℕ → ℕ) (t : List ℕ) (tabstop want row col a b : ℕ)
 unfolding landed
 landed-twice w t tabstop want row col a b back = go (ℕ-discrete b a)
   where
-    go : Dec (b ≡ a) →
-        landed w t tabstop want a (landed w t tabstop want row col a .col) b ≡ landed w t tabstop want row col b
+    go : Dec (b ≡ a) → landed w t tabstop want a (landed w t tabstop want row col a .col) b ≡ landed w t tabstop want row col b
     go (yes e) = rw (e, eq-eqb a a refl)
     go (no n) = rw (ne-eqb b a n, ne-eqb b row (λ e. n (e ∙ sym (back e))))
 

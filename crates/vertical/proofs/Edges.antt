@@ -1,7 +1,5 @@
 -- A viewport motion leads to a row of the text. Assumes nothing.
-use mathlib.Core.List.{List}
-use Prim.Native.Nat.{ℕ, _<_}
-use native.Mathlib.Omega.{arith}
+use Rattle.lists.proofs.Kit.{List, ℕ, _<_, arith}
 use Rattle.text.specs.Text.{rowCount}
 use Rattle.text.proofs.Content.{content-near}
 use Rattle.vertical.specs.declared.Edge.{Edge}

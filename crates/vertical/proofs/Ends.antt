@@ -1,13 +1,7 @@
 -- A sticky column past the cells of every row: `j` and `k` from a row's last character lead to the last of each row that they come to.
 -- Over any width function and tabstop of at most 1,000. Assumes nothing.
-use mathlib.Core.Path.{_≡_, ap, sym, _∙_}
-use mathlib.Core.List.{List}
-use Prim.Native.Nat.{ℕ, _≤_, _<_}
-use native.Mathlib.Decide.{ℕ-discrete}
-use native.Mathlib.Omega.{arith}
+use Rattle.lists.proofs.Kit.{_≡_, ap, sym, _∙_, List, ℕ, _≤_, _<_, ℕ-discrete, arith, length, eq-eqb, ne-eqb}
 use lib.IntN.{ℤ}
-use lib.ListN.{length}
-use borrow.Author.Tests.{eq-eqb, ne-eqb}
 use Rattle.text.specs.Text.{rowCount, rowAt, rowLen, lastCol}
 use Rattle.text.proofs.Parts.{row-fits}
 use Rattle.row_tabs.proofs.Accepted.{stop-most}

@@ -1,7 +1,5 @@
 -- What the given Rust answers in corners of it. Each holds by computation. Assumes nothing.
-use mathlib.Core.Path.{_≡_, refl}
-use mathlib.Core.List.{[], _∷_}
-use mathlib.Core.Bool.{true, false}
+use Rattle.lists.proofs.Kit.{_≡_, refl, [], _∷_, true, false}
 use Rattle.chars.specs.Width.{zeroWidths, doubleWidths, widthBy, widthOf}
 use Rattle.row_tabs.specs.Cells.{stopOf}
 use Rattle.row_columns.specs.Columns.{visualFrom, charFrom}
@@ -13,8 +11,7 @@ use Rattle.visible_rows.specs.Visible.{verticalRow, deltaOf}
 use Rattle.vertical.specs.Moves.{landed, moveVertical}
 
 -- `a` and a separator: `j` reaches the last empty row; on it `j` stays, and the sticky column is set
-pub last-empty :
-    (moveVertical widthOf (97 ∷ 10 ∷ []) [] 8 (deltaOf true 1) 0 0 Absent ≡ record { row = 1; col = 0; want = 0 }) ×
+pub last-empty : (moveVertical widthOf (97 ∷ 10 ∷ []) [] 8 (deltaOf true 1) 0 0 Absent ≡ record { row = 1; col = 0; want = 0 }) ×
     (moveVertical widthOf (97 ∷ 10 ∷ []) [] 8 (deltaOf true 0) 1 0 Absent ≡ record { row = 1; col = 0; want = 0 })
 unfolding rounds verticalRow landed onFirst rows anyFold visibleFrom prevVisible stopOf visualFrom charFrom zeroWidths doubleWidths widthBy widthOf
 last-empty = (refl, refl)

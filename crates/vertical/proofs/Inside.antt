@@ -1,13 +1,7 @@
 -- From a place in the text `j` and `k` lead to a place in the text: a row of its rows, a column of at most the row's count.
 -- Assumes nothing.
-use mathlib.Core.Path.{_≡_, refl, ap}
-use mathlib.Core.List.{List}
-use mathlib.Core.Bool.{Bool, true, false, cond}
-use Prim.Native.Nat.{ℕ, suc, _≤_, _<_}
-use native.Mathlib.Decide.{ℕ-discrete}
-use native.Mathlib.Omega.{arith}
+use Rattle.lists.proofs.Kit.{_≡_, refl, ap, List, Bool, true, false, cond, ℕ, suc, _≤_, _<_, ℕ-discrete, arith, eq-eqb, ne-eqb}
 use lib.IntN.{ℤ, pos, negsuc}
-use borrow.Author.Tests.{eq-eqb, ne-eqb}
 use Rattle.text.specs.Text.{rowCount, rowLen}
 use Rattle.folds.specs.Folds.{hidden}
 use Rattle.folds.specs.declared.Visible.{Visible}

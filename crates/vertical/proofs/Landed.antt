@@ -1,9 +1,6 @@
 -- Where a vertical motion lands: the row stays, or another is reached. Assumes nothing.
-use mathlib.Core.Path.{_≡_, refl, ap, _∙_}
-use mathlib.Core.List.{List}
-use Prim.Native.Nat.{ℕ}
+use Rattle.lists.proofs.Kit.{_≡_, refl, ap, _∙_, List, ℕ, eq-eqb, ne-eqb}
 use lib.IntN.{ℤ}
-use borrow.Author.Tests.{eq-eqb, ne-eqb}
 use Rattle.vertical.specs.Moves.{landed, aimedCol}
 use Rattle.visible_rows.specs.Visible.{verticalRow}
 

@@ -1,6 +1,6 @@
 -- `j` and `k`: where `move_vertical` of motions.rs leads to, over any width function w. Definitions only; the laws are in `proofs/Landed.antt` and
 -- `proofs/Inside.antt`. Assumes nothing.
-use Prim.Native.Nat.{ℕ, _+_, _-_, _≤_, _<_, min}
+use Prim.Native.Nat.{ℕ, _+_, _≤_, _<_, min}
 use mathlib.Core.Path.{_≡_}
 use mathlib.Core.List.{List}
 use mathlib.Core.Bool.{cond}

@@ -1,8 +1,5 @@
 -- Laws of tokens: the last one that speaks of a character decides. Assumes nothing.
-use mathlib.Core.Path.{_≡_, refl, ap, sym, _∙_}
-use mathlib.Core.List.{List, [], _∷_, _++_}
-use mathlib.Core.Bool.{Bool, true, false, cond, not, _||_}
-use Prim.Native.Nat.{ℕ}
+use Rattle.lists.proofs.Kit.{_≡_, refl, ap, _∙_, List, [], _∷_, _++_, Bool, true, false, cond, not, _||_, ℕ}
 use Rattle.lists.specs.Lists.{any}
 use Rattle.vim_grammar.specs.declared.VimToken.{VimToken}
 use Rattle.vim_grammar.specs.Tokens.{speaks, decided, inVim}
@@ -13,8 +10,7 @@ unfolding decided any
 decided-silent b [] c e = refl
 decided-silent b (t ∷ ts) c e = go (speaks t c) e (decided-silent b ts c)
   where
-    go :
-        (s : Bool) → (s || any (λ u. speaks u c) ts) ≡ false → (any (λ u. speaks u c) ts ≡ false → decided b ts c ≡ b) →
+    go : (s : Bool) → (s || any (λ u. speaks u c) ts) ≡ false → (any (λ u. speaks u c) ts ≡ false → decided b ts c ≡ b) →
         decided (cond s (not (t .out)) b) ts c ≡ b
     go true f ih = let never : _≡_ {A = Bool} true false = f in cc
     go false f ih = ih f
@@ -28,9 +24,7 @@ decided-append b (t ∷ ts) us c = decided-append (cond (speaks t c) (not (t .ou
 pub last-decides :
     (ts us : List VimToken) (t : VimToken) (c : ℕ) → speaks t c ≡ true → any (λ u. speaks u c) us ≡ false → inVim (ts ++ (t ∷ us)) c ≡ not (t .out)
 unfolding decided
-last-decides ts us t c e f =
-    decided-append false ts (t ∷ us) c
-    ∙ ap (λ (s : Bool). decided (cond s (not (t .out)) (decided false ts c)) us c) e
+last-decides ts us t c e f = decided-append false ts (t ∷ us) c ∙ ap (λ (s : Bool). decided (cond s (not (t .out)) (decided false ts c)) us c) e
     ∙ decided-silent (not (t .out)) us c f
 
 pub none-decides : (ts : List VimToken) (c : ℕ) → any (λ t. speaks t c) ts ≡ false → inVim ts c ≡ false

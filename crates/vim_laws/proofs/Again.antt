@@ -1,86 +1,24 @@
 -- Reading what was written of a list that was read gives the same table again: the written list is one of the grammar, of ASCII alone, and not
 -- longer. Assumes nothing.
-use mathlib.Core.Path.{_≡_, refl, ap, sym, subst, _∙_}
-use mathlib.Core.List.{List, [], _∷_, _++_}
-use mathlib.Core.Bool.{Bool, true, false, cond, not, _&&_, _||_, true≢false, or-false}
-use Prim.Native.Nat.{ℕ, _+_, _≤_, _<_}
-use native.Mathlib.Decide.{decLt}
-use native.Mathlib.Omega.{arith}
-use lib.Dec.{eqb, leb}
-use lib.ListN.{length, take, drop}
-use lib.Seq.{take-append-seam}
-use borrow.Author.Tests.{le-leb, leb-true, lt-ltb}
+use Rattle.lists.proofs.Kit.{_≡_, refl, ap, sym, _∙_, List, _++_, Bool, true, false, cond, ℕ, _≤_, arith, length, take, drop, take-append-seam, eqb, leb}
+use Rattle.lists.proofs.Kit.{le-leb, leb-true}
 use Rattle.lists.specs.Lists.{any}
-use Rattle.chars.specs.Scalar.{isScalar, notScalar}
-use Rattle.list_parts.specs.Refusals.{listRefusal}
-use Rattle.list_parts.specs.Numbers.{allDigits}
+use Rattle.chars.specs.Scalar.{notScalar}
 use Rattle.vim_grammar.specs.declared.VimToken.{VimToken}
 use Rattle.vim_grammar.specs.Tokens.{inVim}
-use Rattle.vim_grammar.specs.Grammar.{Number, Char, End, by-number, by-char, Item, every-letter, single, between, Part, exclude, include}
-use Rattle.vim_grammar.specs.Grammar.{Parts, last, caret, more, Reads, empty, parts}
+use Rattle.vim_grammar.specs.Grammar.{Reads}
 use Rattle.vim_reader.specs.declared.VimRead.{VimRead}
 use Rattle.vim_reader.specs.declared.VimSpec.{VimSpec}
 use Rattle.vim_reader.specs.Reading.{Reading, read, bad, vimReading}
 use Rattle.vim_reader.specs.Table.{table, kept, answered, refusedAt, readOf}
-use Rattle.vim_reader.proofs.MachineLaws.{digit-high}
 use Rattle.vim_reader.proofs.TableLaws.{table-kept}
-use Rattle.vim_writer.specs.declared.VimWritten.{VimWritten}
 use Rattle.vim_writer.specs.declared.VimWritten.the-variants.{Made, Refused}
 use Rattle.vim_writer.specs.Written.{written, writeRefusal, writtenOf, writtenIn}
 use Rattle.vim_laws.specs.Written as statements
-use Rattle.vim_laws.proofs.Numbers.{digits-first, digits-rest}
 use Rattle.vim_laws.proofs.Sound.{reads-sound}
 use Rattle.vim_laws.proofs.Complete.{reads-complete}
 use Rattle.vim_laws.proofs.Written.{reads-written}
-
--- every list of the grammar is of scalar values
-any-append : (a b : List ℕ) → any notScalar a ≡ false → any notScalar b ≡ false → any notScalar (a ++ b) ≡ false
-unfolding any
-any-append [] b e f = f
-any-append (x ∷ a) b e f = go (notScalar x) e (any-append a b)
-  where
-    go : (s : Bool) → (s || any notScalar a) ≡ false → (any notScalar a ≡ false → any notScalar b ≡ false → any notScalar (a ++ b) ≡ false) →
-        (s || any notScalar (a ++ b)) ≡ false
-    go true g ih = absurd (true≢false g)
-    go false g ih = ih g f
-
-scalar : (x : ℕ) → x ≤ 127 → notScalar x ≡ false
-scalar x h = rw (le-leb x 0x10ffff (omega arith), lt-ltb x 0xd800 (omega arith))
-
-ascii-one : (x : ℕ) → x ≤ 127 → any notScalar (x ∷ []) ≡ false
-unfolding any
-ascii-one x h = rw (scalar x h)
-
-digits-scalar : (ds : List ℕ) → allDigits ds ≡ true → any notScalar ds ≡ false
-unfolding any
-digits-scalar [] a = refl
-digits-scalar (x ∷ ds) a = rw (scalar x (omega (arith, digit-high x (digits-first x ds a)))) (digits-scalar ds (digits-rest x ds a))
-
-end-scalar : {p : List ℕ} {char : Bool} {c : ℕ} → End p char c → any notScalar p ≡ false
-end-scalar {p = p} (by-number n) = digits-scalar p (n .all)
-end-scalar {c = c} (by-char h) = ascii-one c (h .ascii)
-
-cons-scalar : (x : ℕ) (l : List ℕ) → x ≤ 127 → any notScalar l ≡ false → any notScalar (x ∷ l) ≡ false
-cons-scalar x l h e = any-append (x ∷ []) l (ascii-one x h) e
-
-item-scalar : {out : Bool} {p : List ℕ} {t : VimToken} → Item out p t → any notScalar p ≡ false
-item-scalar every-letter = ascii-one 64 (omega arith)
-item-scalar (single e f) = end-scalar e
-item-scalar (between {p = p} {q = q} d e k) = any-append p (45 ∷ q) (end-scalar d) (cons-scalar 45 q (omega arith) (end-scalar e))
-
-part-scalar : {p : List ℕ} {t : VimToken} → Part p t → any notScalar p ≡ false
-part-scalar (exclude {p = p} i) = cons-scalar 94 p (omega arith) (item-scalar i)
-part-scalar (include i f) = item-scalar i
-
-parts-scalar : {l : List ℕ} {ts : List VimToken} → Parts l ts → any notScalar l ≡ false
-parts-scalar (last d) = part-scalar d
-parts-scalar caret = ascii-one 94 (omega arith)
-parts-scalar (more {p = p} {l = l} d r) = any-append p (44 ∷ l) (part-scalar d) (cons-scalar 44 l (omega arith) (parts-scalar r))
-
-reads-scalar : {l : List ℕ} {ts : List VimToken} → Reads l ts → any notScalar l ≡ false
-unfolding any
-reads-scalar empty = refl
-reads-scalar (parts d) = parts-scalar d
+use Rattle.vim_laws.proofs.Scalars.{reads-scalar}
 
 -- what an accepted list is
 pub record Taken (l : List ℕ) : Type 0 where
@@ -134,16 +72,14 @@ module _ (l : List ℕ) (t : Taken l) where
 no-made : (f n : ℕ) → Refused f ≡ Made n → ⊥
 no-made f n e = let never : _≡_ {A = ℕ} 0 1 = cc in omega arith
 
-there :
-    (spec : VimSpec) (room : List ℕ) (n : ℕ) → writtenOf spec room ≡ Made n → take n (writtenIn spec room) ≡ written (kept spec)
+there : (spec : VimSpec) (room : List ℕ) (n : ℕ) → writtenOf spec room ≡ Made n → take n (writtenIn spec room) ≡ written (kept spec)
 unfolding writtenOf writtenIn
 there spec room n e = go (eqb (writeRefusal spec room) 0) refl e
   where
     w : List ℕ
     w = written (kept spec)
 
-    go :
-        (b : Bool) → eqb (writeRefusal spec room) 0 ≡ b → cond b (Made (length w)) (Refused (writeRefusal spec room)) ≡ Made n →
+    go : (b : Bool) → eqb (writeRefusal spec room) 0 ≡ b → cond b (Made (length w)) (Refused (writeRefusal spec room)) ≡ Made n →
         take n (cond b (w ++ drop (length w) room) room) ≡ w
     go true z g =
         let size : length w ≡ n = cc g in

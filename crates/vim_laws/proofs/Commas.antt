@@ -1,15 +1,9 @@
 -- Where a part may end: a comma leads behind it exactly there. Assumes nothing.
-use mathlib.Core.Path.{_≡_, refl, ap, sym, _∙_}
-use mathlib.Core.Bool.{Bool, true, false, cond, _&&_, true≢false}
-use Prim.Native.Nat.{ℕ, _+_, _*_, _-_, _≤_, _<_}
-use native.Mathlib.Decide.{decLt, ℕ-discrete}
-use native.Mathlib.Omega.{arith}
-use lib.Dec.{eqb, leb}
-use borrow.Author.Tests.{le-leb, leb-true}
+use Rattle.lists.proofs.Kit.{_≡_, refl, ap, sym, _∙_, Bool, true, false, true≢false, ℕ, _+_, _*_, _-_, _<_, decLt, ℕ-discrete, arith, leb, le-leb, leb-true}
 use Rattle.lists.specs.Codes.{isDigit}
 use Rattle.vim_reader.specs.declared.State.{State}
 use Rattle.vim_reader.specs.declared.State.the-variants.{Start, Part, Caret, Number, Sign, Dash, Second, Done, Dead}
-use Rattle.vim_reader.specs.Machine.{mostOf, firstOf, startOf, behind, numberStep, secondOf, dashStep, secondStep, doneStep, stepOf, phaseOf, ends, isStart}
+use Rattle.vim_reader.specs.Machine.{behind, numberStep, dashStep, secondStep, doneStep, stepOf, phaseOf, ends, isStart}
 use Rattle.vim_reader.proofs.StateLaws.{first-phase, start-phase, second-phase}
 use Rattle.vim_reader.proofs.MachineLaws as m
 
@@ -80,8 +74,7 @@ step-comma (Sign out c) x e = let by-behind-end = behind-end out true c x e in (
 step-comma (Dash out char lo) x e = go (isDigit x) refl (decLt x lo) (decLt 127 x)
   where
     go : (b : Bool) → isDigit x ≡ b → Dec (x < lo) → Dec (127 < x) → (x ≡ 44) × (false ≡ true) × (dashStep out char lo x ≡ Part)
-    go true d y z =
-        absurd (second-phase 1 out char lo (x - 48) (λ w. omega arith) (λ w. omega arith) (sym (ap phaseOf (m.dash-digit out char lo x d)) ∙ e))
+    go true d y z = absurd (second-phase 1 out char lo (x - 48) (λ w. omega arith) (λ w. omega arith) (sym (ap phaseOf (m.dash-digit out char lo x d)) ∙ e))
     go false d (yes y) z = let never : _≡_ {A = ℕ} 0 1 = sym (ap phaseOf (m.dash-below out char lo x d y)) ∙ e in absurd (omega arith)
     go false d (no y) (yes z) =
         let never : _≡_ {A = ℕ} 0 1 = sym (ap phaseOf (m.dash-above out char lo x d (omega arith) z)) ∙ e in absurd (omega arith)
@@ -90,8 +83,7 @@ step-comma (Dash out char lo) x e = go (isDigit x) refl (decLt x lo) (decLt 127 
 step-comma (Second out char lo v) x e = go (isDigit x) refl (ℕ-discrete x 44) (decLt v lo)
   where
     go : (b : Bool) → isDigit x ≡ b → Dec (x ≡ 44) → Dec (v < lo) → (x ≡ 44) × (leb lo v ≡ true) × (secondStep out char lo v x ≡ Part)
-    go true d y z =
-        absurd (second-phase 1 out char lo (v * 10 + (x - 48)) (λ w. omega arith) (λ w. omega arith)
+    go true d y z = absurd (second-phase 1 out char lo (v * 10 + (x - 48)) (λ w. omega arith) (λ w. omega arith)
         (sym (ap phaseOf (m.in-second-digit out char lo v x d)) ∙ e))
     go false d (yes y) (yes z) = let never : _≡_ {A = ℕ} 0 1 = sym (ap phaseOf (m.in-second-below out char lo v x d y z)) ∙ e in absurd (omega arith)
     go false d (yes y) (no z) = (y, le-leb lo v (omega arith), m.in-second-comma out char lo v x d y (omega arith))

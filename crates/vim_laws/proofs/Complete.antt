@@ -1,129 +1,51 @@
 -- What the grammar reads, the machine reads so: by the derivation, end by end. Assumes nothing.
-use mathlib.Core.Path.{_≡_, refl, ap, sym, subst, _∙_}
-use mathlib.Core.List.{List, [], _∷_, _++_, append-nil, append-assoc}
-use mathlib.Core.Bool.{Bool, true, false, cond, true≢false}
-use Prim.Native.Nat.{ℕ, _+_, _*_, _-_, _≤_, _<_}
-use native.Mathlib.Omega.{arith}
-use lib.Dec.{eqb, leb}
-use lib.ListN.{length, getD}
-use borrow.Author.Tests.{eq-eqb, ne-eqb, le-leb}
+use Rattle.lists.proofs.Kit.{_≡_, refl, ap, subst, _∙_, List, [], _∷_, _++_, append-nil, append-assoc, Bool, true, false, ℕ, _-_, arith, getD, ne-eqb, le-leb}
 use Rattle.lists.specs.Codes.{isDigit}
-use Rattle.list_parts.specs.Numbers.{allDigits, value}
 use Rattle.vim_grammar.specs.declared.VimToken.{VimToken}
-use Rattle.vim_grammar.specs.Tokens.{letters, one, range}
-use Rattle.vim_grammar.specs.Grammar.{Number as Numeral, Char, End, by-number, by-char, Item, every-letter, single, between, Part as PartOf, exclude, include}
+use Rattle.vim_grammar.specs.Grammar.{Char, End, by-number, by-char, Item, every-letter, single, between, Part as PartOf, exclude, include}
 use Rattle.vim_grammar.specs.Grammar.{Parts, last, caret, more, Reads, empty, parts}
 use Rattle.vim_reader.specs.declared.State.{State}
-use Rattle.vim_reader.specs.declared.State.the-variants.{Start, Part, Caret, Number, Sign, Dash, Second, Done, Dead}
-use Rattle.vim_reader.specs.Machine.{mostOf, firstOf, startOf, numberStep, secondOf, dashStep, secondStep, stepOf, phaseOf, tokenOf, signToken, ends, isStart}
-use Rattle.vim_reader.specs.Reading.{Reading, read, bad, onto, later, reading, vimReading}
+use Rattle.vim_reader.specs.declared.State.the-variants.{Part, Caret, Number, Sign, Dash, Second, Done}
+use Rattle.vim_reader.specs.Machine.{startOf, stepOf, phaseOf, tokenOf, signToken, ends}
+use Rattle.vim_reader.specs.Reading.{read, onto, later, reading, vimReading}
 use Rattle.vim_reader.proofs.MachineLaws as m
-use Rattle.vim_laws.proofs.Numbers.{digits-first, digits-rest, value-least, most-above}
 use Rattle.vim_laws.proofs.Commas.{closed, closed-ends, closed-comma}
-
--- one step within a part
-pub on :
-    (σ τ : State) (x : ℕ) (s : List ℕ) (ts : List VimToken) → stepOf σ x ≡ τ → (phaseOf τ ≡ 3) → reading τ s ≡ read ts → reading σ (x ∷ s) ≡ read ts
-unfolding reading later
-on σ τ x s ts e p r = rw (e, p, r)
-
--- the digits of a first number
-number-on :
-    (ds : List ℕ) (out : Bool) (v : ℕ) (s : List ℕ) (ts : List VimToken) → allDigits ds ≡ true → value v ds ≤ 255 →
-    reading (Number out (value v ds)) s ≡ read ts → reading (Number out v) (ds ++ s) ≡ read ts
-unfolding value stepOf phaseOf
-number-on [] out v s ts a h r = r
-number-on (x ∷ ds) out v s ts a h r =
-    let sum = v * 10 + (x - 48) in
-    on (Number out v) (Number out sum) x (ds ++ s) ts
-    (m.number-on out v x (digits-first x ds a) (omega (arith, value-least (v * 10 + (x - 48)) ds))) refl
-    (number-on ds out sum s ts (digits-rest x ds a) h r)
-
--- those of a second one
-pub second-on :
-    (ds : List ℕ) (out char : Bool) (lo v : ℕ) (s : List ℕ) (ts : List VimToken) → allDigits ds ≡ true → lo ≤ value v ds → value v ds ≤ 255 →
-    reading (Second out char lo (value v ds)) s ≡ read ts → reading (Second out char lo v) (ds ++ s) ≡ read ts
-unfolding value stepOf phaseOf
-second-on [] out char lo v s ts a k h r = r
-second-on (x ∷ ds) out char lo v s ts a k h r =
-    let sum = v * 10 + (x - 48) in
-    let most = most-above (v * 10 + (x - 48)) ds (digits-rest x ds a) h in
-    on (Second out char lo v) (Second out char lo sum) x (ds ++ s) ts
-    (m.in-second-digit out char lo v x (digits-first x ds a)
-    ∙ m.second-taken out char lo sum (omega (arith, value-least (v * 10 + (x - 48)) ds)) (omega (arith, most))) refl
-    (second-on ds out char lo sum s ts (digits-rest x ds a) k h r)
-
--- a number from its first digit on
-number-whole :
-    (ds : List ℕ) (out : Bool) (v : ℕ) (s : List ℕ) (ts : List VimToken) (σ : State) → ((x : ℕ) → isDigit x ≡ true → stepOf σ x ≡ Number out (x - 48)) →
-    Numeral ds v → reading (Number out v) s ≡ read ts → reading σ (ds ++ s) ≡ read ts
-unfolding value phaseOf
-number-whole [] out v s ts σ f n r = absurd (omega (arith, n .some))
-number-whole (x ∷ ds) out v s ts σ f n r =
-    let none : 0 * 10 + (x - 48) ≡ x - 48 = omega arith in
-    let is : value (x - 48) ds ≡ v = ap (λ (w : ℕ). value w ds) (sym none) ∙ n .is in
-    on σ (Number out (x - 48)) x (ds ++ s) ts (f x (digits-first x ds (n .all))) refl
-    (number-on ds out (x - 48) s ts (digits-rest x ds (n .all)) (omega (arith, is, n .most)) (rw is r))
-
-pub second-whole :
-    (ds : List ℕ) (out char : Bool) (lo v : ℕ) (s : List ℕ) (ts : List VimToken) → Numeral ds v → lo ≤ v → reading (Second out char lo v) s ≡ read ts →
-    reading (Dash out char lo) (ds ++ s) ≡ read ts
-unfolding value stepOf phaseOf
-second-whole [] out char lo v s ts n k r = absurd (omega (arith, n .some))
-second-whole (x ∷ ds) out char lo v s ts n k r =
-    let none : 0 * 10 + (x - 48) ≡ x - 48 = omega arith in
-    let is : value (x - 48) ds ≡ v = ap (λ (w : ℕ). value w ds) (sym none) ∙ n .is in
-    let top : value (x - 48) ds ≤ 255 = omega (arith, is, n .most) in
-    let most = most-above (x - 48) ds (digits-rest x ds (n .all)) top in
-    on (Dash out char lo) (Second out char lo (x - 48)) x (ds ++ s) ts
-    (m.dash-digit out char lo x (digits-first x ds (n .all))
-    ∙ m.second-taken out char lo (x - 48) (omega (arith, value-least (x - 48) ds, is, n .most)) (omega (arith, most, is))) refl
-    (second-on ds out char lo (x - 48) s ts (digits-rest x ds (n .all)) (omega (arith, is)) top (rw is r))
+use Rattle.vim_laws.proofs.Digits.{on, number-whole, second-whole}
 
 -- behind a part, whatever state it ends in
 abbrev pub After : VimToken → List ℕ → List VimToken → Type 0
 After t s ts = (σ : State) → closed σ ≡ true → tokenOf σ ≡ t → reading σ s ≡ read ts
 
 -- a first end, and a minus behind it
-dashed :
-    {p : List ℕ} {char : Bool} {lo : ℕ} (out : Bool) (σ : State) (s : List ℕ) (ts : List VimToken) → End p char lo →
+dashed : {p : List ℕ} {char : Bool} {lo : ℕ} (out : Bool) (σ : State) (s : List ℕ) (ts : List VimToken) → End p char lo →
     ((x : ℕ) → isDigit x ≡ true → stepOf σ x ≡ Number out (x - 48)) → ((x : ℕ) → p ≡ x ∷ [] → Char x → stepOf σ x ≡ Sign out x) →
     reading (Dash out char lo) s ≡ read ts → reading σ (p ++ (45 ∷ s)) ≡ read ts
 unfolding stepOf phaseOf
-dashed {p = p} {lo = lo} out σ s ts (by-number n) f g r =
-    number-whole p out lo (45 ∷ s) ts σ f n
+dashed {p = p} {lo = lo} out σ s ts (by-number n) f g r = number-whole p out lo (45 ∷ s) ts σ f n
     (on (Number out lo) (Dash out false lo) 45 s ts (m.number-behind out lo 45 refl ∙ m.behind-dash out false lo 45 (λ z. omega arith) refl) refl r)
-dashed {lo = lo} out σ s ts (by-char h) f g r =
-    on σ (Sign out lo) lo (45 ∷ s) ts (g lo refl h) refl
+dashed {lo = lo} out σ s ts (by-char h) f g r = on σ (Sign out lo) lo (45 ∷ s) ts (g lo refl h) refl
     (on (Sign out lo) (Dash out true lo) 45 s ts (m.behind-dash out true lo 45 (λ z. omega arith) refl) refl r)
 
+-- what begins with one code point alone begins with it
+starts : (p q : List ℕ) (x : ℕ) → p ≡ x ∷ [] → getD (p ++ q) 0 0 ≡ x
+starts p q x e = rw e
+
 -- an item, from a state where its first code point begins one
-item :
-    {out : Bool} {p : List ℕ} {t : VimToken} (σ : State) (s : List ℕ) (ts : List VimToken) → Item out p t →
+item : {out : Bool} {p : List ℕ} {t : VimToken} (σ : State) (s : List ℕ) (ts : List VimToken) → Item out p t →
     ((x : ℕ) → isDigit x ≡ true → stepOf σ x ≡ Number out (x - 48)) → ((x : ℕ) → getD p 0 0 ≡ x → Char x → stepOf σ x ≡ Sign out x) →
     After t s ts → reading σ (p ++ s) ≡ read ts
 unfolding tokenOf signToken closed phaseOf stepOf
 item {out = out} σ s ts every-letter f g after =
     on σ (Sign out 64) 64 s ts (g 64 refl (record { ascii = omega arith; no-digit = refl })) refl (after (Sign out 64) refl refl)
-item {out = out} {p = p} σ s ts (single {c = c} (by-number n) b) f g after =
-    number-whole p out c s ts σ f n (after (Number out c) refl refl)
-item {out = out} σ s ts (single {c = c} (by-char h) b) f g after =
-    on σ (Sign out c) c s ts (g c refl h) refl
+item {out = out} {p = p} σ s ts (single {c = c} (by-number n) b) f g after = number-whole p out c s ts σ f n (after (Number out c) refl refl)
+item {out = out} σ s ts (single {c = c} (by-char h) b) f g after = on σ (Sign out c) c s ts (g c refl h) refl
     (after (Sign out c) refl (rw (ne-eqb c 64 (λ z. b (ap (λ (x : ℕ). x ∷ []) z)))))
-item {out = out} σ s ts (between {p = p} {q = q} {lochar = char} {lo = lo} {hi = hi} d (by-number n) k) f g after =
-    rw (append-assoc p (45 ∷ q) s)
+item {out = out} σ s ts (between {p = p} {q = q} {lochar = char} {lo = lo} {hi = hi} d (by-number n) k) f g after = rw (append-assoc p (45 ∷ q) s)
     (dashed out σ (q ++ s) ts d f (λ x e h. g x (starts p (45 ∷ q) x e) h)
     (second-whole q out char lo hi s ts n k (after (Second out char lo hi) (le-leb lo hi k) refl)))
-  where
-    starts : (p q : List ℕ) (x : ℕ) → p ≡ x ∷ [] → getD (p ++ q) 0 0 ≡ x
-    starts p q x e = rw e
-item {out = out} σ s ts (between {p = p} {lochar = char} {lo = lo} {hi = hi} d (by-char h) k) f g after =
-    rw (append-assoc p (45 ∷ hi ∷ []) s)
+item {out = out} σ s ts (between {p = p} {lochar = char} {lo = lo} {hi = hi} d (by-char h) k) f g after = rw (append-assoc p (45 ∷ hi ∷ []) s)
     (dashed out σ (hi ∷ s) ts d f (λ x e c. g x (starts p (45 ∷ hi ∷ []) x e) c)
     (on (Dash out char lo) (Done out char lo hi) hi s ts (m.dash-done out char lo hi (h .no-digit) k (h .ascii)) refl (after (Done out char lo hi) refl refl)))
-  where
-    starts : (p q : List ℕ) (x : ℕ) → p ≡ x ∷ [] → getD (p ++ q) 0 0 ≡ x
-    starts p q x e = rw e
 
 digit-no-caret : (x : ℕ) → isDigit x ≡ true → x ≡ 94 → ⊥
 digit-no-caret x d e = omega (arith, m.digit-high x d)
@@ -131,11 +53,9 @@ digit-no-caret x d e = omega (arith, m.digit-high x d)
 -- a part
 pub part : {p : List ℕ} {t : VimToken} (s : List ℕ) (ts : List VimToken) → PartOf p t → After t s ts → reading Part (p ++ s) ≡ read ts
 unfolding stepOf phaseOf
-part s ts (exclude {p = p} i) after =
-    on Part Caret 94 (p ++ s) ts (m.start-caret 94 refl) refl
+part s ts (exclude {p = p} i) after = on Part Caret 94 (p ++ s) ts (m.start-caret 94 refl) refl
     (item Caret s ts i (λ x d. m.first-digit true x d) (λ x e h. m.first-sign true x (h .no-digit) (h .ascii)) after)
-part s ts (include i f) after =
-    item Part s ts i (λ x d. m.start-first x (digit-no-caret x d) ∙ m.first-digit false x d)
+part s ts (include i f) after = item Part s ts i (λ x d. m.start-first x (digit-no-caret x d) ∙ m.first-digit false x d)
     (λ x e h. m.start-first x (λ z. f (e ∙ z)) ∙ m.first-sign false x (h .no-digit) (h .ascii)) after
 
 -- behind a part: the list's end, or a comma

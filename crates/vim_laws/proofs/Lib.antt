@@ -1,10 +1,16 @@
 pub mod Numbers
 pub mod Spelt
+pub mod SpeltOn
 pub mod Commas
 pub mod Sound
+pub mod Digits
 pub mod Complete
 pub mod Places
 pub mod Lists
+pub mod WrittenNumbers
 pub mod Written
+pub mod Scalars
 pub mod Again
+pub mod Unbroken
+pub mod KeptParts
 pub mod Common

@@ -1,13 +1,9 @@
 -- The statements of `specs/Lists.antt`: exactly the lists of the grammar, one reading each, and the place. Assumes nothing.
-use mathlib.Core.Path.{_≡_, refl, ap, sym, subst, _∙_}
-use mathlib.Core.List.{List, [], _∷_, _++_}
-use Prim.Native.Nat.{ℕ, suc, _+_, _<_}
-use native.Mathlib.Omega.{arith}
-use lib.ListN.{length, take}
-use Rattle.lists.specs.Beginnings.{Begins, Place}
+use Rattle.lists.proofs.Kit.{_≡_, refl, subst, List, [], _∷_, _++_, ℕ, suc, _+_, _<_, arith, length, take}
+use Rattle.lists.specs.Beginnings.{Place}
 use Rattle.vim_grammar.specs.declared.VimToken.{VimToken}
 use Rattle.vim_grammar.specs.Grammar.{Reads, Accepted}
-use Rattle.vim_reader.specs.declared.State.the-variants.{Start, Part}
+use Rattle.vim_reader.specs.declared.State.the-variants.{Part}
 use Rattle.vim_reader.specs.Machine.{stepOf, phaseOf, tokenOf, ends}
 use Rattle.vim_reader.specs.Reading.{Reading, read, bad, reading, vimReading}
 use Rattle.vim_laws.specs.Lists as statements

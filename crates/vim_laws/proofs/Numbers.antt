@@ -1,10 +1,5 @@
 -- Laws of digits behind digits: the value never falls, and within 255 it never passes `mostOf`, which some digits reach. Assumes nothing.
-use mathlib.Core.Path.{_≡_, refl, ap, sym, _∙_}
-use mathlib.Core.List.{List, [], _∷_, _++_}
-use mathlib.Core.Bool.{Bool, true, false, _&&_, true≢false}
-use Prim.Native.Nat.{ℕ, _+_, _*_, _-_, _≤_, _<_}
-use native.Mathlib.Decide.{decLt, ℕ-discrete}
-use native.Mathlib.Omega.{arith}
+use Rattle.lists.proofs.Kit.{_≡_, refl, sym, List, [], _∷_, _++_, Bool, true, false, _&&_, true≢false, ℕ, _+_, _*_, _-_, _≤_, _<_, decLt, ℕ-discrete, arith}
 use Rattle.lists.specs.Codes.{isDigit}
 use Rattle.list_parts.specs.Numbers.{allDigits, value}
 use Rattle.vim_reader.specs.Machine.{mostOf}

@@ -1,25 +1,19 @@
 -- Where reading goes wrong: what stands before that place begins a list that is read, and with the code point there it begins none. Assumes nothing.
-use mathlib.Core.Path.{_≡_, refl, ap, sym, subst, _∙_}
-use mathlib.Core.List.{List, [], _∷_, _++_, append-nil}
-use mathlib.Core.Bool.{Bool, true, false, cond}
-use Prim.Native.Nat.{ℕ, zero, suc, _+_, _≤_, _<_}
-use native.Mathlib.Decide.{ℕ-discrete}
-use native.Mathlib.Omega.{arith}
-use lib.Dec.{eqb, leb}
-use lib.ListN.{length, take}
-use borrow.Author.Tests.{eq-eqb, ne-eqb, le-leb}
+use Rattle.lists.proofs.Kit.{_≡_, refl, ap, sym, subst, _∙_, List, [], _∷_, _++_, append-nil, Bool, true, false, cond, ℕ, suc, _≤_, _<_, ℕ-discrete, arith}
+use Rattle.lists.proofs.Kit.{length, take, eq-eqb, ne-eqb, le-leb}
 use Rattle.list_parts.specs.Numbers.{allDigits, value}
 use Rattle.vim_grammar.specs.declared.VimToken.{VimToken}
 use Rattle.vim_grammar.specs.Tokens.{range}
 use Rattle.vim_grammar.specs.Grammar.{Number as Numeral}
 use Rattle.vim_reader.specs.declared.State.{State}
-use Rattle.vim_reader.specs.declared.State.the-variants.{Start, Part, Caret, Number, Sign, Dash, Second, Done, Dead}
-use Rattle.vim_reader.specs.Machine.{mostOf, firstOf, startOf, stepOf, phaseOf, tokenOf, ends, isStart}
+use Rattle.vim_reader.specs.declared.State.the-variants.{Dash, Second}
+use Rattle.vim_reader.specs.Machine.{firstOf, startOf, stepOf, phaseOf, tokenOf, ends, isStart}
 use Rattle.vim_reader.specs.Reading.{Reading, read, bad, onto, later, reading}
-use Rattle.vim_laws.proofs.Numbers.{Tail, most-tail}
-use Rattle.vim_laws.proofs.Spelt.{front, Spelt, at-part, at-caret, at-number, at-sign, at-dash, at-second, at-done, end-most, step-spelt}
+use Rattle.vim_laws.proofs.Numbers.{most-tail}
+use Rattle.vim_laws.proofs.Spelt.{Spelt, at-part, at-caret, at-number, at-sign, at-dash, at-second, at-done, end-most}
+use Rattle.vim_laws.proofs.SpeltOn.{step-spelt}
 use Rattle.vim_laws.proofs.Commas.{step-comma}
-use Rattle.vim_laws.proofs.Complete.{second-on, second-whole}
+use Rattle.vim_laws.proofs.Digits.{second-on, second-whole}
 
 -- something is read
 unfoldable pub IsRead : Reading → Type 0
@@ -105,15 +99,13 @@ wrong-from [] {σ = σ} w n e = go (ends σ) e
     go : (b : Bool) → cond b (read (cond (isStart σ) [] (tokenOf σ ∷ []))) (bad 0) ≡ bad n → Wrong σ [] n
     go true q = let never : _≡_ {A = ℕ} 0 1 = cc in absurd (omega arith)
     go false q = let n-is : 0 ≡ n = cc in subst (Wrong σ []) n-is (wrong-here [] w (λ h. absurd (omega arith)))
-wrong-from (x ∷ s) {σ = σ} {p = p} w n e =
-    go (ℕ-discrete (phaseOf (stepOf σ x)) 0) (ℕ-discrete (phaseOf (stepOf σ x)) 1) (λ q g k. wrong-from s {p = q} g k)
+wrong-from (x ∷ s) {σ = σ} {p = p} w n e = go (ℕ-discrete (phaseOf (stepOf σ x)) 0) (ℕ-discrete (phaseOf (stepOf σ x)) 1) (λ q g k. wrong-from s {p = q} g k)
   where
     r : List ℕ → Reading
     r = reading (stepOf σ x)
 
     -- the steps behind x, where it leads on
-    behind :
-        (f : Reading → Reading) → ((l : List ℕ) → reading σ (x ∷ l) ≡ later (f (r l))) →
+    behind : (f : Reading → Reading) → ((l : List ℕ) → reading σ (x ∷ l) ≡ later (f (r l))) →
         ((a : Reading) (k : ℕ) → later (f a) ≡ bad k → (j : ℕ) × (a ≡ bad j) × (k ≡ suc j)) →
         ((a : Reading) → IsRead a → IsRead (later (f a))) → ((j : ℕ) → later (f (bad j)) ≡ bad (suc j)) →
         ((k : ℕ) → r s ≡ bad k → Wrong (stepOf σ x) s k) → Wrong σ (x ∷ s) n
@@ -121,26 +113,21 @@ wrong-from (x ∷ s) {σ = σ} {p = p} w n e =
         let by-back = back (r s) n (sym (same s) ∙ e) in
         let first-part = by-back .0 in
         let by-ih = ih first-part (by-back .1) in
-        subst (Wrong σ (x ∷ s)) (sym (by-back .2))
-        (record {
+        subst (Wrong σ (x ∷ s)) (sym (by-back .2)) (record {
           inside = omega (arith, by-ih .inside);
           rest = by-ih .rest;
           begins = subst IsRead (sym (same (take first-part s ++ by-ih .rest))) (keep (r (take first-part s ++ by-ih .rest)) (by-ih .begins));
           longest = λ h u. same (take (suc first-part) s ++ u) ∙ ap (λ (a : Reading). later (f a)) (by-ih .longest (omega arith) u) ∙ goes first-part;
         })
 
-    go :
-        Dec (phaseOf (stepOf σ x) ≡ 0) → Dec (phaseOf (stepOf σ x) ≡ 1) →
+    go : Dec (phaseOf (stepOf σ x) ≡ 0) → Dec (phaseOf (stepOf σ x) ≡ 1) →
         ((q : List ℕ) → Spelt (stepOf σ x) q → (k : ℕ) → r s ≡ bad k → Wrong (stepOf σ x) s k) → Wrong σ (x ∷ s) n
     go (yes z) d ih =
         let dead : (l : List ℕ) → reading σ (x ∷ l) ≡ bad 0 = λ l. rw (eq-eqb (phaseOf (stepOf σ x)) 0 z) in
         let bad-is : bad 0 ≡ bad n = sym (dead s) ∙ e in
         let n-is : 0 ≡ n = cc in
         subst (Wrong σ (x ∷ s)) n-is (wrong-here (x ∷ s) w (λ h u. dead u))
-    go (no m) (yes z) ih =
-        behind (onto (tokenOf σ)) (λ l. rw (ne-eqb (phaseOf (stepOf σ x)) 0 m, eq-eqb (phaseOf (stepOf σ x)) 1 z)) (onto-back (tokenOf σ))
-        (onto-keep (tokenOf σ)) (onto-bad (tokenOf σ))
-        (ih [] (subst (λ (τ : State). Spelt τ []) (sym (step-comma σ x z .2)) at-part))
-    go (no m) (no k) ih =
-        behind (λ a. a) (λ l. rw (ne-eqb (phaseOf (stepOf σ x)) 0 m, ne-eqb (phaseOf (stepOf σ x)) 1 k)) plain-back plain-keep plain-bad
+    go (no m) (yes z) ih = behind (onto (tokenOf σ)) (λ l. rw (ne-eqb (phaseOf (stepOf σ x)) 0 m, eq-eqb (phaseOf (stepOf σ x)) 1 z)) (onto-back (tokenOf σ))
+        (onto-keep (tokenOf σ)) (onto-bad (tokenOf σ)) (ih [] (subst (λ (τ : State). Spelt τ []) (sym (step-comma σ x z .2)) at-part))
+    go (no m) (no k) ih = behind (λ a. a) (λ l. rw (ne-eqb (phaseOf (stepOf σ x)) 0 m, ne-eqb (phaseOf (stepOf σ x)) 1 k)) plain-back plain-keep plain-bad
         (ih (p ++ (x ∷ [])) (step-spelt x w m k))

@@ -1,24 +1,17 @@
 -- What the machine reads, the grammar reads so. The argument goes along the list, with what the part has been spelt so far. Assumes nothing.
-use mathlib.Core.Path.{_≡_, refl, ap, sym, subst, _∙_}
-use mathlib.Core.List.{List, [], _∷_, _++_, append-nil, append-assoc}
-use mathlib.Core.Bool.{Bool, true, false, cond, true≢false}
-use Prim.Native.Nat.{ℕ, suc, _≤_}
-use native.Mathlib.Decide.{decLt, ℕ-discrete}
-use native.Mathlib.Omega.{arith}
-use lib.Dec.{eqb, leb}
-use lib.ListN.{getD}
-use borrow.Author.Tests.{eq-eqb, ne-eqb, leb-true}
+use Rattle.lists.proofs.Kit.{_≡_, refl, ap, sym, subst, _∙_, List, [], _∷_, _++_, append-nil, append-assoc, Bool, true, false, cond, true≢false, ℕ, ℕ-discrete}
+use Rattle.lists.proofs.Kit.{arith, getD, eqb, leb, eq-eqb, ne-eqb, leb-true}
 use Rattle.list_parts.specs.Numbers.{allDigits}
 use Rattle.vim_grammar.specs.declared.VimToken.{VimToken}
 use Rattle.vim_grammar.specs.Tokens.{letters, one, range}
 use Rattle.vim_grammar.specs.Grammar.{Number as Numeral, Char, End, by-number, by-char, Item, every-letter, single, between, Part as PartOf, exclude, include}
 use Rattle.vim_grammar.specs.Grammar.{Parts, last, caret, more, Reads, empty, parts}
 use Rattle.vim_reader.specs.declared.State.{State}
-use Rattle.vim_reader.specs.declared.State.the-variants.{Start, Part, Caret, Number, Sign, Dash, Second, Done, Dead}
-use Rattle.vim_reader.specs.Machine.{stepOf, phaseOf, tokenOf, signToken, ends, isStart}
+use Rattle.vim_reader.specs.Machine.{stepOf, phaseOf, tokenOf, signToken, ends}
 use Rattle.vim_reader.specs.Reading.{Reading, read, bad, onto, later, reading, vimReading}
-use Rattle.vim_laws.proofs.Spelt.{front, Free, Spelt, at-part, at-caret, at-number, at-sign, at-dash, at-second, at-done, first-stays, end-some, step-spelt}
-use Rattle.vim_laws.proofs.Commas.{closed, step-comma, closed-ends}
+use Rattle.vim_laws.proofs.Spelt.{front, Free, Spelt, at-part, at-caret, at-number, at-sign, at-dash, at-second, at-done, first-stays, end-some}
+use Rattle.vim_laws.proofs.SpeltOn.{step-spelt}
+use Rattle.vim_laws.proofs.Commas.{closed, step-comma}
 
 -- an item as a part
 part-of : (out : Bool) {p : List ℕ} {t : VimToken} → Item out p t → Free out p → PartOf (front out p) t
@@ -81,8 +74,7 @@ ended (at-sign {out = out} h f) ts e = subst (Parts _) (cc e) (last (spelt-close
 ended (at-dash d f) ts e = absurd (no-bad e)
 ended (at-second {out = out} {char = char} {p = p} {ds = ds} {lo = lo} {v = v} d f n a) ts e = go (leb lo v) refl e
   where
-    go :
-        (b : Bool) → leb lo v ≡ b → cond b (read (range out char lo false v ∷ [])) (bad 0) ≡ read ts → Parts (front out (p ++ (45 ∷ ds))) ts
+    go : (b : Bool) → leb lo v ≡ b → cond b (read (range out char lo false v ∷ [])) (bad 0) ≡ read ts → Parts (front out (p ++ (45 ∷ ds))) ts
     go true w g = subst (Parts (front out (p ++ (45 ∷ ds)))) (cc g) (last (spelt-closed (at-second {out = out} d f n a) w))
     go false w g = absurd (no-bad g)
 ended (at-done {out = out} d f h k) ts e = subst (Parts _) (cc e) (last (spelt-closed (at-done {out = out} d f h k) refl))
@@ -90,14 +82,12 @@ ended (at-done {out = out} d f h k) ts e = subst (Parts _) (cc e) (last (spelt-c
 pub sound : (s : List ℕ) {σ : State} {p : List ℕ} → Spelt σ p → (ts : List VimToken) → reading σ s ≡ read ts → Parts (p ++ s) ts
 unfolding reading
 sound [] {p = p} w ts e = subst (λ (l : List ℕ). Parts l ts) (sym (append-nil p)) (ended w ts e)
-sound (x ∷ s) {σ = σ} {p = p} w ts e =
-    go (ℕ-discrete (phaseOf (stepOf σ x)) 0) (ℕ-discrete (phaseOf (stepOf σ x)) 1) (λ q g us. sound s {p = q} g us)
+sound (x ∷ s) {σ = σ} {p = p} w ts e = go (ℕ-discrete (phaseOf (stepOf σ x)) 0) (ℕ-discrete (phaseOf (stepOf σ x)) 1) (λ q g us. sound s {p = q} g us)
   where
     r : Reading
     r = reading (stepOf σ x) s
 
-    go :
-        Dec (phaseOf (stepOf σ x) ≡ 0) → Dec (phaseOf (stepOf σ x) ≡ 1) →
+    go : Dec (phaseOf (stepOf σ x) ≡ 0) → Dec (phaseOf (stepOf σ x) ≡ 1) →
         ((q : List ℕ) → Spelt (stepOf σ x) q → (us : List VimToken) → r ≡ read us → Parts (q ++ s) us) → Parts (p ++ (x ∷ s)) ts
     go (yes z) d ih = let bad-is : bad 0 ≡ read ts = rw (eq-eqb (phaseOf (stepOf σ x)) 0 z) at e in absurd (no-bad bad-is)
     go (no n) (yes z) ih =

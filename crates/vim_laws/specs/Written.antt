@@ -4,10 +4,8 @@ use Prim.Native.Nat.{ℕ, _≤_}
 use mathlib.Core.Path.{_≡_}
 use mathlib.Core.List.{List}
 use lib.ListN.{length, take}
-use Rattle.vim_grammar.specs.declared.VimToken.{VimToken}
 use Rattle.vim_grammar.specs.Tokens.{inVim}
-use Rattle.vim_reader.specs.Reading.{read, vimReading}
-use Rattle.vim_reader.specs.Table.{table, kept, readOf}
+use Rattle.vim_reader.specs.Table.{kept, readOf}
 use Rattle.vim_writer.specs.declared.VimWritten.the-variants.{Made}
 use Rattle.vim_writer.specs.Written.{written, writtenOf, writtenIn}
 

@@ -1,12 +1,5 @@
 -- Laws of the answers of `matches` and `is_vim_char`. Assumes nothing.
-use mathlib.Core.Path.{_≡_, refl, ap, sym, _∙_}
-use mathlib.Core.List.{List}
-use mathlib.Core.Bool.{Bool, true, false, cond}
-use Prim.Native.Nat.{ℕ, zero, suc, _≤_}
-use native.Mathlib.Omega.{arith}
-use lib.Dec.{leb, eqb}
-use lib.ListN.{length}
-use borrow.Author.Tests.{ne-eqb, le-leb, lt-leb, leb-true}
+use Rattle.lists.proofs.Kit.{_≡_, refl, List, Bool, true, false, cond, ℕ, zero, suc, _≤_, arith, length, leb, eqb, ne-eqb, leb-true}
 use Rattle.list_parts.specs.Refusals.{lowest, charRefusal, listRefusal}
 use Rattle.vim_grammar.specs.Tokens.{inVim}
 use Rattle.vim_reader.specs.declared.VimMatched.the-variants.{Refused}

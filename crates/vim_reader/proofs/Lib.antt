@@ -2,3 +2,5 @@ pub mod Answers
 pub mod MachineLaws
 pub mod StateLaws
 pub mod TableLaws
+pub mod RunLaws
+pub mod RunEnds

@@ -1,12 +1,8 @@
--- Laws of the machine, step by step: where a code point leads by the tests that the code makes. Assumes nothing.
-use mathlib.Core.Path.{_≡_, refl, sym}
-use mathlib.Core.Bool.{Bool, true, false, _&&_, and-false, true≢false}
-use Prim.Native.Nat.{ℕ, _+_, _*_, _-_, _≤_, _<_}
-use native.Mathlib.Omega.{arith}
-use lib.Dec.{eqb, leb}
-use borrow.Author.Tests.{eq-eqb, ne-eqb, le-leb, lt-leb, leb-true, leb-false}
+-- Laws of the machine, step by step: where a code point leads by the tests that the code makes. Long by the machine's states: a law for each. Assumes
+-- nothing.
+use Rattle.lists.proofs.Kit.{_≡_, refl, sym, Bool, true, false, _&&_, and-false, true≢false, ℕ, _+_, _*_, _-_, _≤_, _<_, arith, leb, eq-eqb, ne-eqb, le-leb}
+use Rattle.lists.proofs.Kit.{lt-leb, leb-true}
 use Rattle.lists.specs.Codes.{isDigit}
-use Rattle.vim_reader.specs.declared.State.{State}
 use Rattle.vim_reader.specs.declared.State.the-variants.{Part, Caret, Number, Sign, Dash, Second, Done, Dead}
 use Rattle.vim_reader.specs.Machine.{mostOf, firstOf, startOf, behind, numberStep, secondOf, dashStep, secondStep, doneStep}
 

@@ -1,5 +1,6 @@
 -- The machine that reads Vim's lists: where one code point leads from a state, and the token of a part that ends in one. What the contracts of
--- `src/machine.rt` cite. That it reads exactly the lists of the grammar is in `vim_laws`. Definitions only. Assumes nothing.
+-- `src/machine.rt` cite. That it reads exactly the lists of the grammar is in `vim_laws`. Definitions only. Long by its states: a clause or two for
+-- each. Assumes nothing.
 use Prim.Native.Nat.{ℕ, _+_, _*_, _-_}
 use mathlib.Core.Bool.{Bool, true, false, cond, _&&_}
 use lib.Dec.{eqb, leb}

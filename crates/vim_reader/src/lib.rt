@@ -1,5 +1,5 @@
-// Vim's own keyword lists read in one pass: the table of a list's tokens, or the place where it goes
-// wrong; and the test of one character by a table or a list. Document 02, #108.
+// Vim's own keyword lists read in one pass: the table of a list's tokens, or the place where it
+// goes wrong; and the test of one character by a table or a list. Document 02, #108.
 mod machine;
 mod vim_spec;
 

@@ -1,10 +1,12 @@
 // The machine that reads a list: where one code point leads from a state, and what a state says.
+// Long by its states: a function for each.
 use crate::State;
 use crate::VimToken;
 ghost use mathlib.Core.Path.{_≡_};
 ghost use Rattle.lists.specs.Codes.{isDigit};
 ghost use Rattle.vim_reader.specs.Machine.{mostOf, firstOf, startOf, behind, numberStep};
-ghost use Rattle.vim_reader.specs.Machine.{secondOf, dashStep, secondStep, stepOf, tokenOf, doneStep};
+ghost use Rattle.vim_reader.specs.Machine.{secondOf, dashStep, secondStep, stepOf, tokenOf};
+ghost use Rattle.vim_reader.specs.Machine.{doneStep};
 ghost use Rattle.vim_reader.specs.Machine.{phaseOf, ends, signToken};
 ghost use Rattle.vim_grammar.specs.Tokens.{one, range};
 
@@ -40,6 +42,7 @@ fn most(v: u32) -> u32
     v
 }
 
+// Whether x is one of 0 to 9.
 fn is_digit(x: u32) -> bool
     ensures { λ r. ⌜ r ≡ isDigit x ⌝ }
 {
@@ -177,8 +180,8 @@ pub fn step(state: State, x: u32) -> State
     }
 }
 
-// What a state says: 0 where no list goes on so, 1 behind a comma, 2 where nothing was read, 3 within
-// a part.
+// What a state says: 0 where no list goes on so, 1 behind a comma, 2 where nothing was read, 3
+// within a part.
 pub fn phase(state: State) -> u32
     ensures { λ r. ⌜ r ≡ phaseOf state ⌝ }
 {

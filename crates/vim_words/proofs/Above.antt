@@ -1,14 +1,7 @@
 -- A list of the grammar has no end above 255; so above it only letters are spoken of, and flags up to 255 with the letters above hold what the tokens
 -- hold. Assumes nothing.
-use mathlib.Core.Path.{_≡_, refl, ap, sym, _∙_}
-use mathlib.Core.List.{List, [], _∷_}
-use mathlib.Core.Bool.{Bool, true, false, cond, not, _&&_}
-use Prim.Native.Nat.{ℕ, _≤_, _<_}
-use native.Mathlib.Decide.{decLt}
-use native.Mathlib.Omega.{arith}
-use lib.Dec.{eqb, leb}
-use lib.ListN.{length}
-use borrow.Author.Tests.{lt-ltb, le-ltb, le-leb, lt-leb, leb-true, eqb-true}
+use Rattle.lists.proofs.Kit.{_≡_, refl, ap, sym, _∙_, List, [], _∷_, Bool, true, false, cond, not, _&&_, ℕ, _≤_, _<_, decLt, arith, eqb, leb, lt-ltb, le-ltb}
+use Rattle.lists.proofs.Kit.{le-leb, lt-leb, leb-true, eqb-true}
 use Rattle.letters.specs.Letters.{isLetter}
 use Rattle.lists.proofs.Both.{both}
 use Rattle.vim_grammar.specs.declared.VimToken.{VimToken}
@@ -74,8 +67,7 @@ says-above t x low h b = go (eqb (t .kind) 0) refl (eqb (t .kind) 1) refl (isLet
     far : leb x (t .hi) ≡ false
     far = lt-leb x (t .hi) (omega (arith, leb-true (t .hi) 255 low))
 
-    go :
-        (none : Bool) → eqb (t .kind) 0 ≡ none → (every : Bool) → eqb (t .kind) 1 ≡ every → (letter from : Bool) →
+    go : (none : Bool) → eqb (t .kind) 0 ≡ none → (every : Bool) → eqb (t .kind) 1 ≡ every → (letter from : Bool) →
         cond (cond none false (cond every letter (from && leb x (t .hi)))) (not (t .out)) (b && letter) ≡ (cond every (not (t .out)) b && letter)
     go true p true q letter from = absurd (omega (arith, eqb-true (t .kind) 0 p, eqb-true (t .kind) 1 q))
     go true p false q letter from = refl
@@ -93,8 +85,7 @@ above (t ∷ ts) x low h b =
     ap (λ (d : Bool). decided d ts x) (says-above t x (by-both .0) h b) ∙ above ts x (by-both .1) h (cond (eqb (t .kind) 1) (not (t .out)) b)
 
 -- the flags of a list's tokens, and the letters above
-pub flags-hold :
-    (ts : List VimToken) (flags : List ℕ) → lowEnds ts ≡ true → Flags ts flags → (x : ℕ) → flagged flags (lastLetters false ts) x ≡ inVim ts x
+pub flags-hold : (ts : List VimToken) (flags : List ℕ) → lowEnds ts ≡ true → Flags ts flags → (x : ℕ) → flagged flags (lastLetters false ts) x ≡ inVim ts x
 unfolding flagged
 flags-hold ts flags low f x = go (decLt x 256)
   where
@@ -103,7 +94,6 @@ flags-hold ts flags low f x = go (decLt x 256)
     go (no n) = rw (le-ltb x 256 (omega arith)) (sym (above ts x low (omega arith) false))
 
 -- as kinds, with a bool that is what the list says of the letters
-pub kinds-flagged :
-    (ts : List VimToken) (flags : List ℕ) (letters big : Bool) → lowEnds ts ≡ true → Flags ts flags → letters ≡ lastLetters false ts →
+pub kinds-flagged : (ts : List VimToken) (flags : List ℕ) (letters big : Bool) → lowEnds ts ≡ true → Flags ts flags → letters ≡ lastLetters false ts →
     kindOf (flagged flags letters) big ≡ kindOf (inVim ts) big
 kinds-flagged ts flags letters big low f e = rw e (ap (λ (word : ℕ → Bool). kindOf word big) (λ i x. flags-hold ts flags low f x i))

@@ -1,11 +1,5 @@
 -- `WordsAlike`: the two readers hold the same characters, and no check differs. Assumes nothing.
-use mathlib.Core.Path.{_≡_, refl, ap, sym, _∙_}
-use mathlib.Core.List.{List, [], _∷_}
-use mathlib.Core.Bool.{Bool, true, cond}
-use Prim.Native.Nat.{ℕ}
-use native.Mathlib.Decide.{ℕ-discrete}
-use lib.Dec.{eqb}
-use borrow.Author.Tests.{eq-eqb, ne-eqb}
+use Rattle.lists.proofs.Kit.{_≡_, refl, ap, sym, _∙_, List, [], _∷_, Bool, true, cond, ℕ, ℕ-discrete, eqb, eq-eqb, ne-eqb}
 use Rattle.text_check.specs.Accept.{textRefusal}
 use Rattle.text.specs.Text.{rowCount}
 use Rattle.folds.specs.Folds.{foldRefusal}
@@ -22,7 +16,6 @@ use Rattle.vim_laws.proofs.Sound.{reads-sound}
 use Rattle.vim_laws.proofs.Lists.{one-reading}
 use Rattle.vim_laws.proofs.Again.{taken}
 use Rattle.vim_laws.proofs.Common.{both-alike}
-use Rattle.word_rounds.specs.declared.Motion.{Motion}
 use Rattle.motions.specs.declared.Caret.{Caret}
 use Rattle.motions.specs.Carets.{here, caretRefusal, moving}
 use Rattle.motions.specs.WordMoves.{wordRefusal, wordCaret, moveWord}
@@ -41,8 +34,7 @@ module _ (list : List ℕ) (ts : List VimToken) (z : readOf list .refusal ≡ 0)
 
 -- a list that is not refused leaves the refusal of text, caret and folds
 same-refusal : (t folds list : List ℕ) (k : Caret) → parseOf list .refusal ≡ 0 → wordRefusal t folds list k ≡ refusalFolds t folds (here k)
-same-refusal t folds list k z =
-    sym (lowest-then (textRefusal t ∷ caretRefusal t k ∷ foldRefusal folds (rowCount t) ∷ []) (parseOf list .refusal))
+same-refusal t folds list k z = sym (lowest-then (textRefusal t ∷ caretRefusal t k ∷ foldRefusal folds (rowCount t) ∷ []) (parseOf list .refusal))
     ∙ go (ℕ-discrete (refusalFolds t folds (here k)) 0)
   where
     go : Dec (refusalFolds t folds (here k) ≡ 0) → cond (eqb (refusalFolds t folds (here k)) 0) (parseOf list .refusal) (refusalFolds t folds (here k)) ≡
@@ -63,8 +55,7 @@ pub words-alike : WordsAlike
 words-alike t folds list big m stop count k ts first z r common = go (ℕ-discrete (refusalFolds t folds (here k)) 0)
   where
     go : Dec (refusalFolds t folds (here k) ≡ 0) → wordByVim t folds list big m stop count k ≡ ofFirst (moveWord t folds list big m stop count k)
-    go (yes e) =
-        sym (answer-given t folds list big m stop count k _ refl e (readOf list) refl (wordCaret t folds (inList list) big m stop count k) z
+    go (yes e) = sym (answer-given t folds list big m stop count k _ refl e (readOf list) refl (wordCaret t folds (inList list) big m stop count k) z
         (ap (λ (word : ℕ → Bool). wordCaret t folds word big m stop count k) (λ i x. sym (same-word list ts z r common x) i)))
         ∙ sym (first-given _ _ _ (same-refusal t folds list k first) e)
     go (no n) = sym (answer-first t folds list big m stop count k _ refl n) ∙ sym (first-refused _ _ _ (same-refusal t folds list k first) n)

@@ -1,9 +1,5 @@
 -- The refusals of a word motion by a Vim list, check by check, and what an accepted call has. Assumes nothing.
-use mathlib.Core.Path.{_≡_, refl, ap, sym, _∙_}
-use mathlib.Core.List.{List}
-use mathlib.Core.Bool.{Bool, true}
-use Prim.Native.Nat.{ℕ, _≤_}
-use borrow.Author.Tests.{eq-eqb, ne-eqb}
+use Rattle.lists.proofs.Kit.{_≡_, ap, sym, _∙_, List, Bool, true, ℕ, _≤_, eq-eqb, ne-eqb}
 use Rattle.text.specs.Text.{rowCount}
 use Rattle.folds.specs.Folds.{foldRefusal}
 use Rattle.positions.specs.declared.Entry.{Entry}
@@ -17,7 +13,6 @@ use Rattle.word_rounds.specs.declared.Motion.{Motion}
 use Rattle.motions.specs.declared.Caret.{Caret}
 use Rattle.motions.specs.Carets.{here, entryOf}
 use Rattle.motions.specs.WordMoves.{wordCaret}
-use Rattle.vim_words.specs.declared.VimMoved.{VimMoved}
 use Rattle.vim_words.specs.declared.VimMoved.the-variants.{To, Bad, Refused}
 use Rattle.vim_words.specs.Flags.{lowEnds}
 use Rattle.vim_words.specs.ByVim.{inVimList, byRead, wordByVim}
@@ -28,8 +23,7 @@ pub entered-number : (t own folds : List ℕ) (k : Caret) (e : Entry) → e ≡ 
     f ≡ refusalFolds t folds (here k)
 entered-number t own folds k e is same q = q ∙ folds-number t (here k) e is own ∙ ap (λ (x : List ℕ). refusalFolds t x (here k)) same
 
-pub entered-none : (t own : List ℕ) (k : Caret) (e : Entry) → e ≡ entryOf t k → orFolds e own ≡ 0 →
-    Accepted t (here k) e × (foldRefusal own (rowCount t) ≡ 0)
+pub entered-none : (t own : List ℕ) (k : Caret) (e : Entry) → e ≡ entryOf t k → orFolds e own ≡ 0 → Accepted t (here k) e × (foldRefusal own (rowCount t) ≡ 0)
 entered-none t own k e is z =
     let none = folds-none e own z in
     let by-entered = entered t (here k) e is (none .0) in

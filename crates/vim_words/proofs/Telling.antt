@@ -1,14 +1,6 @@
 -- The flags of a table, token by token, and of a token, code by code. Assumes nothing.
-use mathlib.Core.Path.{_≡_, refl, ap, sym, _∙_}
-use mathlib.Core.List.{List, [], _∷_}
-use mathlib.Core.Bool.{Bool, true, false, cond, not}
-use Prim.Native.Nat.{ℕ, _+_, _≤_, _<_}
-use native.Mathlib.Decide.{decLt, ℕ-discrete}
-use native.Mathlib.Omega.{arith}
-use lib.Dec.{eqb, ltb}
-use lib.ListN.{length, getD, take, drop, set, replicate, getD-replicate, drop-of-length-le}
-use lib.Seq.{length-take-le, getD-set-same, getD-set-other}
-use borrow.Author.Tests.{lt-ltb, le-ltb}
+use Rattle.lists.proofs.Kit.{_≡_, refl, ap, sym, _∙_, List, Bool, true, false, cond, not, ℕ, _+_, _≤_, _<_, decLt, ℕ-discrete, arith, length, getD, take, drop}
+use Rattle.lists.proofs.Kit.{set, replicate, getD-replicate, drop-of-length-le, length-take-le, getD-set-same, getD-set-other, eqb, ltb, lt-ltb, le-ltb}
 use Rattle.list_tokens.proofs.Lists.{drop-at-take}
 use Rattle.vim_grammar.specs.declared.VimToken.{VimToken}
 use Rattle.vim_grammar.specs.Tokens.{noToken, speaks, decided, inVim}
@@ -37,9 +29,7 @@ module _ (t : VimToken) (old : List ℕ) where
     pub telling-said : i < length new → (f : ℕ) → f ≡ flagOf (t .out) → speaks t i ≡ true → Telling t (i + 1) old (set new i f)
     telling-said room f e hit c l = go (ℕ-discrete c i)
       where
-        go :
-            Dec (c ≡ i) →
-            getD (set new i f) c 0 ≡ cond (ltb c (i + 1)) (cond (speaks t c) (flagOf (t .out)) (getD old c 0)) (getD old c 0)
+        go : Dec (c ≡ i) → getD (set new i f) c 0 ≡ cond (ltb c (i + 1)) (cond (speaks t c) (flagOf (t .out)) (getD old c 0)) (getD old c 0)
         go (yes z) = rw (z, lt-ltb i (i + 1) (omega arith), hit) (getD-set-same new i f 0 room ∙ e)
         go (no n) = getD-set-other new i c f 0 n ∙ so-far c l ∙ rw (still c i n)
 
@@ -64,13 +54,11 @@ one-more true false f = refl
 one-more false out f = refl
 
 module _ (ts : List VimToken) (n i : ℕ) (m : n ≤ length ts) where
-  pub spoken-next :
-      i < n → (old new : List ℕ) → Spoken (take n ts) i old → Told (getD ts i noToken) old new → Spoken (take n ts) (i + 1) new
+  pub spoken-next : i < n → (old new : List ℕ) → Spoken (take n ts) i old → Told (getD ts i noToken) old new → Spoken (take n ts) (i + 1) new
   unfolding decided
   spoken-next h old new so-far told c l =
       let value = getD ts i noToken in
-      so-far c l
-      ∙ ap (λ (us : List VimToken). decided (not (eqb (getD old c 0) 0)) us c) (drop-at-take ts n i noToken h m)
+      so-far c l ∙ ap (λ (us : List VimToken). decided (not (eqb (getD old c 0) 0)) us c) (drop-at-take ts n i noToken h m)
       ∙ ap (λ (b : Bool). decided b (drop (i + 1) (take n ts)) c) (sym (one-more (speaks value c) (value .out) (getD old c 0)))
       ∙ ap (λ (f : ℕ). decided (not (eqb f 0)) (drop (i + 1) (take n ts)) c) (sym (told .each c l))
 
@@ -78,21 +66,32 @@ module _ (ts : List VimToken) (n i : ℕ) (m : n ≤ length ts) where
   spoken-end h flags so-far c l = sym (so-far c l ∙ decided-end ts n i c (not (eqb (getD flags c 0) 0)) h m)
 
   -- and of the letters
-  pub letters-said :
-      i < n → (b : Bool) → eqb (getD ts i noToken .kind) 1 ≡ true →
+  pub letters-said : i < n → (b : Bool) → eqb (getD ts i noToken .kind) 1 ≡ true →
       lastLetters b (drop i (take n ts)) ≡ lastLetters (not (getD ts i noToken .out)) (drop (i + 1) (take n ts))
   unfolding lastLetters
-  letters-said h b e =
-      ap (lastLetters b) (drop-at-take ts n i noToken h m)
+  letters-said h b e = ap (lastLetters b) (drop-at-take ts n i noToken h m)
       ∙ ap (λ (s : Bool). lastLetters (cond s (not (getD ts i noToken .out)) b) (drop (i + 1) (take n ts))) e
 
-  pub letters-on :
-      i < n → (b : Bool) → eqb (getD ts i noToken .kind) 1 ≡ false → lastLetters b (drop i (take n ts)) ≡ lastLetters b (drop (i + 1) (take n ts))
+  pub letters-on : i < n → (b : Bool) → eqb (getD ts i noToken .kind) 1 ≡ false → lastLetters b (drop i (take n ts)) ≡ lastLetters b (drop (i + 1) (take n ts))
   unfolding lastLetters
-  letters-on h b e =
-      ap (lastLetters b) (drop-at-take ts n i noToken h m)
+  letters-on h b e = ap (lastLetters b) (drop-at-take ts n i noToken h m)
       ∙ ap (λ (s : Bool). lastLetters (cond s (not (getD ts i noToken .out)) b) (drop (i + 1) (take n ts))) e
 
   pub letters-end : n ≤ i → (b : Bool) → lastLetters b (drop i (take n ts)) ≡ b
   unfolding lastLetters
   letters-end h b = rw (drop-of-length-le (take n ts) {i = i} (omega (arith, length-take-le n ts m)))
+
+-- where the loops stand: that over the codes, that over the tokens, and that over the tokens for the letters
+pub record TellingTo (t : VimToken) (i : ℕ) (old new : List ℕ) : Type 0 where
+  pub up-to : i ≤ 256
+  pub size : length new ≡ 256
+  pub so-far : Telling t i old new
+
+pub record SpokenTo (ts : List VimToken) (n i : ℕ) (flags : List ℕ) : Type 0 where
+  pub up-to : i ≤ n
+  pub size : length flags ≡ 256
+  pub so-far : Spoken ts i flags
+
+pub record LettersTo (ts : List VimToken) (n : ℕ) (is : Bool) (i : ℕ) : Type 0 where
+  pub up-to : i ≤ n
+  pub so-far : lastLetters false ts ≡ lastLetters is (drop i ts)

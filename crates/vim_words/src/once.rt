@@ -11,7 +11,7 @@ ghost use Prim.Native.Nat.{_≤_};
 ghost use Rattle.vim_grammar.specs.Tokens.{inVim};
 ghost use Rattle.vim_reader.specs.Table.{kept};
 ghost use Rattle.word_kinds.specs.Places.{kindOf};
-ghost use Rattle.word_kinds.specs.Spots.{placeOf, IsSpot};
+ghost use Rattle.word_kinds.specs.Spots.{placeOf, Lands};
 ghost use Rattle.word_rounds.specs.Rounds.{wordMotion};
 ghost use Rattle.word_rounds.specs.Turns.{Folded};
 ghost use Rattle.words.specs.Prepared.{Prepares};
@@ -57,10 +57,9 @@ pub fn vim_motion(
     requires { ⌜ Folded (now t) (now folds) rows content p × (spec .len ≤ 128) ×
         (lowEnds (kept spec) ≡ true) ⌝ }
     ensures { λ r.
-        ⌜ (placeOf (now (t .entry)) r ≡
-        wordMotion (now (t .entry)) (now (folds .entry)) (kindOf (inVim (kept spec)) big) big
-        m stop count (placeOf (now (t .entry)) p)) ×
-        IsSpot (now (t .entry)) r ⌝ }
+        ⌜ Lands (now (t .entry)) r
+        (wordMotion (now (t .entry)) (now (folds .entry)) (kindOf (inVim (kept spec)) big) big
+        m stop count (placeOf (now (t .entry)) p)) ⌝ }
 {
     let made = prepare_vim(t, spec, big, rows, content);
     let bounds = made.bounds;

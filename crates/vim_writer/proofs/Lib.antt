@@ -1,1 +1,3 @@
+pub mod TokenLaws
 pub mod WrittenLaws
+pub mod RoomLaws

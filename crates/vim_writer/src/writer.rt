@@ -2,9 +2,8 @@
 use crate::VimWritten;
 use vim_reader::VimSpec;
 ghost use mathlib.Core.Path.{_≡_};
-ghost use mathlib.Core.List.{_++_};
 ghost use Prim.Native.Nat.{_≤_};
-ghost use lib.ListN.{length, drop};
+ghost use lib.ListN.{length};
 ghost use Rattle.print.specs.Print.{Wrote};
 ghost use Rattle.vim_reader.specs.Table.{kept};
 ghost use Rattle.vim_writer.specs.Written.{written, writtenOf, writtenIn};

@@ -1,10 +1,6 @@
 -- Counts of visible rows add, down and up. Up starts from the first row of the fold that hides its row: it lands on a row that shows, or no row above
 -- shows, so that this start happens once. Assumes nothing.
-use mathlib.Core.Path.{_≡_, refl, ap, sym, _∙_}
-use mathlib.Core.List.{List}
-use mathlib.Core.Bool.{Bool, true, false, cond}
-use Prim.Native.Nat.{ℕ, zero, suc, _+_, _-_, _≤_, _<_, max}
-use native.Mathlib.Omega.{arith}
+use Rattle.lists.proofs.Kit.{_≡_, refl, ap, sym, _∙_, List, Bool, true, false, cond, ℕ, zero, suc, _+_, _-_, _≤_, _<_, max, arith}
 use Rattle.folds.specs.Folds.{hidden, nextVisible, prevVisible}
 use Rattle.folds.specs.declared.Visible.{Visible}
 use Rattle.folds.specs.declared.Visible.the-variants.{Row, NoRow}
@@ -53,10 +49,8 @@ module _ (folds : List ℕ) (rows : ℕ) where
       last : rounds (stepRow folds rows false) m row ≡ stepRow folds rows false (rounds (stepRow folds rows false) (m - 1) row)
       last =
           let all : m ≡ (m - 1) + 1 = omega arith in
-          ap (λ (x : ℕ). rounds (stepRow folds rows false) x row) all
-          ∙ rounds-add (stepRow folds rows false) (m - 1) 1 row
-          ∙ rounds-on (stepRow folds rows false) 1 _ (omega arith)
-          ∙ rounds-none (stepRow folds rows false) 0 _ (omega arith)
+          ap (λ (x : ℕ). rounds (stepRow folds rows false) x row) all ∙ rounds-add (stepRow folds rows false) (m - 1) 1 row
+          ∙ rounds-on (stepRow folds rows false) 1 _ (omega arith) ∙ rounds-none (stepRow folds rows false) 0 _ (omega arith)
 
   -- a row that a count leads to, down or up
   abbrev pub to : Bool → ℕ → ℕ → ℕ
@@ -76,28 +70,20 @@ module _ (folds : List ℕ) (rows : ℕ) where
       rw one
 
   pub rows-add : (down : Bool) (m n row : ℕ) → 0 < m → 0 < n → to down (m + n) row ≡ to down n (to down m row)
-  rows-add true m n row h k =
-      down-rounds (m + n) row (omega arith)
-      ∙ rounds-add (stepRow folds rows true) m n row
-      ∙ ap (rounds (stepRow folds rows true) n) (sym (down-rounds m row h))
-      ∙ sym (down-rounds n (to true m row) k)
-  rows-add false m n row h k =
-      up-rounds (m + n) row (omega arith)
-      ∙ rounds-add (stepRow folds rows false) m n (shownRow folds rows row)
+  rows-add true m n row h k = down-rounds (m + n) row (omega arith) ∙ rounds-add (stepRow folds rows true) m n row
+      ∙ ap (rounds (stepRow folds rows true) n) (sym (down-rounds m row h)) ∙ sym (down-rounds n (to true m row) k)
+  rows-add false m n row h k = up-rounds (m + n) row (omega arith) ∙ rounds-add (stepRow folds rows false) m n (shownRow folds rows row)
       ∙ ap (rounds (stepRow folds rows false) n) (sym (shown-after m (shownRow folds rows row) h))
-      ∙ ap (λ (r : ℕ). rounds (stepRow folds rows false) n (shownRow folds rows r)) (sym (up-rounds m row h))
-      ∙ sym (up-rounds n (to false m row) k)
+      ∙ ap (λ (r : ℕ). rounds (stepRow folds rows false) n (shownRow folds rows r)) (sym (up-rounds m row h)) ∙ sym (up-rounds n (to false m row) k)
 
   -- none of them leads back: where both counts lead to the row itself, so did the first
   pub back-none : (down : Bool) (m n row : ℕ) → 0 < m → 0 < n → to down n (to down m row) ≡ row → to down m row ≡ row
   back-none true m n row h k e = omega (arith, e, far m row h, far n (to true m row) k)
     where
       far : (n row : ℕ) → 0 < n → row ≤ to true n row
-      far n row h =
-          rw (down-rounds n row h) (rounds-keep (λ r. row ≤ r) (stepRow folds rows true) (λ r i. omega (arith, i, step-down r)) n row (omega arith))
+      far n row h = rw (down-rounds n row h) (rounds-keep (λ r. row ≤ r) (stepRow folds rows true) (λ r i. omega (arith, i, step-down r)) n row (omega arith))
   back-none false m n row h k e = omega (arith, e, far m row h, far n (to false m row) k)
     where
       far : (n row : ℕ) → 0 < n → to false n row ≤ row
-      far n row h =
-          rw (up-rounds n row h)
+      far n row h = rw (up-rounds n row h)
           (rounds-keep (λ r. r ≤ row) (stepRow folds rows false) (λ r i. omega (arith, i, step-up r)) n (shownRow folds rows row) (shown-up row))

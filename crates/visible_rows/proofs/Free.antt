@@ -1,12 +1,6 @@
 -- Rows that no fold hides, found in one pass over the folds. Assumes nothing.
-use mathlib.Core.Path.{_≡_, _∙_}
-use mathlib.Core.List.{List}
-use mathlib.Core.Bool.{Bool, true, false, and-false}
-use Prim.Native.Nat.{ℕ, _+_, _-_, _≤_, _<_, min}
-use native.Mathlib.Omega.{arith}
-use lib.Dec.{eqb, ltb}
-use lib.ListN.{length, getD, drop}
-use borrow.Author.Tests.{ne-eqb, le-ltb, lt-leb}
+use Rattle.lists.proofs.Kit.{_≡_, _∙_, List, Bool, true, false, and-false, ℕ, _+_, _-_, _≤_, _<_, min, arith, length, getD, drop, eqb, ltb, ne-eqb, le-ltb}
+use Rattle.lists.proofs.Kit.{lt-leb}
 use Rattle.folds.specs.Folds.{anyFold, foldHides, hidden}
 use Rattle.folds.proofs.Hiding.{any-fold-on, any-fold-end}
 use Rattle.visible_rows.specs.Visible.{rowsBeyond, Clear, Free, shift}
@@ -42,8 +36,7 @@ pub record FreeTo (folds : List ℕ) (rows : ℕ) (down : Bool) (row free i : �
   pub shown : (k : ℕ) → 0 < k → k ≤ free → hidden folds (shift down row k) ≡ anyFold (foldHides (shift down row k)) (drop i folds)
 
 module _ {folds : List ℕ} {rows : ℕ} {down : Bool} {row free i : ℕ} (so-far : FreeTo folds rows down row free i) where
-  pub free-step :
-      {r : ℕ} → i + 2 < length folds → Clear down row (getD folds i 0) (getD folds (i + 1) 0) (getD folds (i + 2) 0) free r →
+  pub free-step : {r : ℕ} → i + 2 < length folds → Clear down row (getD folds i 0) (getD folds (i + 1) 0) (getD folds (i + 2) 0) free r →
       FreeTo folds rows down row r (i + 3)
   free-step {r} h clear =
       record {

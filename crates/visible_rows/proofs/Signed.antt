@@ -1,14 +1,8 @@
 -- The signed row step: what a call hands on is read back from its bits, and a step is so many rounds down or up.
 -- Assumes nothing.
-use mathlib.Core.Path.{_≡_, refl, sym, ap, subst, _∙_}
-use mathlib.Core.List.{List}
-use mathlib.Core.Bool.{Bool, true, false}
-use Prim.Native.Nat.{ℕ, zero, suc, _≤_, max}
-use native.Mathlib.Omega.{arith}
-use lib.Dec.{T}
+use Rattle.lists.proofs.Kit.{_≡_, refl, sym, ap, subst, _∙_, List, Bool, true, false, ℕ, zero, suc, _≤_, max, arith, T, le-ltb}
 use lib.IntN.{ℤ, pos, negsuc, negℤ, _-ℤ_, natAbs, +ℤ-idl}
 use lib.Signed.{ltZ, nonNeg}
-use borrow.Author.Tests.{le-ltb}
 use mir.Syntax.{w64}
 use mir.Val.{Fits, SFits, toZ, ofZ}
 use mir.Facts.{toZ-ofZ}

@@ -1,10 +1,5 @@
 -- From visible row to visible row: rows that no fold hides are as many rounds. Assumes nothing.
-use mathlib.Core.Path.{_≡_, sym, ap, _∙_}
-use mathlib.Core.List.{List}
-use mathlib.Core.Bool.{Bool, true, false}
-use Prim.Native.Nat.{ℕ, zero, suc, _+_, _-_, _*_, _≤_, _<_}
-use native.Mathlib.Nat.{add-zero}
-use native.Mathlib.Omega.{arith}
+use Rattle.lists.proofs.Kit.{_≡_, sym, ap, _∙_, List, Bool, true, false, ℕ, zero, suc, _+_, _-_, _*_, _≤_, _<_, add-zero, arith}
 use Rattle.folds.specs.Folds.{hidden}
 use Rattle.folds.specs.declared.Visible.the-variants.{Row, NoRow}
 use Rattle.folds.proofs.Past.{next-here, prev-here, visible-within, prev-within}
@@ -44,6 +39,11 @@ shift-rest : (down : Bool) (rows row k : ℕ) → suc k ≤ rowsBeyond down rows
 shift-rest true rows row k h = omega arith
 shift-rest false rows row k h = omega arith
 
+-- some rounds are the `left` rounds from row r
+pub record Owes (folds : List ℕ) (rows : ℕ) (down : Bool) (whole r left : ℕ) : Type 0 where
+  pub same : whole ≡ rounds (stepRow folds rows down) left r
+  pub inside : r < rows
+
 module _ {folds : List ℕ} {rows : ℕ} {down : Bool} {row free : ℕ} (f : Free folds rows down row free) where
   -- k rounds over rows that no fold hides are k rows
   pub free-rounds : (k : ℕ) → k ≤ free → rounds (stepRow folds rows down) k row ≡ shift down row k
@@ -72,9 +72,7 @@ module _ {folds : List ℕ} {rows : ℕ} {down : Bool} {row free : ℕ} (f : Fre
 
     pub free-hop : (x : ℕ) → toward folds rows down (shift down row free) ≡ Row x →
         rounds (stepRow folds rows down) left row ≡ rounds (stepRow folds rows down) (left - free - 1) x
-    free-hop x e =
-        rest ∙
-        rounds-on (stepRow folds rows down) (left - free) (shift down row free) (omega arith) ∙
+    free-hop x e = rest ∙ rounds-on (stepRow folds rows down) (left - free) (shift down row free) (omega arith) ∙
         ap (rounds (stepRow folds rows down) (left - free - 1)) (ap (rowOr (shift down row free)) e)
 
     pub free-edge : toward folds rows down (shift down row free) ≡ NoRow → rounds (stepRow folds rows down) left row ≡ shift down row free
@@ -86,16 +84,14 @@ free-less : {folds : List ℕ} {rows : ℕ} (down : Bool) {row free : ℕ} → F
 free-less {folds} {rows} true {row} {free} f h =
     record {
       within = omega (arith, f .within);
-      shown =
-          λ k p l.
+      shown = λ k p l.
           let sum-is : row + 1 + k ≡ row + (k + 1) = omega arith in
           rw sum-is (f .shown (k + 1) (omega arith) (omega arith));
     }
 free-less {folds} {rows} false {row} {free} f h =
     record {
       within = omega (arith, f .within);
-      shown =
-          λ k p l.
+      shown = λ k p l.
           let difference-is : row - 1 - k ≡ row - (k + 1) = omega arith in
           rw difference-is (f .shown (k + 1) (omega arith) (omega arith));
     }

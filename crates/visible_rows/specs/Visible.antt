@@ -41,6 +41,11 @@ unfoldable pub verticalRow : List ℕ → ℕ → ℤ → ℕ → ℕ
 verticalRow folds rows (pos n) row = rounds (stepRow folds rows true) n row
 verticalRow folds rows (negsuc n) row = rounds (stepRow folds rows false) (suc n) (shownRow folds rows row)
 
+-- r is the row n of so many
+pub record RowIs (n rows r : ℕ) : Type 0 where
+  pub row : r ≡ n
+  pub inside : r < rows
+
 -- how many of a text's rows are below or above
 abbrev pub rowsBeyond : Bool → ℕ → ℕ → ℕ
 rowsBeyond down rows row = cond down (rows - 1 - row) row

@@ -15,8 +15,9 @@ ghost use mir.Syntax.{w64};
 ghost use mir.Val.{SFits};
 ghost use Rattle.folds.specs.Folds.{foldRefusal};
 ghost use Rattle.lists.specs.Rounds.{rounds};
-ghost use Rattle.visible_rows.specs.Visible.{toward, stepRow, shownRow, verticalRow, deltaOf, shift};
-ghost use Rattle.visible_rows.specs.Visible.{rowsBeyond, Clear, Free, HopTo};
+ghost use Rattle.visible_rows.specs.Visible.{toward, stepRow, shownRow, verticalRow, deltaOf};
+ghost use Rattle.visible_rows.specs.Visible.{shift};
+ghost use Rattle.visible_rows.specs.Visible.{RowIs, rowsBeyond, Clear, Free, HopTo};
 
 // So many rows or segments further, down or up, where up stops at 0.
 pub fn shifted(down: bool, i: usize, n: usize) -> usize
@@ -106,7 +107,7 @@ pub fn hop(folds: &[u32], rows: usize, down: bool, row: usize, free: usize) -> H
 // So many visible rows on, or the last one that there is.
 fn rows_on(folds: &[u32], rows: usize, down: bool, row: usize, n: usize) -> usize
     requires { ⌜ (foldRefusal (now folds) rows ≡ 0) × (row < rows) × (rows ≤ 1048577) ⌝ }
-    ensures { λ r. ⌜ (r ≡ rounds (stepRow (now (folds .entry)) rows down) n row) × (r < rows) ⌝ }
+    ensures { λ r. ⌜ RowIs (rounds (stepRow (now (folds .entry)) rows down) n row) rows r ⌝ }
 {
     let mut r = row;
     let mut left = n;
@@ -129,6 +130,7 @@ fn rows_on(folds: &[u32], rows: usize, down: bool, row: usize, n: usize) -> usiz
     r
 }
 
+// The same number, signed.
 fn signed(n: usize) -> i64
     requires { ⌜ n ≤ 4294967295 ⌝ }
     ensures { λ r. ⌜ r ≡ pos n ⌝ }
@@ -136,6 +138,7 @@ fn signed(n: usize) -> i64
     n as i64
 }
 
+// The number with the other sign.
 fn negated(z: i64) -> i64
     requires { ⌜ SFits w64 (negℤ z) ⌝ }
     ensures { λ r. ⌜ r ≡ negℤ z ⌝ }
@@ -143,6 +146,7 @@ fn negated(z: i64) -> i64
     -z
 }
 
+// The same number, without a sign.
 fn unsigned(z: i64) -> usize
     requires { ⌜ ltZ z (pos 0) ≡ false ⌝ }
     ensures { λ r. ⌜ r ≡ natAbs z ⌝ }
@@ -161,7 +165,7 @@ pub fn delta_of(down: bool, count: u32) -> i64
 // The row itself, or the first row of the fold that hides it.
 fn shown_row(folds: &[u32], rows: usize, row: usize) -> usize
     requires { ⌜ (foldRefusal (now folds) rows ≡ 0) × (row < rows) ⌝ }
-    ensures { λ r. ⌜ (r ≡ shownRow (now (folds .entry)) rows row) × (r < rows) ⌝ }
+    ensures { λ r. ⌜ RowIs (shownRow (now (folds .entry)) rows row) rows r ⌝ }
 {
     if !folds::is_row_hidden(folds, row) {
         return row;
@@ -177,7 +181,7 @@ fn shown_row(folds: &[u32], rows: usize, row: usize) -> usize
 pub fn vertical_row(folds: &[u32], rows: usize, row: usize, delta: i64) -> usize
     requires { ⌜ (foldRefusal (now folds) rows ≡ 0) × (row < rows) × (rows ≤ 1048577) × SFits w64
         (negℤ delta) ⌝ }
-    ensures { λ r. ⌜ (r ≡ verticalRow (now (folds .entry)) rows delta row) × (r < rows) ⌝ }
+    ensures { λ r. ⌜ RowIs (verticalRow (now (folds .entry)) rows delta row) rows r ⌝ }
 {
     if delta < 0 {
         let from = shown_row(folds, rows, row);

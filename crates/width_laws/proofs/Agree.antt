@@ -1,11 +1,5 @@
 -- Two width functions that agree on the characters of a list, of its parts, and of the rows of a text. Assumes nothing.
-use Prim.Native.Nat.{ℕ, zero, suc}
-use mathlib.Core.Path.{_≡_, refl}
-use mathlib.Core.List.{List, [], _∷_}
-use mathlib.Core.Bool.{Bool, true, false, cond, _||_}
-use native.Mathlib.Omega.{arith}
-use lib.Dec.{eqb}
-use lib.ListN.{getD, take, drop}
+use Rattle.lists.proofs.Kit.{_≡_, refl, List, [], _∷_, Bool, true, false, cond, _||_, ℕ, zero, suc, arith, getD, take, drop, eqb}
 use Rattle.lists.specs.Lists.{any, onFirst}
 use Rattle.text.specs.Text.{rows, rowAt}
 

@@ -1,10 +1,5 @@
 -- Where two width functions agree on a row, it is broken at the same places, and cells and columns of a segment are the same. Assumes nothing.
-use Prim.Native.Nat.{ℕ, zero, suc, _+_, _-_}
-use mathlib.Core.Path.{_≡_, refl, ap}
-use mathlib.Core.List.{List, [], _∷_}
-use mathlib.Core.Bool.{Bool, cond}
-use lib.Dec.{leb, ltb}
-use lib.ListN.{length, drop}
+use Rattle.lists.proofs.Kit.{_≡_, refl, ap, List, [], _∷_, Bool, cond, ℕ, zero, suc, _+_, _-_, length, drop, leb}
 use Rattle.row_cells.specs.Cells.{cellsOf, fits}
 use Rattle.row_cells.specs.Offsets.{part, cellsIn, charAtOffset, offsetOfChar}
 use Rattle.row_segment.specs.Segments.{firstSegment}
@@ -17,8 +12,7 @@ module _ (w v : ℕ → ℕ) where
   fits-same : (room : ℕ) (row : List ℕ) → Agree w v row → fits w room row ≡ fits v room row
   unfolding fits
   fits-same room [] a = refl
-  fits-same room (x ∷ row) a =
-      rw (a .0) (ap (λ (n : ℕ). cond (leb (cellsOf v x) room) (suc n) 0) (fits-same (room - cellsOf v x) row (a .1)))
+  fits-same room (x ∷ row) a = rw (a .0) (ap (λ (n : ℕ). cond (leb (cellsOf v x) room) (suc n) 0) (fits-same (room - cellsOf v x) row (a .1)))
 
   cells-same : (row : List ℕ) → Agree w v row → cellsIn w row ≡ cellsIn v row
   unfolding cellsIn

@@ -1,10 +1,5 @@
 -- Where two width functions agree on a row, its columns are the same. Assumes nothing.
-use Prim.Native.Nat.{ℕ, zero, suc, _+_, _-_}
-use mathlib.Core.Path.{_≡_, refl, ap}
-use mathlib.Core.List.{List, [], _∷_}
-use mathlib.Core.Bool.{Bool, cond, _||_}
-use lib.Dec.{eqb, leb}
-use lib.ListN.{getD}
+use Rattle.lists.proofs.Kit.{_≡_, refl, ap, List, [], _∷_, cond, _||_, ℕ, zero, suc, _+_, eqb, leb}
 use Rattle.row_tabs.specs.Cells.{stopOf, cellsAt}
 use Rattle.row_columns.specs.Columns.{visualFrom, visualCol, charFrom, charCol, cursorCol}
 use Rattle.width_laws.proofs.Agree.{Agree}
@@ -22,8 +17,7 @@ module _ (w v : ℕ → ℕ) where
   char-from : (tab at : ℕ) (row : List ℕ) (c : ℕ) → Agree w v row → charFrom w tab at row c ≡ charFrom v tab at row c
   unfolding charFrom
   char-from tab at [] c a = refl
-  char-from tab at (x ∷ row) c a =
-      rw (cells-same tab at x (a .0))
+  char-from tab at (x ∷ row) c a = rw (cells-same tab at x (a .0))
       (ap (λ (n : ℕ). cond (eqb (cellsAt v tab at x) 0 || leb (at + cellsAt v tab at x) c) (suc n) 0) (char-from tab (at + cellsAt v tab at x) row c (a .1)))
 
   module _ (tabstop : ℕ) (row : List ℕ) (a : Agree w v row) where

@@ -1,18 +1,10 @@
 -- Where one width function is nowhere above another, neither are the columns and cells of a row. Assumes nothing.
-use Prim.Native.Nat.{ℕ, zero, suc, _+_, _-_, _*_, _/_, _%_, _≤_, _<_}
-use mathlib.Core.Path.{_≡_, sym, ap, _∙_}
-use mathlib.Core.List.{List, [], _∷_}
-use mathlib.Core.Bool.{Bool, true, false, cond}
-use native.Mathlib.Nat.{mod-lt, div-add-mod'}
-use native.Mathlib.Decide.{decLt}
-use native.Mathlib.Omega.{arith}
+use Rattle.lists.proofs.Kit.{_≡_, ap, _∙_, List, [], _∷_, Bool, true, false, cond, ℕ, zero, suc, _+_, _-_, _*_, _/_, _%_, _≤_, _<_, mod-lt, div-add-mod', decLt}
+use Rattle.lists.proofs.Kit.{arith, getD, eqb}
 use lib.Arith.{digits-mod}
-use lib.Dec.{eqb}
-use lib.ListN.{getD, drop, take}
 use Rattle.row_tabs.specs.Cells.{stopOf, cellsAt}
 use Rattle.row_tabs.proofs.Accepted.{stop-pos}
 use Rattle.row_columns.specs.Columns.{visualFrom, visualCol, cursorCol}
-use Rattle.row_cells.specs.Cells.{cellsOf}
 use Rattle.row_cells.specs.Offsets.{cellsIn}
 
 -- a tab that begins later ends no earlier
@@ -42,8 +34,7 @@ module _ {w v : ℕ → ℕ} (least : (x : ℕ) → w x ≤ v x) where
   unfolding visualFrom
   visual-less tab a b [] i p h = h
   visual-less tab a b (x ∷ row) zero p h = h
-  visual-less tab a b (x ∷ row) (suc i) p h =
-      visual-less tab (a + cellsAt w tab a x) (b + cellsAt v tab b x) row i p (cell-less tab a b x p h)
+  visual-less tab a b (x ∷ row) (suc i) p h = visual-less tab (a + cellsAt w tab a x) (b + cellsAt v tab b x) row i p (cell-less tab a b x p h)
 
   pub column-less : (tabstop : ℕ) (row : List ℕ) (i : ℕ) → visualCol w tabstop row i ≤ visualCol v tabstop row i
   column-less tabstop row i = visual-less (stopOf tabstop) 0 0 row i (stop-pos tabstop) (omega arith)
@@ -51,8 +42,7 @@ module _ {w v : ℕ → ℕ} (least : (x : ℕ) → w x ≤ v x) where
   pub cursor-less : (tabstop : ℕ) (row : List ℕ) (i : ℕ) → cursorCol w tabstop row i ≤ cursorCol v tabstop row i
   cursor-less tabstop row i = go (eqb (getD row i 0) 9)
     where
-      go : (tabbed : Bool) →
-          cond tabbed (visualCol w tabstop row (i + 1) - 1) (visualCol w tabstop row i) ≤ cond tabbed (visualCol v tabstop row (i + 1) - 1)
+      go : (tabbed : Bool) → cond tabbed (visualCol w tabstop row (i + 1) - 1) (visualCol w tabstop row i) ≤ cond tabbed (visualCol v tabstop row (i + 1) - 1)
           (visualCol v tabstop row i)
       go true = omega (arith, column-less tabstop row (i + 1))
       go false = column-less tabstop row i

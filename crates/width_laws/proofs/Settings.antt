@@ -1,8 +1,5 @@
 -- Wide is never less than narrow, and without characters of class A the answers are the same. Assumes nothing.
-use Prim.Native.Nat.{ℕ, _-_}
-use mathlib.Core.Path.{_≡_, sym, ap}
-use mathlib.Core.List.{List}
-use lib.ListN.{take, drop}
+use Rattle.lists.proofs.Kit.{sym, ap, List, ℕ, _-_, take, drop}
 use Rattle.chars.specs.White.{isWhite}
 use Rattle.widths.specs.declared.Ambiguous.the-variants.{Narrow, Wide}
 use Rattle.widths.specs.Widths.{isAmbiguous, widthAs}
@@ -55,14 +52,11 @@ on-text : (t : List ℕ) → Without t → SameOnText t
 on-text t none =
     let by-agree = agree t none in
     record {
-      rows = λ folds tabstop down n k.
-          ap (λ (p : Target). moving (verticalRefusal t folds tabstop k) (atTarget p))
+      rows = λ folds tabstop down n k. ap (λ (p : Target). moving (verticalRefusal t folds tabstop k) (atTarget p))
           (vertical-same wide narrow t by-agree folds tabstop (deltaOf down n) (k .row) (k .col) (k .sticky));
-      screen = λ folds tabstop mode width down n k.
-          ap (λ (p : Target). moving (verticalRefusal t folds tabstop k) (atTarget p))
+      screen = λ folds tabstop mode width down n k. ap (λ (p : Target). moving (verticalRefusal t folds tabstop k) (atTarget p))
           (screen-same wide narrow t by-agree folds tabstop mode width down n (k .row) (k .col) (k .sticky));
-      kept = λ folds tabstop mode width down n k.
-          ap (λ (p : Kept). moving (verticalRefusal t folds tabstop k) (atKept p))
+      kept = λ folds tabstop mode width down n k. ap (λ (p : Kept). moving (verticalRefusal t folds tabstop k) (atKept p))
           (kept-same wide narrow t by-agree folds tabstop mode width down n (k .row) (k .col) (k .sticky) (k .offset));
     }
 

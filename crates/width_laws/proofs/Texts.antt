@@ -1,9 +1,5 @@
 -- Where two width functions agree on a text, up, down and the screen moves lead to the same places. Assumes nothing.
-use Prim.Native.Nat.{ℕ, _-_, max}
-use mathlib.Core.Path.{_≡_, refl, ap, _∙_}
-use mathlib.Core.List.{List}
-use mathlib.Core.Bool.{Bool, true, false, cond, _||_}
-use lib.Dec.{eqb, ltb}
+use Rattle.lists.proofs.Kit.{_≡_, refl, ap, List, Bool, cond, _||_, ℕ, max, eqb, ltb}
 use lib.IntN.{ℤ}
 use Rattle.chars.specs.White.{isWhite}
 use Rattle.text.specs.declared.Position.{Position}
@@ -35,22 +31,19 @@ module _ (t folds : List ℕ) (f g : List ℕ → List ℕ) (same : (r : ℕ) �
 
   step-same : (offset : ℕ) (p : Position) → stepScreen t folds f down offset p ≡ stepScreen t folds g down offset p
   unfolding stepScreen
-  step-same offset p =
-      rw (same (p .row))
-      (ap (λ (q : Position). cond (ltb 0 (aheadOf down (segmentCount (g (rowAt t (p .row)))) (seatOf t g p))) (onSegment t g offset (p .row) (shift down (seatOf t g p) 1)) q)
+  step-same offset p = rw (same (p .row))
+      (ap (λ (q : Position). cond (ltb 0 (aheadOf down (segmentCount (g (rowAt t (p .row)))) (seatOf t g p))) (onSegment t g offset (p .row)
+      (shift down (seatOf t g p) 1)) q)
       (entered-same offset p (toward folds (rowCount t) down (p .row))))
 
   pub from-same : (n : ℕ) (p : Position) → screenFrom t folds f down n p ≡ screenFrom t folds g down n p
-  from-same n p =
-      rw (same (p .row))
-      (ap (λ (step : Position → Position). rounds step n p)
+  from-same n p = rw (same (p .row)) (ap (λ (step : Position → Position). rounds step n p)
       (λ i q. step-same (offsetIn (g (rowAt t (p .row))) (rowAt t (p .row)) (p .col)) q i))
 
   pub glided-same : (n : ℕ) (offset : Offset) (p : Position) → glided t folds f down n offset p ≡ glided t folds g down n offset p
   glided-same n offset p =
       let kept = orOwn offset (offsetIn (g (rowAt t (p .row))) (rowAt t (p .row)) (p .col)) in
-      rw (same (p .row))
-      (ap (λ (step : Position → Position). record { place = rounds step n p; offset = kept }) (λ i q. step-same kept q i))
+      rw (same (p .row)) (ap (λ (step : Position → Position). record { place = rounds step n p; offset = kept }) (λ i q. step-same kept q i))
 
 module _ (w v : ℕ → ℕ) (t : List ℕ) (a : Agree w v t) where
   wanted-same : (tabstop row col : ℕ) (sticky : Sticky) → wantedCol w t tabstop row col sticky ≡ wantedCol v t tabstop row col sticky
@@ -74,7 +67,8 @@ module _ (w v : ℕ → ℕ) (t : List ℕ) (a : Agree w v t) where
       rw (vertical-same folds tabstop (deltaOf down count) row col sticky, wanted-same tabstop row col sticky, one)
 
   pub kept-same : (folds : List ℕ) (tabstop : ℕ) (mode : Wrap) (width : ℕ) (down : Bool) (count row col : ℕ) (sticky : Sticky) (offset : Offset) →
-      moveScreenKept w t folds tabstop mode width down count row col sticky offset ≡ moveScreenKept v t folds tabstop mode width down count row col sticky offset
+      moveScreenKept w t folds tabstop mode width down count row col sticky offset ≡ moveScreenKept v t folds tabstop mode width down count row col sticky
+      offset
   kept-same folds tabstop mode width down count row col sticky offset =
       let start = startsAt t folds down offset (record { row = row; col = col }) in
       let lay = segmentsOf v isWhite mode width in

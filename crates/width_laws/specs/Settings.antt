@@ -38,7 +38,8 @@ pub record SameOnRow (row : List ℕ) : Type 0 where
 
 -- and on such a text
 pub record SameOnText (t : List ℕ) : Type 0 where
-  pub rows : (folds : List ℕ) (tabstop : ℕ) (down : Bool) (n : ℕ) (k : Caret) → moveRows Wide t folds tabstop down n k ≡ moveRows Narrow t folds tabstop down n k
+  pub rows : (folds : List ℕ) (tabstop : ℕ) (down : Bool) (n : ℕ) (k : Caret)
+      → moveRows Wide t folds tabstop down n k ≡ moveRows Narrow t folds tabstop down n k
   pub screen : (folds : List ℕ) (tabstop : ℕ) (mode : Wrap) (width : ℕ) (down : Bool) (n : ℕ) (k : Caret) →
       moveScreenRows Wide t folds tabstop mode width down n k ≡ moveScreenRows Narrow t folds tabstop mode width down n k
   pub kept : (folds : List ℕ) (tabstop : ℕ) (mode : Wrap) (width : ℕ) (down : Bool) (n : ℕ) (k : Caret) →

@@ -1,12 +1,6 @@
 -- Whether x lies in a range of an ascending table, by turns: each bound that is at most x turns it round. Assumes nothing.
-use mathlib.Core.Path.{_≡_, refl, sym, ap, _∙_}
-use mathlib.Core.Bool.{Bool, true, false, not, cond, _&&_, _||_}
-use mathlib.Core.List.{List, [], _∷_}
-use Prim.Native.Nat.{ℕ, _≤_, _<_}
-use native.Mathlib.Decide.{decLt}
-use native.Mathlib.Omega.{arith}
-use lib.Dec.{T, leb, ltb, ltb→lt}
-use borrow.Author.Tests.{le-ltb, lt-ltb, le-leb, lt-leb}
+use Rattle.lists.proofs.Kit.{_≡_, refl, List, [], _∷_, Bool, true, false, not, cond, _&&_, _||_, ℕ, _≤_, _<_, decLt, arith, T, leb, ltb, ltb→lt, le-ltb, lt-ltb}
+use Rattle.lists.proofs.Kit.{le-leb, lt-leb}
 use Rattle.ranges.specs.Ranges.{inTable, climbs, ascending}
 use Rattle.ranges.proofs.Ascending.{and-left, and-right, ascending-tail}
 
@@ -36,8 +30,7 @@ two-more x s e bs t later = go (decLt x s) (decLt x e)
     up : s < e
     up = ltb→lt s e (and-left (ltb s e) (climbs e bs) t)
 
-    go : Dec (x < s) → Dec (x < e) →
-        ((leb s x && ltb x e) || inTable x bs) ≡
+    go : Dec (x < s) → Dec (x < e) → ((leb s x && ltb x e) || inTable x bs) ≡
         cond (leb s x) (not (cond (leb e x) (not (flips x bs)) (flips x bs))) (cond (leb e x) (not (flips x bs)) (flips x bs))
     go (yes h) k = rw (lt-leb s x h, lt-leb e x (omega (arith, up))) later
     go (no h) (yes k) = rw (le-leb s x (omega arith), lt-ltb x e k, lt-leb e x k, flips-below x e bs climb (omega arith))

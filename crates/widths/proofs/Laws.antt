@@ -1,12 +1,6 @@
 -- What holds of the width under both settings: wide is never less, and the same of a character that is not of the class. Assumes nothing.
-use Prim.Native.Nat.{ℕ, _≤_}
-use mathlib.Core.Path.{_≡_, refl}
-use mathlib.Core.Bool.{Bool, true, false, cond, _&&_}
-use native.Mathlib.Omega.{arith}
-use lib.Dec.{eqb}
-use borrow.Author.Tests.{eqb-true}
+use Rattle.lists.proofs.Kit.{_≡_, refl, Bool, true, false, cond, _&&_, ℕ, _≤_, arith, eqb, eqb-true}
 use Rattle.chars.specs.Width.{widthOf}
-use Rattle.widths.specs.declared.Ambiguous.{Ambiguous}
 use Rattle.widths.specs.declared.Ambiguous.the-variants.{Narrow, Wide}
 use Rattle.widths.specs.Widths.{isAmbiguous, wideWidth, widthAs}
 

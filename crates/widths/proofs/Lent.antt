@@ -1,12 +1,5 @@
 -- The tables that a call lends under a setting are as the walks require them, and give the width under that setting. Assumes nothing.
-use Prim.Native.Nat.{ℕ, _<_}
-use mathlib.Core.Path.{_≡_, refl, ap, _∙_}
-use mathlib.Core.Bool.{Bool, cond, _&&_}
-use mathlib.Core.List.{List, []}
-use native.Mathlib.Decide.{ℕ-discrete}
-use lib.Dec.{T, eqb}
-use lib.ListN.{drop}
-use borrow.Author.Tests.{ne-eqb}
+use Rattle.lists.proofs.Kit.{_≡_, refl, ap, _∙_, List, [], cond, _&&_, ℕ, _<_, ℕ-discrete, drop, T, eqb, ne-eqb}
 use Rattle.ranges.specs.Ranges.{inTable, ascending}
 use Rattle.ranges.proofs.Bounds.{table-low}
 use Rattle.chars.specs.Width.{zeroWidths, doubleWidths, widthBy, widthOf, Widths}

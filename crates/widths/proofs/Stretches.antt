@@ -1,14 +1,8 @@
 -- Numbers in stretches, each of one kind: `b ∷ k ∷ ..`, from b on up to the next the kind k. The bounds of the stretches whose kind has p are a
 -- table of the numbers whose kind has it. So that two tables made so from one list of stretches agree is a fact about a few kinds. Assumes nothing.
-use mathlib.Core.Path.{_≡_, refl, sym, ap, _∙_}
-use mathlib.Core.Bool.{Bool, true, false, not, cond, _&&_}
-use mathlib.Core.List.{List, [], _∷_}
-use Prim.Native.Nat.{ℕ, _≤_, _<_}
-use native.Mathlib.Decide.{decLt}
-use native.Mathlib.Omega.{arith}
-use lib.Dec.{T, leb, ltb, ltb→lt}
-use borrow.Author.Tests.{le-leb, lt-leb, lt-ltb}
-use Rattle.ranges.specs.Ranges.{inTable, climbs, ascending}
+use Rattle.lists.proofs.Kit.{_≡_, refl, ap, _∙_, List, [], _∷_, Bool, true, false, not, cond, _&&_, ℕ, _≤_, _<_, decLt, arith, T, leb, ltb, ltb→lt, le-leb}
+use Rattle.lists.proofs.Kit.{lt-leb, lt-ltb}
+use Rattle.ranges.specs.Ranges.{inTable, ascending}
 use Rattle.ranges.proofs.Ascending.{and-left, and-right}
 use Rattle.widths.proofs.Flips.{not-not, flips, flips-in}
 
@@ -55,8 +49,7 @@ module _ (p : ℕ → Bool) (x : ℕ) where
       below-one a (boundsOf p (p c) rest) (omega arith) (bounds-below a rest (p c) (and-right (ltb b a) (climbing a rest) t) (omega arith)) inside (p c)
 
   -- one stretch more, which begins at x or before: what it begins is turned round
-  turned-one : (a : ℕ) (l : List ℕ) → a ≤ x → (i q : Bool) →
-      turned i (flips x (cond i (cond q l (a ∷ l)) (cond q (a ∷ l) l))) ≡ turned q (flips x l)
+  turned-one : (a : ℕ) (l : List ℕ) → a ≤ x → (i q : Bool) → turned i (flips x (cond i (cond q l (a ∷ l)) (cond q (a ∷ l) l))) ≡ turned q (flips x l)
   unfolding flips
   turned-one a l h true true = refl
   turned-one a l h true false = rw (le-leb a x h) (not-not (flips x l))
@@ -67,8 +60,7 @@ module _ (p : ℕ → Bool) (x : ℕ) where
   turned-none true = refl
   turned-none false = refl
 
-  kind-step :
-      (b k a c : ℕ) (rest : List ℕ) → T (climbing b (a ∷ c ∷ rest)) → turned (p c) (flips x (boundsOf p (p c) rest)) ≡ p (kindFrom c rest x) →
+  kind-step : (b k a c : ℕ) (rest : List ℕ) → T (climbing b (a ∷ c ∷ rest)) → turned (p c) (flips x (boundsOf p (p c) rest)) ≡ p (kindFrom c rest x) →
       turned (p k) (flips x (boundsOf p (p k) (a ∷ c ∷ rest))) ≡ p (kindFrom k (a ∷ c ∷ rest) x)
   unfolding kindFrom boundsOf climbing
   kind-step b k a c rest t later = go (decLt x a)
@@ -77,9 +69,7 @@ module _ (p : ℕ → Bool) (x : ℕ) where
       on = and-right (ltb b a) (climbing a rest) t
 
       go : Dec (x < a) → turned (p k) (flips x (boundsOf p (p k) (a ∷ c ∷ rest))) ≡ p (cond (leb a x) (kindFrom c rest x) k)
-      go (yes h) =
-          rw (lt-leb a x h)
-          (ap (turned (p k)) (bounds-below x (a ∷ c ∷ rest) (p k) (rw (lt-ltb x a h) on) (omega arith)) ∙ turned-none (p k))
+      go (yes h) = rw (lt-leb a x h) (ap (turned (p k)) (bounds-below x (a ∷ c ∷ rest) (p k) (rw (lt-ltb x a h) on) (omega arith)) ∙ turned-none (p k))
       go (no h) = rw (le-leb a x (omega arith)) (turned-one a (boundsOf p (p c) rest) (omega arith) (p k) (p c) ∙ later)
 
   kind-turned : (b k : ℕ) (st : List ℕ) → T (climbing b st) → turned (p k) (flips x (boundsOf p (p k) st)) ≡ p (kindFrom k st x)
@@ -89,10 +79,8 @@ module _ (p : ℕ → Bool) (x : ℕ) where
   kind-turned b k (a ∷ c ∷ rest) t = kind-step b k a c rest t (kind-turned a c rest (and-right (ltb b a) (climbing a rest) t))
 
   -- a table that is the bounds of the stretches with p, of which the first is from 0 on
-  pub in-stretches :
-      (table : List ℕ) (k c : ℕ) (st : List ℕ) → T (ascending table) → T (climbing 0 st) → table ≡ boundsOf p false (0 ∷ c ∷ st) →
+  pub in-stretches : (table : List ℕ) (k c : ℕ) (st : List ℕ) → T (ascending table) → T (climbing 0 st) → table ≡ boundsOf p false (0 ∷ c ∷ st) →
       inTable x table ≡ p (kindFrom k (0 ∷ c ∷ st) x)
   unfolding kindFrom boundsOf
-  in-stretches table k c st t climb e =
-      flips-in x table t ∙ ap (flips x) e ∙
+  in-stretches table k c st t climb e = flips-in x table t ∙ ap (flips x) e ∙
       rw (le-leb 0 x (omega arith)) (turned-one 0 (boundsOf p (p c) st) (omega arith) false (p c) ∙ kind-turned 0 c st climb)

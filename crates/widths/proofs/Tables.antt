@@ -1,13 +1,5 @@
 -- The rule of each table, over the whole table, and that the tables agree: each is made from one list of stretches, by what holds in them. Assumes nothing.
-use Prim.Native.Nat.{ℕ}
-use mathlib.Core.Path.{_≡_, refl, ap, _∙_}
-use mathlib.Core.Bool.{Bool, cond, _&&_, _||_}
-use mathlib.Core.List.{List, [], _∷_}
-use native.Mathlib.Decide.{ℕ-discrete}
-use native.Mathlib.Omega.{arith}
-use lib.Dec.{T, eqb}
-use lib.ListN.{drop}
-use borrow.Author.Tests.{ne-eqb}
+use Rattle.lists.proofs.Kit.{_≡_, refl, _∷_, Bool, _||_, ℕ, drop, T, eqb}
 use Rattle.ranges.specs.Ranges.{inTable, ascending}
 use Rattle.chars.specs.Width.{zeroWidths, doubleWidths}
 use Rattle.chars.proofs.Tables.{zero-widths-ascend, double-widths-ascend}

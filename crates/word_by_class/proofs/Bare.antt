@@ -1,9 +1,5 @@
 -- A round at a row of a stretch without closed folds. Assumes nothing.
-use mathlib.Core.Path.{_≡_, refl}
-use mathlib.Core.List.{List, []}
-use mathlib.Core.Bool.{Bool, true, _&&_}
-use Prim.Native.Nat.{ℕ}
-use lib.Dec.{ltb, leb}
+use Rattle.lists.proofs.Kit.{_≡_, refl, List, [], Bool, true, _&&_, ℕ, ltb, leb}
 use Rattle.folds.specs.Folds.{anyFold, foldRefusal}
 use Rattle.folds.specs.declared.Span.the-variants.{NoSpan}
 use Rattle.fold_stretches.specs.declared.Stretch.{Stretch}

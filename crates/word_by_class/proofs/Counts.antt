@@ -1,15 +1,11 @@
 -- Counts of rounds by the classes. A round that changes nothing ends them. Assumes nothing.
-use mathlib.Core.Path.{_≡_, refl, _∙_}
-use mathlib.Core.List.{List}
-use mathlib.Core.Bool.{Bool, false}
-use Prim.Native.Nat.{ℕ, zero, suc, _-_, _<_, max}
-use native.Mathlib.Omega.{arith}
+use Rattle.lists.proofs.Kit.{_≡_, refl, List, Bool, false, ℕ, zero, suc, _-_, _<_, max, arith}
 use Rattle.word_rounds.specs.declared.Motion.{Motion}
-use Rattle.word_by_class.specs.declared.Turned.{Turned}
-use Rattle.word_by_class.specs.declared.Turned.the-variants.{On, Off}
+use Rattle.word_by_class.specs.declared.Turn.{Turn}
+use Rattle.word_by_class.specs.declared.Turn.the-variants.{On, Off}
 use Rattle.word_by_class.specs.Rounds.{roundOf, counted, motion}
 
-module _ (round : ℕ → Turned) where
+module _ (round : ℕ → Turn) where
   pub counted-none : (n i : ℕ) → n ≡ 0 → counted round n i ≡ i
   unfolding counted
   counted-none n i e = rw e

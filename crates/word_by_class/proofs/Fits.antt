@@ -1,37 +1,25 @@
 -- What the code of a round leans on: the slice holds classes, so that every jump and round stays in it. Assumes nothing.
-use mathlib.Core.Path.{_≡_, refl, ap, sym, subst, _∙_}
-use mathlib.Core.List.{List, [], _∷_}
-use mathlib.Core.Bool.{Bool, true, false, cond}
-use Prim.Native.Nat.{ℕ, zero, suc, _+_, _-_, _≤_, _<_}
-use native.Mathlib.Omega.{arith}
-use lib.Dec.{eqb, leb}
-use lib.ListN.{length}
+use Rattle.lists.proofs.Kit.{_≡_, refl, sym, subst, _∙_, List, [], _∷_, Bool, true, false, cond, ℕ, _+_, _≤_, _<_, arith, length, eqb, leb}
 use Rattle.folds.specs.Folds.{hidden, prevVisible, nextVisible, lastBefore, closedFrom, closedFoldAt}
-use Rattle.folds.specs.declared.Span.{Span}
 use Rattle.folds.specs.declared.Span.the-variants.{Of, NoSpan}
 use Rattle.folds.specs.declared.Visible.{Visible}
 use Rattle.folds.specs.declared.Visible.the-variants.{Row, NoRow}
 use Rattle.folds.proofs.Past.{prev-within}
-use Rattle.text.specs.Text.{position}
-use Rattle.text.specs.declared.Position.{Position}
 use Rattle.text.proofs.Content.{content-near}
 use Rattle.text.proofs.Stands.{row-there}
-use Rattle.word_kinds.specs.declared.Spot.{Spot}
-use Rattle.word_rounds.proofs.Folding.{span-within}
 use Rattle.word_kinds.specs.Places
 use Rattle.word_rounds.specs.Rounds as first
 use Rattle.word_rounds.specs.declared.Motion.{Motion}
 use Rattle.word_classes.specs.Classes.{endClass, charClass, classOf, classesFrom, classesOf}
 use Rattle.word_places.specs.Places.{isEnd, isEmpty}
-use Rattle.word_class_rows.specs.Rows.{rowOf, rowsOf, contentOf, endOf, startOf, Stands}
-use Rattle.word_class_rows.proofs.Counting.{end-there}
-use Rattle.word_class_laws.specs.Determines.{Classes, Determines, pos}
+use Rattle.word_class_rows.specs.Rows.{rowOf, rowsOf, contentOf}
+use Rattle.word_class_laws.specs.Determines.{Classes, Determines}
 use Rattle.word_class_laws.proofs.Points.{char-says}
 use Rattle.word_class_laws.proofs.Law.{determined}
-use Rattle.word_by_class.specs.declared.Turned.{Turned}
-use Rattle.word_by_class.specs.declared.Turned.the-variants.{On, Off}
-use Rattle.word_by_class.specs.Rounds.{foldAt, jumpFwd, jumpBack, roundOf, motion, positionOf, Ready, Asked}
-use Rattle.word_by_class.proofs.Jumping.{fwd-same, back-same, start-place}
+use Rattle.word_by_class.specs.declared.Turn.{Turn}
+use Rattle.word_by_class.specs.declared.Turn.the-variants.{On, Off}
+use Rattle.word_by_class.specs.Rounds.{jumpFwd, jumpBack, roundOf, motion}
+use Rattle.word_by_class.proofs.Jumping.{fwd-same, back-same}
 use Rattle.word_by_class.proofs.Same.{Turns, round-same, motion-same}
 
 -- a row's end at the first place is that of an empty row
@@ -83,7 +71,7 @@ module _ {c : List ℕ} (k : Classes c) where
     back-in = omega (arith, back-same (held true) folds i in-text .1, held true .long)
 
     module _ (big : Bool) (m : Motion) (stop : Bool) (j : ℕ) where
-      turn-in : (r : Turned) (v : first.Turn) → Turns (k .text) r v → r ≡ On j → j + 1 ≤ length c
+      turn-in : (r : Turn) (v : first.Turn) → Turns (k .text) r v → r ≡ On j → j + 1 ≤ length c
       turn-in (On x) v w e = let x-is : x ≡ j = cc in omega (arith, w .1, held true .long)
       turn-in (Off x) v w e = let never : _≡_ {A = ℕ} 0 1 = cc in absurd (omega arith)
 
@@ -95,67 +83,3 @@ module _ {c : List ℕ} (k : Classes c) where
 
     pub row-in : rowOf c i < rowsOf c
     row-in = omega (arith, row-there (k .text) i in-text .in-row, held true .row i in-text, held true .rows)
-
--- what a round requires, for its parts
-module _ {c folds : List ℕ} {rows content : ℕ} {p : Spot} (w : Ready c folds rows content p) where
-  pub ready-at : (q : Spot) → Stands c q → q .at + 1 ≤ length c → Ready c folds rows content q
-  ready-at q s h =
-      record { classes = w .classes; good = w .good; all-rows = w .all-rows; content-rows = w .content-rows; stands = s; inside = h }
-
-  pub ready-row : (p .row < rows) × (0 < content) × (content ≤ rows)
-  ready-row =
-      let by-some-rows = some-rows (w .classes) in (
-        omega (arith, row-in (w .classes) folds (p .at) (w .inside), w .stands .row-is, w .all-rows),
-        omega (arith, by-some-rows .2, w .content-rows),
-        omega (arith, by-some-rows .1, w .content-rows, w .all-rows),
-      )
-
-  -- the closed fold at the spot's row
-  pub span-at : {r : Span} → r ≡ closedFoldAt folds rows content (p .row) → r ≡ foldAt c folds (p .at)
-  span-at e =
-      e ∙ ap (λ (x : ℕ). closedFoldAt folds x content (p .row)) (w .all-rows)
-      ∙ ap (λ (x : ℕ). closedFoldAt folds (rowsOf c) x (p .row)) (w .content-rows)
-      ∙ ap (closedFoldAt folds (rowsOf c) (contentOf c)) (w .stands .row-is)
-
-  pub span-rows : {r : Span} → r ≡ closedFoldAt folds rows content (p .row) → (a b : ℕ) → r ≡ Of a b → (a ≤ p .row) × (b < rowsOf c)
-  span-rows e a b q =
-      let by-ready-row = ready-row in (
-        fold-first folds rows content (p .row) a b (sym e ∙ q),
-        omega (arith, span-within folds rows content (p .row) a b (sym e ∙ q) (by-ready-row .0) (by-ready-row .1) (by-ready-row .2) .1, w .all-rows),
-      )
-
--- the end of a row that is not empty has a place before it
-pub last-there : {c : List ℕ} → Classes c → (r : ℕ) → r < rowsOf c → isEmpty c (endOf c r) ≡ false → 0 < endOf c r
-last-there {c} k r h e = go (endOf c r) refl
-  where
-    go : (n : ℕ) → endOf c r ≡ n → 0 < endOf c r
-    go zero z =
-        let is-end : isEnd c 0 ≡ true = rw z at (end-there c r h .1) in
-        let never : _≡_ {A = ℕ} 0 1 = cc (sym (first-empty k is-end) ∙ rw z at e) in absurd (omega arith)
-    go (suc n) z = omega arith
-
--- a motion from a row and a column
-module _ {c folds : List ℕ} {p : Position} (w : Asked c folds p) where
-  pub asked-ready : (rows content start : ℕ) → rows ≡ rowsOf c → content ≡ contentOf c → start ≡ startOf c (p .row) →
-      Ready c folds rows content (record { row = p .row; at = start + p .col })
-  asked-ready rows content start r n s =
-      record {
-        classes = w .classes;
-        good = rw r (w .good);
-        all-rows = r;
-        content-rows = n;
-        stands = record { within = omega (arith, s, w .inside); row-is = w .row-is ∙ ap (λ (x : ℕ). rowOf c (x + p .col)) (sym s) };
-        inside = omega (arith, s, w .inside);
-      }
-
--- a row begins at or before each of its places
-pub start-low : {c : List ℕ} → Classes c → (i : ℕ) → i + 1 ≤ length c → startOf c (rowOf c i) ≤ i
-start-low {c} k i h =
-    let by-held = held k true in
-    let low : i ≤ length (k .text) = omega (arith, by-held .long) in
-    let by-row-there = row-there (k .text) i low in
-    omega (arith, ap (startOf c) (by-held .row i low), start-place by-held _ (by-row-there .in-row), by-row-there .offset)
-
-pub position-is : (c : List ℕ) (row s j m : ℕ) → row ≡ rowOf c j → s ≡ startOf c row → j ≡ m → position row (j - s) ≡ positionOf c m
-position-is c row s j m e f g =
-    ap (λ (x : ℕ). position row (j - x)) f ∙ ap (λ (x : ℕ). position x (j - startOf c x)) e ∙ ap (positionOf c) g

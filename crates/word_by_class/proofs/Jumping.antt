@@ -1,17 +1,9 @@
 -- Out of a closed fold by the classes is out of it in the text. Assumes nothing.
-use mathlib.Core.Path.{_≡_, refl, ap, sym, _∙_}
-use mathlib.Core.List.{List}
-use mathlib.Core.Bool.{Bool, true, false, cond, _&&_}
-use Prim.Native.Nat.{ℕ, zero, suc, _+_, _-_, _≤_, _<_}
-use native.Mathlib.Numerals.{add-one}
-use native.Mathlib.Omega.{arith}
-use lib.Dec.{eqb}
-use lib.ListN.{length}
-use borrow.Author.Tests.{eq-eqb, eqb-true, eqb-false, le-ltb}
+use Rattle.lists.proofs.Kit.{_≡_, refl, ap, sym, _∙_, List, Bool, true, false, cond, _&&_, ℕ, zero, suc, _+_, _-_, _≤_, _<_, add-one, arith, length, eqb}
+use Rattle.lists.proofs.Kit.{eq-eqb, eqb-true, eqb-false, le-ltb}
 use Rattle.text.specs.Text.{rowCount, rowLen, contentRows, position}
 use Rattle.text.specs.Offsets
 use Rattle.text.specs.Offsets.{rowStart}
-use Rattle.text.specs.declared.Position.{Position}
 use Rattle.text.proofs.Rows.{start-zero}
 use Rattle.text.proofs.At.{at-start, at-end, at-le, at-col}
 use Rattle.text.proofs.Parts.{next-start}
@@ -55,8 +47,7 @@ module _ {t : List ℕ} {tell : ℕ → ℕ} {c : List ℕ} {big : Bool} (d : De
         sym (d .ends stop (at-le end-at)) ∙ sym (named-same (kind c big stop) 4) ∙ eq-eqb _ 3 (sym (d .kinds stop (at-le end-at)) ∙ kind-at-is)
 
     pub end-place : endOf c r ≡ stop
-    end-place =
-        sym (end-one c r stop (omega (arith, at-le end-at, d .long)) end-kind
+    end-place = sym (end-one c r stop (omega (arith, at-le end-at, d .long)) end-kind
         (sym (d .row stop (at-le end-at)) ∙ stands-row (at-stands end-at (rowStart t r) refl)))
 
     -- its last character
@@ -96,10 +87,8 @@ module _ {t : List ℕ} {tell : ℕ → ℕ} {c : List ℕ} {big : Bool} (d : De
   -- the jumps
   module _ (folds : List ℕ) (i : ℕ) (h : i ≤ length t) where
     same-fold : first.foldAt t folds (pos t i) ≡ foldAt c folds i
-    same-fold =
-        ap (λ (x : ℕ). closedFoldAt folds x (contentRows t) (Offsets.rowOf t i)) (d .rows)
-        ∙ ap (λ (x : ℕ). closedFoldAt folds (rowsOf c) x (Offsets.rowOf t i)) (d .content-rows)
-        ∙ ap (closedFoldAt folds (rowsOf c) (contentOf c)) (d .row i h)
+    same-fold = ap (λ (x : ℕ). closedFoldAt folds x (contentRows t) (Offsets.rowOf t i)) (d .rows)
+        ∙ ap (λ (x : ℕ). closedFoldAt folds (rowsOf c) x (Offsets.rowOf t i)) (d .content-rows) ∙ ap (closedFoldAt folds (rowsOf c) (contentOf c)) (d .row i h)
 
     rows-of : (a b : ℕ) → foldAt c folds i ≡ Of a b → (a < rowCount t) × (b < rowCount t)
     rows-of a b e =

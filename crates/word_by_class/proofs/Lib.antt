@@ -2,5 +2,7 @@
 pub mod Jumping
 pub mod Same
 pub mod Fits
+pub mod Asks
 pub mod Counts
 pub mod Bare
+pub mod Counting

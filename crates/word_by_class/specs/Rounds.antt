@@ -1,5 +1,5 @@
--- The word motions by the classes and the folds alone, round by round: the jump out of a closed fold, one word, and the rounds of a count.
--- Document 02, #113. Definitions only. Assumes nothing.
+-- The word motions by the classes and the folds alone, round by round: the jump out of a closed fold, one word, and the rounds of a count. Document 02,
+-- #113. Definitions only. Long, since the four motions share their jumps. Assumes nothing.
 use Prim.Native.Nat.{ℕ, zero, suc, _+_, _-_, _≤_, _<_, max}
 use mathlib.Core.Path.{_≡_}
 use mathlib.Core.List.{List}
@@ -13,13 +13,13 @@ use Rattle.folds.specs.declared.Span.the-variants.{Of, NoSpan}
 use Rattle.word_kinds.specs.declared.Spot.{Spot}
 use Rattle.word_rounds.specs.declared.Motion.{Motion}
 use Rattle.word_rounds.specs.declared.Motion.the-variants.{Fwd, Back, End, EndBack}
-use Rattle.word_places.specs.declared.Reach.{Reach}
-use Rattle.word_places.specs.declared.Reach.the-variants.{At, NoStep}
+use Rattle.word_places.specs.declared.Step.{Step}
+use Rattle.word_places.specs.declared.Step.the-variants.{To, Nowhere}
 use Rattle.word_hops.specs.Hops.{nextStart, prevStart, nextEnd, prevEnd, atEnd}
 use Rattle.word_class_rows.specs.Rows.{rowOf, rowsOf, contentOf, startOf, lastOf, Stands}
 use Rattle.word_class_laws.specs.Determines.{Classes}
-use Rattle.word_by_class.specs.declared.Turned.{Turned}
-use Rattle.word_by_class.specs.declared.Turned.the-variants.{On, Off}
+use Rattle.word_by_class.specs.declared.Turn.{Turn}
+use Rattle.word_by_class.specs.declared.Turn.the-variants.{On, Off}
 
 -- out of a closed fold: to the last character of its last row, or to the first place of its first row
 abbrev pub foldAt : List ℕ → List ℕ → ℕ → Span
@@ -40,26 +40,26 @@ abbrev pub jumpBack : List ℕ → List ℕ → ℕ → ℕ
 jumpBack c folds i = toFirst c i (foldAt c folds i)
 
 -- a word found, or no more rounds: the place where the jump went is kept
-abbrev pub turn : ℕ → Reach → Turned
-turn from (At j) = On j
-turn from NoStep = Off from
+abbrev pub turn : ℕ → Step → Turn
+turn from (To j) = On j
+turn from Nowhere = Off from
 
-abbrev pub endTurn : List ℕ → Bool → Bool → ℕ → Turned
+abbrev pub endTurn : List ℕ → Bool → Bool → ℕ → Turn
 endTurn c big stop from = cond (stop && atEnd c big from) (On from) (turn from (nextEnd c big from))
 
 -- one round of a motion
-unfoldable pub roundOf : List ℕ → List ℕ → Bool → Motion → Bool → ℕ → Turned
+unfoldable pub roundOf : List ℕ → List ℕ → Bool → Motion → Bool → ℕ → Turn
 roundOf c folds big Fwd stop i = turn (jumpFwd c folds i) (nextStart c big (jumpFwd c folds i))
 roundOf c folds big Back stop i = turn (jumpBack c folds i) (prevStart c big (jumpBack c folds i))
 roundOf c folds big End stop i = endTurn c big stop (jumpFwd c folds i)
 roundOf c folds big EndBack stop i = turn i (prevEnd c big i)
 
 -- n rounds, or fewer where one ends them
-abbrev pub after : Turned → (ℕ → ℕ) → ℕ
+abbrev pub after : Turn → (ℕ → ℕ) → ℕ
 after (On j) f = f j
 after (Off j) f = j
 
-unfoldable pub counted : (ℕ → Turned) → ℕ → ℕ → ℕ
+unfoldable pub counted : (ℕ → Turn) → ℕ → ℕ → ℕ
 counted round zero i = i
 counted round (suc n) i = after (round i) (counted round n)
 

@@ -7,7 +7,7 @@ mod rounds;
 pub use rounds::word_by_class;
 
 // Where a round ended: the next goes on from there, or it was the last.
-pub enum Turned {
+pub enum Turn {
     On(usize),
     Off(usize),
 }

@@ -1,6 +1,6 @@
 // The rounds of a word motion, and the motion from a row and a column to another. The examples are
 // of `if (n) {`, with the classes 0 0 2 1 0 1 2 1 4, small words and no folds.
-use crate::Turned;
+use crate::Turn;
 use crate::jumps::jump_back;
 use crate::jumps::jump_fwd;
 use fold_stretches::Stretch;
@@ -11,11 +11,11 @@ use word_class_rows::moved;
 use word_class_rows::row_end;
 use word_class_rows::row_start;
 use word_kinds::Spot;
-use word_places::Reach;
+use word_places::Step;
 use word_rounds::Motion;
 ghost use mathlib.Core.Path.{_≡_};
 ghost use mathlib.Core.Bool.{false};
-ghost use Prim.Native.Nat.{_+_, _-_, _≤_, _<_, max};
+ghost use Prim.Native.Nat.{_+_, _-_, _<_, max};
 ghost use lib.ListN.{length};
 ghost use Rattle.fold_stretches.specs.Stretches.{NoFold};
 ghost use Rattle.word_class_rows.specs.Rows.{rowsOf, startOf};
@@ -25,23 +25,23 @@ ghost use Rattle.word_by_class.specs.Rounds.{positionOf, Ready, Asked};
 
 // The round's answer: the word found, or the place from which none was found. From 0, with the word
 // at 3, it goes on from 3; from 8, with none, it ends at 8.
-fn turned(from: usize, found: Reach) -> Turned
+fn turned(from: usize, found: Step) -> Turn
     ensures { λ r. ⌜ r ≡ turn from found ⌝ }
 {
     match found {
-        Reach::At(j) => Turned::On(j),
-        Reach::NoStep => Turned::Off(from),
+        Step::To(j) => Turn::On(j),
+        Step::Nowhere => Turn::Off(from),
     }
 }
 
 // A round of `e`; `stop` holds it at the end of a word: from 1 to 3, and with `stop` from 1 to 1.
-fn end_round(c: &[u8], big: bool, stop: bool, from: usize) -> Turned
+fn end_round(c: &[u8], big: bool, stop: bool, from: usize) -> Turn
     requires { ⌜ from < length (now c) ⌝ }
     ensures { λ r. ⌜ r ≡ endTurn (now (c .entry)) big stop from ⌝ }
 {
     if stop {
         if word_hops::at_end(c, big, from) {
-            return Turned::On(from);
+            return Turn::On(from);
         }
         return turned(from, word_hops::next_end(c, big, from));
     }
@@ -59,7 +59,7 @@ fn round(
     big: bool,
     stop: bool,
     p: Spot,
-) -> Turned
+) -> Turn
     requires { ⌜ Ready (now c) (now folds) rows content p ⌝ }
     ensures { λ r. ⌜ r ≡ roundOf (now (c .entry)) (now (folds .entry)) big m stop (p .at) ⌝ }
 {
@@ -88,7 +88,7 @@ fn round_near(
     big: bool,
     w: Stretch,
     p: Spot,
-) -> Turned
+) -> Turn
     requires { ⌜ Ready (now c) (now folds) rows content p × NoFold (now folds) w ⌝ }
     ensures { λ r. ⌜ r ≡ roundOf (now (c .entry)) (now (folds .entry)) big m false (p .at) ⌝ }
 {
@@ -100,8 +100,8 @@ fn round_near(
 }
 
 // The rounds after the first, up to a count: two of `w` from 0 to 4. One that changes nothing ends
-// them, and so does one that finds no word: nine of `w` from 0 end at 8. The folds are asked where a
-// round leaves a stretch of rows without closed folds, and not at every round.
+// them, and so does one that finds no word: nine of `w` from 0 end at 8. The folds are asked where
+// a round leaves a stretch of rows without closed folds, and not at every round.
 fn rounds(
     c: &[u8],
     folds: &[u32],
@@ -122,14 +122,14 @@ fn rounds(
     while left > 0 {
         w = fold_stretches::near(folds, rows, w, cur.row);
         match round_near(c, folds, rows, content, m, big, w, cur) {
-            Turned::On(j) => {
+            Turn::On(j) => {
                 if j == cur.at {
                     return j;
                 }
                 cur = moved(c, cur, j);
                 left -= 1;
             }
-            Turned::Off(j) => {
+            Turn::Off(j) => {
                 return j;
             }
         }
@@ -165,8 +165,8 @@ fn motion(
         (p .at) ⌝ }
 {
     match round(c, folds, rows, content, m, big, stop, p) {
-        Turned::On(j) => rounds(c, folds, rows, content, m, big, rest(count), moved(c, p, j)),
-        Turned::Off(j) => j,
+        Turn::On(j) => rounds(c, folds, rows, content, m, big, rest(count), moved(c, p, j)),
+        Turn::Off(j) => j,
     }
 }
 

@@ -1,29 +1,18 @@
 -- One word back by the classes is one in the text: `b` and `ge`, and where `e` with `stop` stays. Assumes nothing.
-use mathlib.Core.Path.{_≡_, refl, ap, sym, _∙_}
-use mathlib.Core.List.{List}
-use mathlib.Core.Bool.{Bool, true, false, cond, _&&_, not}
-use Prim.Native.Nat.{ℕ, zero, suc, _+_, _-_, _≤_, _<_}
-use native.Mathlib.Omega.{arith}
-use native.Mathlib.Decide.{ℕ-discrete}
-use lib.Dec.{eqb}
-use lib.ListN.{length}
-use borrow.Author.Tests.{eq-eqb}
-use Rattle.text.specs.declared.Position.{Position}
+use Rattle.lists.proofs.Kit.{_≡_, refl, ap, sym, _∙_, List, Bool, true, false, cond, _&&_, not, ℕ, zero, suc, _+_, _≤_, _<_, ℕ-discrete, arith, length, eqb}
+use Rattle.lists.proofs.Kit.{eq-eqb}
 use Rattle.text.specs.Text.{position}
 use Rattle.word_kinds.specs.Places
-use Rattle.word_kinds.specs.Places.{Went, To, Nowhere}
 use Rattle.word_loops.specs.Walks as first
-use Rattle.word_loops.specs.Walks.{Halt, Onto, Stuck}
 use Rattle.word_edges.specs.Words
-use Rattle.word_places.specs.Places.{isEnd, isEmpty, kind, soft, backward, further}
+use Rattle.word_places.specs.Places.{isEnd, isEmpty, kind, soft}
 use Rattle.word_places.specs.Walks.{back}
-use Rattle.word_places.specs.declared.Reach.{Reach}
-use Rattle.word_places.specs.declared.Reach.the-variants.{At, NoStep}
-use Rattle.word_places.specs.declared.Halted.{Halted}
-use Rattle.word_places.specs.declared.Halted.the-variants.{Done, Stood}
+use Rattle.word_places.specs.declared.Step.the-variants.{To}
+use Rattle.word_places.specs.declared.Halt.{Halt}
+use Rattle.word_places.specs.declared.Halt.the-variants.{Onto, Stuck}
 use Rattle.word_hops.specs.Hops
 use Rattle.word_hops.proofs.Hopping.{back-below, Below}
-use Rattle.word_class_laws.specs.Determines.{Determines, pos, named, went}
+use Rattle.word_class_laws.specs.Determines.{Determines, pos, named}
 use Rattle.word_class_laws.proofs.Points.{named-same}
 use Rattle.word_class_laws.proofs.Walks.{Halts}
 use Rattle.word_class_laws.proofs.Runs.{Inside, class-of, before-end, back-same, clash}
@@ -42,19 +31,16 @@ module _ {t : List ℕ} {tell : ℕ → ℕ} {c : List ℕ} {big : Bool} (d : De
       go false w = refl
 
   -- the front of a run
-  front-same : (q : ℕ) → q ≤ length t → isEnd c q ≡ false → isEmpty c q ≡ false →
-      Meets t (At (Hops.runStart c big q)) (Words.frontHere t tell (pos t q))
-  front-same q h e n =
-      rw (class-of d q h)
-      (go (back c big (soft c big q) q) (first.back t tell (named (soft c big q)) (pos t q))
+  front-same : (q : ℕ) → q ≤ length t → isEnd c q ≡ false → isEmpty c q ≡ false → Meets t (To (Hops.runStart c big q)) (Words.frontHere t tell (pos t q))
+  front-same q h e n = rw (class-of d q h) (go (back c big (soft c big q) q) (first.back t tell (named (soft c big q)) (pos t q))
       (back-same d (soft c big q) q h) (back-below (over (soft c big q)) (q + 1) q))
     where
       held : over (soft c big q) q ≡ true
       held = rw (eq-eqb (soft c big q) (soft c big q) refl, n)
 
-      go : (a : Halted) (b : Halt) → Halts t (Inside d) (over (soft c big q)) a b → Below q a → Meets t (At (Hops.behind a)) (Words.frontOf t b)
-      go (Stood j) b w l = (ap (Words.frontOf t) (w .0), w .1)
-      go (Done j) b w l =
+      go : (a : Halt) (b : first.Halt) → Halts t (Inside d) (over (soft c big q)) a b → Below q a → Meets t (To (Hops.behind a)) (Words.frontOf t b)
+      go (Stuck j) b w l = (ap (Words.frontOf t) (w .0), w .1)
+      go (Onto j) b w l =
           let by-before-end = before-end d q h e in
           let less : j < q = apart (ℕ-discrete j q) in
           (ap (Words.frontOf t) (w .0) ∙ rw (d .next j (omega arith)), omega arith)
@@ -68,9 +54,9 @@ module _ {t : List ℕ} {tell : ℕ → ℕ} {c : List ℕ} {big : Bool} (d : De
   unfolding named
   start-from i h = go (back c big 2 i) (first.back t tell 0 (pos t i)) (back-same d 2 i h)
     where
-      go : (a : Halted) (b : Halt) → Halts t (Inside d) (over 2) a b → Meets t (Hops.startFrom c big a) (Words.frontFrom t tell b)
-      go (Stood j) b w = (ap (Words.frontFrom t tell) (w .0), w .1)
-      go (Done j) b w = rw (w .0, d .empties j (w .1)) (by (isEmpty c j) refl)
+      go : (a : Halt) (b : first.Halt) → Halts t (Inside d) (over 2) a b → Meets t (Hops.startFrom c big a) (Words.frontFrom t tell b)
+      go (Stuck j) b w = (ap (Words.frontFrom t tell) (w .0), w .1)
+      go (Onto j) b w = rw (w .0, d .empties j (w .1)) (by (isEmpty c j) refl)
         where
           char : isEmpty c j ≡ false → isEnd c j ≡ false
           char n = no-space j (w .1) (pick (eqb (soft c big j) 2) (rw n at (w .2)))
@@ -79,7 +65,8 @@ module _ {t : List ℕ} {tell : ℕ → ℕ} {c : List ℕ} {big : Bool} (d : De
               pick true e = e
               pick false e = refl
 
-          by : (b : Bool) → isEmpty c j ≡ b → Meets t (cond b (At j) (At (Hops.runStart c big j))) (cond b (To (pos t j)) (Words.frontHere t tell (pos t j)))
+          by : (b : Bool) → isEmpty c j ≡ b →
+              Meets t (cond b (To j) (To (Hops.runStart c big j))) (cond b (Places.To (pos t j)) (Words.frontHere t tell (pos t j)))
           by true n = (refl, w .1)
           by false n = front-same j (w .1) (char n) n
 
@@ -93,16 +80,16 @@ module _ {t : List ℕ} {tell : ℕ → ℕ} {c : List ℕ} {big : Bool} (d : De
   unfolding named
   space-back i h = go (back c big 2 i) (first.back t tell 0 (pos t i)) (back-same d 2 i h)
     where
-      go : (a : Halted) (b : Halt) → Halts t (Inside d) (over 2) a b → Meets t (Hops.landed a) (Words.halted b)
-      go (Done j) b w = (ap Words.halted (w .0), w .1)
-      go (Stood j) b w = (ap Words.halted (w .0), w .1)
+      go : (a : Halt) (b : first.Halt) → Halts t (Inside d) (over 2) a b → Meets t (Hops.landed a) (Words.halted b)
+      go (Onto j) b w = (ap Words.halted (w .0), w .1)
+      go (Stuck j) b w = (ap Words.halted (w .0), w .1)
 
   run-back : (k i : ℕ) → i ≤ length t → Meets t (Hops.backFrom c big (back c big k i)) (Words.endFrom t tell (first.back t tell (named k) (pos t i)))
   run-back k i h = go (back c big k i) (first.back t tell (named k) (pos t i)) (back-same d k i h)
     where
-      go : (a : Halted) (b : Halt) → Halts t (Inside d) (over k) a b → Meets t (Hops.backFrom c big a) (Words.endFrom t tell b)
-      go (Done j) b w = rw (w .0) (space-back j (w .1))
-      go (Stood j) b w = (ap (Words.endFrom t tell) (w .0), w .1)
+      go : (a : Halt) (b : first.Halt) → Halts t (Inside d) (over k) a b → Meets t (Hops.backFrom c big a) (Words.endFrom t tell b)
+      go (Onto j) b w = rw (w .0) (space-back j (w .1))
+      go (Stuck j) b w = (ap (Words.endFrom t tell) (w .0), w .1)
 
   space-test : (i : ℕ) → i ≤ length t → eqb (Places.cls t tell (pos t i)) 0 ≡ eqb (soft c big i) 2
   unfolding named

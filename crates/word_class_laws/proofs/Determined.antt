@@ -1,32 +1,18 @@
 -- The classes of a text determine each step: `Determines` holds of them. Each field by what stands at the place: the text's end, a separator or a character.
 -- Assumes nothing.
-use mathlib.Core.Path.{_≡_, refl, ap, sym, _∙_}
-use mathlib.Core.List.{List}
-use mathlib.Core.Bool.{Bool, true, false, cond, _&&_, not}
-use Prim.Native.Nat.{ℕ, zero, suc, _+_, _-_, _≤_, _<_}
-use native.Mathlib.Decide.{decLt, ℕ-discrete}
-use native.Mathlib.Omega.{arith}
-use lib.Dec.{eqb, ltb, leb}
-use lib.ListN.{length, getD}
-use borrow.Author.Tests.{eq-eqb, ne-eqb, lt-ltb, le-ltb, eqb-true, eqb-false}
+use Rattle.lists.proofs.Kit.{_≡_, refl, ap, sym, _∙_, List, Bool, true, false, ℕ, zero, suc, _+_, _-_, _≤_, _<_, decLt, ℕ-discrete, arith, length, getD, eqb}
+use Rattle.lists.proofs.Kit.{leb, eq-eqb, ne-eqb, eqb-true}
 use Rattle.text.specs.Offsets
 use Rattle.word_kinds.specs.declared.Spot.{Spot}
-use Rattle.word_kinds.specs.Spots.{placeOf, IsSpot, Ends}
 use Rattle.word_kinds.specs.Places
-use Rattle.word_kinds.specs.Places.{Went, To, Nowhere}
-use Rattle.word_kinds.proofs.Ahead.{end-kind, nl-kind, char-kind, end-forward, nl-forward, last-forward, row-forward, char-forward}
-use Rattle.word_kinds.proofs.Ahead.{char-spot, char-inc, nl-inc, end-empty, empty-row}
-use Rattle.word_kinds.proofs.Onto.{next-yes, next-no}
-use Rattle.word_kinds.proofs.Back.{back-none, back-row, back-char, starts-first, starts-by}
+use Rattle.word_kinds.proofs.Ahead.{end-kind, nl-kind, char-kind, end-empty, empty-row}
+use Rattle.word_kinds.proofs.Back.{starts-first, starts-by}
 use Rattle.word_classes.specs.Classes.{endClass, classOf, classesOf}
 use Rattle.word_classes.specs.Classes
 use Rattle.word_classes.proofs.Writing.{classes-length}
-use Rattle.word_places.specs.Places.{classAt, isEnd, isEmpty, kindFor, kind, textEnd, forward, backward}
-use Rattle.word_places.specs.declared.Reach.{Reach}
-use Rattle.word_places.specs.declared.Reach.the-variants.{At, NoStep}
-use Rattle.word_places.proofs.Walking.{forward-none, forward-over, forward-next}
-use Rattle.word_class_laws.specs.Determines.{pos, named, went}
-use Rattle.word_class_laws.proofs.Points.{fresh, class-there, class-last, end-says, char-says, spot-of, spot-pos}
+use Rattle.word_places.specs.Places.{classAt, isEnd, isEmpty, kindFor, kind}
+use Rattle.word_class_laws.specs.Determines.{pos, named}
+use Rattle.word_class_laws.proofs.Points.{fresh, class-there, class-last, end-says, char-says, spot-of}
 
 module _ (word : ℕ → Bool) (t : List ℕ) where
   -- a place is the text's end, a separator or a character
@@ -78,13 +64,11 @@ module _ (word : ℕ → Bool) (t : List ℕ) where
     -- the kind
     kind-of : Stand i → Places.kindAt t (Places.kindOf word big) (pos t i) ≡ named (kind c big i)
     unfolding named spot
-    kind-of (atLast l) =
-        sym (end-kind t spot (spot-of t i h) l (Places.kindOf word big))
+    kind-of (atLast l) = sym (end-kind t spot (spot-of t i h) l (Places.kindOf word big))
         ∙ sym (ap named (ap (kindFor big) (last-class i (omega arith)) ∙ end-says word big _ .0))
     kind-of (atBreak l e) =
         sym (nl-kind t spot (spot-of t i h) l e (Places.kindOf word big)) ∙ sym (ap named (ap (kindFor big) (break-class i l e) ∙ end-says word big _ .0))
-    kind-of (atChar l n) =
-        sym (char-kind t spot (spot-of t i h) l n (Places.kindOf word big)) ∙ char-says word big _ .0
+    kind-of (atChar l n) = sym (char-kind t spot (spot-of t i h) l n (Places.kindOf word big)) ∙ char-says word big _ .0
         ∙ ap (λ (x : ℕ). named (kindFor big x)) (sym (char-class i l n))
 
     pub kinds : Places.kindAt t (Places.kindOf word big) (pos t i) ≡ named (kind c big i)
@@ -116,14 +100,11 @@ module _ (word : ℕ → Bool) (t : List ℕ) where
     empty-by false e (atLast l) = rw (sym (first-col i h) ∙ e) (sym (ap (λ (x : ℕ). eqb x 3) (last-class i (omega arith)) ∙ end-says word true _ .2 ∙ e))
     empty-by false e (atBreak l q) = rw (sym (first-col i h) ∙ e) (sym (ap (λ (x : ℕ). eqb x 3) (break-class i l q) ∙ end-says word true _ .2 ∙ e))
     empty-by false e (atChar l n) = rw (sym (first-col i h) ∙ e) (sym (ap (λ (x : ℕ). eqb x 3) (char-class i l n) ∙ char-says word true _ .2))
-    empty-by true e (atLast l) =
-        sym (end-empty t here (spot-of t i h) l (eqb-true _ 0 (sym (first-col i h) ∙ e))) ∙
+    empty-by true e (atLast l) = sym (end-empty t here (spot-of t i h) l (eqb-true _ 0 (sym (first-col i h) ∙ e))) ∙
         sym (ap (λ (x : ℕ). eqb x 3) (last-class i (omega arith)) ∙ end-says word true _ .2 ∙ e)
-    empty-by true e (atBreak l q) =
-        sym (empty-row t here (spot-of t i h) true (eqb-true _ 0 (sym (first-col i h) ∙ e)) l (eq-eqb _ 10 q)) ∙
+    empty-by true e (atBreak l q) = sym (empty-row t here (spot-of t i h) true (eqb-true _ 0 (sym (first-col i h) ∙ e)) l (eq-eqb _ 10 q)) ∙
         sym (ap (λ (x : ℕ). eqb x 3) (break-class i l q) ∙ end-says word true _ .2 ∙ e)
-    empty-by true e (atChar l n) =
-        sym (empty-row t here (spot-of t i h) false (eqb-true _ 0 (sym (first-col i h) ∙ e)) l (ne-eqb _ 10 n)) ∙
+    empty-by true e (atChar l n) = sym (empty-row t here (spot-of t i h) false (eqb-true _ 0 (sym (first-col i h) ∙ e)) l (ne-eqb _ 10 n)) ∙
         sym (ap (λ (x : ℕ). eqb x 3) (char-class i l n) ∙ char-says word true _ .2)
 
     pub empties : Places.onEmptyRow t (pos t i) ≡ isEmpty c i

@@ -1,13 +1,6 @@
 -- The one law: the classes of a text determine each step. The rows of places, and all fields together. Assumes nothing.
-use mathlib.Core.Path.{_≡_, refl, ap, sym, _∙_}
-use mathlib.Core.List.{List, [], _∷_}
-use mathlib.Core.Bool.{Bool, true, false, cond, _&&_}
-use Prim.Native.Nat.{ℕ, zero, suc, _+_, _-_, _≤_, _<_}
-use native.Mathlib.Decide.{decLt, ℕ-discrete}
-use native.Mathlib.Omega.{arith}
-use lib.Dec.{eqb, ltb, leb}
-use lib.ListN.{length, getD}
-use borrow.Author.Tests.{eq-eqb, ne-eqb, lt-ltb, le-ltb}
+use Rattle.lists.proofs.Kit.{_≡_, refl, ap, _∙_, List, [], _∷_, Bool, true, false, cond, ℕ, zero, suc, _+_, _-_, _≤_, _<_, decLt, ℕ-discrete, arith, length}
+use Rattle.lists.proofs.Kit.{getD, eqb, leb, eq-eqb, ne-eqb, lt-ltb, le-ltb}
 use Rattle.text.specs.Text.{rowCount, contentRows}
 use Rattle.text.specs.Offsets
 use Rattle.text.proofs.Rows.{rows-pos}
@@ -15,7 +8,7 @@ use Rattle.text.proofs.Stands.{last-stands, stands-row}
 use Rattle.text.proofs.Content.{content-void, content-nl, content-char}
 use Rattle.word_kinds.specs.Places
 use Rattle.word_classes.specs.Classes.{endClass, charClass, classOf, classesFrom, classesOf}
-use Rattle.word_places.specs.Places.{isEnd, textEnd}
+use Rattle.word_places.specs.Places.{textEnd}
 use Rattle.word_hops.specs.Hops.{lastEmpty}
 use Rattle.word_class_rows.specs.Rows.{rowOf, rowsOf, contentOf}
 use Rattle.word_class_rows.proofs.Counting.{row-end-next}

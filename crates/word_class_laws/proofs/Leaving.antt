@@ -1,23 +1,16 @@
 -- Out of a run: from its last place one step on, where the first engine's loop ends. Assumes nothing.
-use mathlib.Core.Path.{_≡_, refl, sym, _∙_}
-use mathlib.Core.List.{List}
-use mathlib.Core.Bool.{Bool, true, false, cond, _&&_}
-use Prim.Native.Nat.{ℕ, zero, suc, _+_, _-_, _≤_, _<_}
-use native.Mathlib.Omega.{arith}
-use lib.Dec.{eqb}
-use lib.ListN.{length}
-use borrow.Author.Tests.{eq-eqb, ne-eqb, lt-ltb}
+use Rattle.lists.proofs.Kit.{_≡_, refl, sym, _∙_, List, Bool, true, false, cond, _&&_, ℕ, zero, suc, _+_, _-_, _≤_, _<_, arith, length, eqb, eq-eqb, ne-eqb}
+use Rattle.lists.proofs.Kit.{lt-ltb}
 use Rattle.text.specs.declared.Position.{Position}
 use Rattle.text.specs.Offsets
 use Rattle.word_kinds.specs.Places
 use Rattle.word_loops.specs.Walks as first
-use Rattle.word_loops.specs.Walks.{Halt, Onto, Stuck}
 use Rattle.word_loops.proofs.Counters.{loop-turn, forward-way}
 use Rattle.word_places.specs.Places.{isEnd, kind, textEnd, forward, further}
 use Rattle.word_places.specs.Walks.{walk, runs, place}
-use Rattle.word_places.specs.declared.Reach.{Reach}
-use Rattle.word_places.specs.declared.Reach.the-variants.{At, NoStep}
-use Rattle.word_places.specs.declared.Halted.the-variants.{Done}
+use Rattle.word_places.specs.declared.Step.{Step}
+use Rattle.word_places.specs.declared.Step.the-variants.{To, Nowhere}
+use Rattle.word_places.specs.declared.Halt.the-variants.{Onto}
 use Rattle.word_places.proofs.Walking.{forward-on}
 use Rattle.word_class_rows.specs.Rows.{rowOf}
 use Rattle.word_class_laws.specs.Determines.{Determines, pos, named, went}
@@ -28,23 +21,23 @@ use Rattle.word_class_laws.proofs.Running.{on-run, run-steps}
 module _ {t : List ℕ} {tell : ℕ → ℕ} {c : List ℕ} {big : Bool} (d : Determines t tell c big) (k : ℕ) (real : eqb k 4 ≡ false) where
   -- out of a run: from its last place one step on
   module _ (from : ℕ) where
-    abbrev leaving : ℕ → Halt
-    leaving e = further (forward c e) (λ q. Onto (pos t q)) (Stuck (pos t e))
+    abbrev leaving : ℕ → first.Halt
+    leaving e = further (forward c e) (λ q. first.Onto (pos t q)) (first.Stuck (pos t e))
 
     abbrev stays : Position → Bool
     stays q = eqb (Places.kindAt t tell q) (named k) && eqb (q .row) (Offsets.rowOf t from)
 
-    abbrev whole : Position → Halt
+    abbrev whole : Position → first.Halt
     whole q = first.walk stays (Places.stepForward t) (length t + 1) q
 
     turn : (j : ℕ) → j ≤ length t →
-        whole (pos t j) ≡ cond (stays (pos t j)) (Places.further (Places.stepForward t (pos t j)) whole (Stuck (pos t j))) (Onto (pos t j))
+        whole (pos t j) ≡ cond (stays (pos t j)) (Places.further (Places.stepForward t (pos t j)) whole (first.Stuck (pos t j))) (first.Onto (pos t j))
     turn j h = loop-turn (forward-way t) stays (pos t j) (pos-in t j h)
 
-    out : (j : ℕ) → InRun d k real j → Offsets.rowOf t j ≡ Offsets.rowOf t from → runs c big k j ≡ false → (r : Reach) → forward c j ≡ r →
-        Places.further (went t r) whole (Stuck (pos t j)) ≡ further r (λ q. Onto (pos t q)) (Stuck (pos t j))
-    out j o w e NoStep s = refl
-    out j o w e (At q) s = turn q low ∙ rw (fails (isEnd c (j + 1)) refl)
+    out : (j : ℕ) → InRun d k real j → Offsets.rowOf t j ≡ Offsets.rowOf t from → runs c big k j ≡ false → (r : Step) → forward c j ≡ r →
+        Places.further (went t r) whole (first.Stuck (pos t j)) ≡ further r (λ q. first.Onto (pos t q)) (first.Stuck (pos t j))
+    out j o w e Nowhere s = refl
+    out j o w e (To q) s = turn q low ∙ rw (fails (isEnd c (j + 1)) refl)
       where
         low : q ≤ length t
         low = let by-forward-on = forward-on c j q s in omega (arith, by-forward-on .1, end-is d)
@@ -65,26 +58,23 @@ module _ {t : List ℕ} {tell : ℕ → ℕ} {c : List ℕ} {big : Bool} (d : De
             rw (kind-test d q low k, same, e2)
 
     leave-from : (n j : ℕ) → InRun d k real j → Offsets.rowOf t j ≡ Offsets.rowOf t from → length t - j < n →
-        whole (pos t j) ≡ leaving (place (walk (runs c big k) (λ i. At (i + 1)) n j))
+        whole (pos t j) ≡ leaving (place (walk (runs c big k) (λ i. To (i + 1)) n j))
     unfolding walk
     leave-from zero j o w h = absurd (omega arith)
-    leave-from (suc n) j o w h =
-        turn j (o .inside) ∙ rw (kind-test d j (o .inside) k, eq-eqb _ _ (o .is-kind), eq-eqb _ _ w)
+    leave-from (suc n) j o w h = turn j (o .inside) ∙ rw (kind-test d j (o .inside) k, eq-eqb _ _ (o .is-kind), eq-eqb _ _ w)
         (by (runs c big k j) refl (λ p v l. leave-from n (j + 1) p v l))
       where
-        by : (b : Bool) → runs c big k j ≡ b →
-            (InRun d k real (j + 1) → Offsets.rowOf t (j + 1) ≡ Offsets.rowOf t from → length t - (j + 1) < n →
-            whole (pos t (j + 1)) ≡ leaving (place (walk (runs c big k) (λ i. At (i + 1)) n (j + 1)))) →
-            Places.further (Places.stepForward t (pos t j)) whole (Stuck (pos t j)) ≡
-            leaving (place (cond b (walk (runs c big k) (λ i. At (i + 1)) n (j + 1)) (Done j)))
+        by : (b : Bool) → runs c big k j ≡ b → (InRun d k real (j + 1) → Offsets.rowOf t (j + 1) ≡ Offsets.rowOf t from → length t - (j + 1) < n →
+            whole (pos t (j + 1)) ≡ leaving (place (walk (runs c big k) (λ i. To (i + 1)) n (j + 1)))) →
+            Places.further (Places.stepForward t (pos t j)) whole (first.Stuck (pos t j)) ≡
+            leaving (place (cond b (walk (runs c big k) (λ i. To (i + 1)) n (j + 1)) (Onto j)))
         by true e ih =
             let by-on-run = on-run d k real j o e in
             let by-before-end = before-end d j (o .inside) (run-char d k real j o) in
             rw (run-steps d k real j o e .0) (ih by-on-run (same-row d k real j (o .inside) (run-char d k real j o) ∙ w) (omega arith))
         by false e ih = rw (d .on j (o .inside)) (out j o w e (forward c j) refl)
 
-  pub leave-same : (i : ℕ) → InRun d k real i →
-      first.leave t tell (named k) (pos t i) ≡
-      further (forward c (place (walk (runs c big k) (λ j. At (j + 1)) (length c + 1) i))) (λ q. Onto (pos t q))
-      (Stuck (pos t (place (walk (runs c big k) (λ j. At (j + 1)) (length c + 1) i))))
+  pub leave-same : (i : ℕ) → InRun d k real i → first.leave t tell (named k) (pos t i) ≡
+      further (forward c (place (walk (runs c big k) (λ j. To (j + 1)) (length c + 1) i))) (λ q. first.Onto (pos t q))
+      (first.Stuck (pos t (place (walk (runs c big k) (λ j. To (j + 1)) (length c + 1) i))))
   leave-same i o = leave-from i (length c + 1) i o refl (omega (arith, d .long))

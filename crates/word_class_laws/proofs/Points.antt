@@ -1,22 +1,15 @@
 -- The class of each place of a text by its code points, and the position of a place. Assumes nothing.
-use mathlib.Core.Path.{_≡_, refl, ap, sym, _∙_}
-use mathlib.Core.List.{List, [], _∷_}
-use mathlib.Core.Bool.{Bool, true, false, cond, _||_}
-use Prim.Native.Nat.{ℕ, zero, suc, _+_, _-_, _≤_, _<_}
-use native.Mathlib.Decide.{ℕ-discrete}
-use native.Mathlib.Omega.{arith}
-use lib.Dec.{eqb, leb}
-use lib.ListN.{length, getD}
-use borrow.Author.Tests.{eq-eqb, ne-eqb}
+use Rattle.lists.proofs.Kit.{_≡_, refl, ap, sym, _∙_, List, [], _∷_, Bool, true, false, cond, _||_, ℕ, zero, suc, _-_, _≤_, _<_, ℕ-discrete, arith, length}
+use Rattle.lists.proofs.Kit.{getD, eqb, leb, eq-eqb, ne-eqb}
 use Rattle.chars.specs.White.{isWhite}
-use Rattle.text.specs.Text.{rowCount, rowLen, position}
+use Rattle.text.specs.Text.{position}
 use Rattle.text.specs.Offsets
 use Rattle.text.proofs.Stands.{row-there, at-stands, stands-row}
 use Rattle.word_kinds.specs.declared.Spot.{Spot}
 use Rattle.word_kinds.specs.Spots.{placeOf, IsSpot}
 use Rattle.word_kinds.specs.Places
-use Rattle.word_classes.specs.Classes.{charClass, endClass, classOf, classesFrom, classesOf}
-use Rattle.word_places.specs.Places.{classAt, isEnd, isEmpty, kindFor}
+use Rattle.word_classes.specs.Classes.{charClass, endClass, classOf, classesFrom}
+use Rattle.word_places.specs.Places.{kindFor}
 use Rattle.word_class_laws.specs.Determines.{pos, named}
 
 -- whether a place is the first of its row
@@ -25,8 +18,7 @@ fresh first t zero = first
 fresh first t (suc i) = eqb (getD t i 0) 10
 
 module _ (word : ℕ → Bool) where
-  pub class-there : (first : Bool) (t : List ℕ) (i : ℕ) → i < length t →
-      getD (classesFrom word first t) i 4 ≡ classOf word (fresh first t i) (getD t i 0)
+  pub class-there : (first : Bool) (t : List ℕ) (i : ℕ) → i < length t → getD (classesFrom word first t) i 4 ≡ classOf word (fresh first t i) (getD t i 0)
   unfolding classesFrom fresh
   class-there first [] i h = absurd (omega arith)
   class-there first (x ∷ t) zero h = refl
@@ -58,8 +50,7 @@ module _ (word : ℕ → Bool) (big : Bool) where
   unfolding charClass kindFor named Places.kindOf
   char-says x = go (isWhite x) (word x) big
     where
-      go : (a b d : Bool) →
-          (cond a 0 (cond (d || b) 1 2) ≡ named (kindFor d (cond a 2 (cond b 0 1)))) × (leb 3 (cond a 2 (cond b 0 1)) ≡ false)
+      go : (a b d : Bool) → (cond a 0 (cond (d || b) 1 2) ≡ named (kindFor d (cond a 2 (cond b 0 1)))) × (leb 3 (cond a 2 (cond b 0 1)) ≡ false)
           × (eqb (cond a 2 (cond b 0 1)) 3 ≡ false) × (eqb (kindFor d (cond a 2 (cond b 0 1))) 4 ≡ false)
       go true b true = (refl, refl, refl, refl)
       go true b false = (refl, refl, refl, refl)

@@ -1,21 +1,15 @@
 -- To the end of a run by the classes, and in the text. Assumes nothing.
-use mathlib.Core.Path.{_≡_, refl, ap, sym, _∙_}
-use mathlib.Core.List.{List}
-use mathlib.Core.Bool.{Bool, true, false, _&&_}
-use Prim.Native.Nat.{ℕ, _+_, _-_, _<_}
-use native.Mathlib.Omega.{arith}
-use lib.Dec.{eqb}
-use lib.ListN.{length}
-use borrow.Author.Tests.{eq-eqb, ne-eqb, eqb-true, eqb-false, lt-ltb}
+use Rattle.lists.proofs.Kit.{_≡_, refl, ap, sym, _∙_, List, Bool, true, false, _&&_, ℕ, _+_, _-_, _<_, arith, length, eqb, eq-eqb, ne-eqb, eqb-true, eqb-false}
+use Rattle.lists.proofs.Kit.{lt-ltb}
 use Rattle.text.specs.declared.Position.{Position}
 use Rattle.text.specs.Offsets
 use Rattle.word_kinds.specs.Places
 use Rattle.word_loops.specs.Walks as first
 use Rattle.word_loops.proofs.Counters.{forward-way}
 use Rattle.word_places.specs.Places.{isEnd, kind, textEnd, forward, further}
-use Rattle.word_places.specs.Walks.{walk, runs, place}
-use Rattle.word_places.specs.declared.Reach.{Reach}
-use Rattle.word_places.specs.declared.Reach.the-variants.{At, NoStep}
+use Rattle.word_places.specs.Walks.{walk, runs}
+use Rattle.word_places.specs.declared.Step.{Step}
+use Rattle.word_places.specs.declared.Step.the-variants.{To, Nowhere}
 use Rattle.word_class_rows.specs.Rows.{rowOf}
 use Rattle.word_class_laws.specs.Determines.{Determines, pos, named, went}
 use Rattle.word_class_laws.proofs.Walks.{Halts, Steps, walks}
@@ -36,10 +30,9 @@ module _ {t : List ℕ} {tell : ℕ → ℕ} {c : List ℕ} {big : Bool} (d : De
       off : (q : Position) → eqb (q .row) (Offsets.rowOf t j) ≡ false → beyond j q ≡ false
       off q e = rw e
 
-      over-end : (r : Reach) → forward c j ≡ r → isEnd c (j + 1) ≡ true → Places.further (went t r) (beyond j) false ≡ false
-      over-end NoStep w f = refl
-      over-end (At q) w f =
-          off (pos t q) (ne-eqb (Offsets.rowOf t q) (Offsets.rowOf t j)
+      over-end : (r : Step) → forward c j ≡ r → isEnd c (j + 1) ≡ true → Places.further (went t r) (beyond j) false ≡ false
+      over-end Nowhere w f = refl
+      over-end (To q) w f = off (pos t q) (ne-eqb (Offsets.rowOf t q) (Offsets.rowOf t j)
           (λ e. let by-next-row = next-row d k real j q (o .inside) (run-char d k real j o) f w in omega (arith, e, by-next-row)))
 
       stops : isEnd c (j + 1) ≡ true → runs c big k j ≡ false
@@ -49,13 +42,12 @@ module _ {t : List ℕ} {tell : ℕ → ℕ} {c : List ℕ} {big : Bool} (d : De
 
       go : (b : Bool) → isEnd c (j + 1) ≡ b → Places.further (went t (forward c j)) (beyond j) false ≡ runs c big k j
       go true f = over-end (forward c j) refl f ∙ sym (stops f)
-      go false f =
-          rw (
-            next-char d k real j (o .inside) (run-char d k real j o) f,
-            eq-eqb _ _ (same-row d k real j (o .inside) (run-char d k real j o)),
-            kind-test d (j + 1) (omega (arith, low)) k,
-            lt-ltb j (textEnd c) (omega (arith, end-is d, low)),
-          )
+      go false f = rw (
+        next-char d k real j (o .inside) (run-char d k real j o) f,
+        eq-eqb _ _ (same-row d k real j (o .inside) (run-char d k real j o)),
+        kind-test d (j + 1) (omega (arith, low)) k,
+        lt-ltb j (textEnd c) (omega (arith, end-is d, low)),
+      )
 
   pub on-run : (j : ℕ) → InRun d k real j → runs c big k j ≡ true → InRun d k real (j + 1)
   on-run j o e =
@@ -63,7 +55,7 @@ module _ {t : List ℕ} {tell : ℕ → ℕ} {c : List ℕ} {big : Bool} (d : De
       let e2 : eqb (kind c big (j + 1)) k ≡ true = rw (lt-ltb j (textEnd c) (omega (arith, end-is d))) at e in
       record { inside = omega arith; is-kind = eqb-true _ _ e2 }
 
-  pub run-steps : (j : ℕ) → InRun d k real j → runs c big k j ≡ true → Steps t (InRun d k real) (λ i. length t - i) (Places.stepForward t) j (At (j + 1))
+  pub run-steps : (j : ℕ) → InRun d k real j → runs c big k j ≡ true → Steps t (InRun d k real) (λ i. length t - i) (Places.stepForward t) j (To (j + 1))
   run-steps j o e =
       let by-on-run = on-run j o e in
       let low = before-end d j (o .inside) (run-char d k real j o) in (
@@ -73,7 +65,7 @@ module _ {t : List ℕ} {tell : ℕ → ℕ} {c : List ℕ} {big : Bool} (d : De
       )
 
   pub run-same : (i : ℕ) → InRun d k real i →
-      Halts t (InRun d k real) (runs c big k) (walk (runs c big k) (λ j. At (j + 1)) (length c + 1) i) (first.run t tell (named k) (pos t i))
+      Halts t (InRun d k real) (runs c big k) (walk (runs c big k) (λ j. To (j + 1)) (length c + 1) i) (first.run t tell (named k) (pos t i))
   run-same i o =
-      walks t (InRun d k real) (runs c big k) (λ j. length t - j) (Places.stepForward t) (forward-way t) (first.goesOn t tell (named k)) (λ j. At (j + 1))
+      walks t (InRun d k real) (runs c big k) (λ j. length t - j) (Places.stepForward t) (forward-way t) (first.goesOn t tell (named k)) (λ j. To (j + 1))
       (λ j p. p .inside) goes-on run-steps (length c + 1) i o (omega (arith, d .long))

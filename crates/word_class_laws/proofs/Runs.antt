@@ -1,34 +1,22 @@
 -- The walks of the two engines, one by one: over kinds, back over a kind, to the end of a run, and out of it. Each cites the one law, and `walks`.
 -- Assumes nothing.
-use mathlib.Core.Path.{_≡_, refl, ap, sym, subst, _∙_}
-use mathlib.Core.List.{List}
-use mathlib.Core.Bool.{Bool, true, false, cond, _&&_, _||_, not}
-use Prim.Native.Nat.{ℕ, zero, suc, _+_, _-_, _≤_, _<_}
-use native.Mathlib.Decide.{decLt}
-use native.Mathlib.Omega.{arith}
-use lib.Dec.{eqb, ltb}
-use lib.ListN.{length}
-use borrow.Author.Tests.{eq-eqb, ne-eqb, eqb-true, eqb-false, lt-ltb}
-use Rattle.text.specs.declared.Position.{Position}
+use Rattle.lists.proofs.Kit.{_≡_, refl, ap, sym, _∙_, List, Bool, true, false, cond, _&&_, _||_, not, ℕ, zero, suc, _+_, _-_, _≤_, _<_, decLt, arith, length}
+use Rattle.lists.proofs.Kit.{eqb, ltb, lt-ltb}
 use Rattle.text.specs.Offsets
 use Rattle.word_kinds.specs.Places
-use Rattle.word_kinds.specs.Places.{Went, To, Nowhere}
 use Rattle.word_loops.specs.Walks as first
-use Rattle.word_loops.specs.Walks.{Halt, Onto, Stuck}
-use Rattle.word_loops.proofs.Counters.{loop-turn, forward-way, dec-way}
+use Rattle.word_loops.proofs.Counters.{forward-way, dec-way}
 use Rattle.word_edges.specs.Words
-use Rattle.word_places.specs.Places.{isEnd, isEmpty, kind, soft, textEnd, forward, backward, further}
-use Rattle.word_places.specs.Walks.{walk, over, back, runs, place, runEnd}
-use Rattle.word_places.specs.declared.Reach.{Reach}
-use Rattle.word_places.specs.declared.Reach.the-variants.{At, NoStep}
-use Rattle.word_places.specs.declared.Halted.{Halted}
-use Rattle.word_places.specs.declared.Halted.the-variants.{Done, Stood}
+use Rattle.word_places.specs.Places.{isEnd, isEmpty, kind, soft, textEnd, forward, backward}
+use Rattle.word_places.specs.Walks.{over, back}
+use Rattle.word_places.specs.declared.Step.{Step}
+use Rattle.word_places.specs.declared.Step.the-variants.{To, Nowhere}
 use Rattle.word_places.proofs.Walking.{forward-on, forward-over, forward-next}
 use Rattle.word_class_rows.specs.Rows.{rowOf}
 use Rattle.word_class_rows.proofs.Counting.{row-end-next, row-char-next}
 use Rattle.word_class_laws.specs.Determines.{Determines, pos, named, went}
 use Rattle.word_class_laws.proofs.Points.{named-same}
-use Rattle.word_class_laws.proofs.Walks.{pos-in, Halts, Steps, walks}
+use Rattle.word_class_laws.proofs.Walks.{Halts, Steps, walks}
 
 pub clash : {A : Type 0} {b : Bool} → b ≡ true → b ≡ false → A
 clash e f = let never : _≡_ {A = ℕ} 0 1 = cc (sym e ∙ f) in absurd (omega arith)
@@ -67,16 +55,15 @@ module _ {t : List ℕ} {tell : ℕ → ℕ} {c : List ℕ} {big : Bool} (d : De
   forward-steps : (i : ℕ) → i ≤ length t → Steps t Inside (λ j. length t - j) (Places.stepForward t) i (forward c i)
   forward-steps i h = go (forward c i) refl (d .on i h)
     where
-      go : (r : Reach) → forward c i ≡ r → Places.stepForward t (pos t i) ≡ went t r → Steps t Inside (λ j. length t - j) (Places.stepForward t) i r
-      go (At j) e w = let by-forward-on =
+      go : (r : Step) → forward c i ≡ r → Places.stepForward t (pos t i) ≡ went t r → Steps t Inside (λ j. length t - j) (Places.stepForward t) i r
+      go (To j) e w = let by-forward-on =
           forward-on c i j e in (w, omega (arith, by-forward-on .1, end-is), omega (arith, by-forward-on .0, by-forward-on .1, end-is))
-      go NoStep e w = w
+      go Nowhere e w = w
 
   -- over kinds
   pub over-same : (a b i : ℕ) → i ≤ length t →
       Halts t Inside (λ j. eqb (kind c big j) a || eqb (kind c big j) b) (over c big a b i) (first.skip t tell (named a) (named b) (pos t i))
-  over-same a b i h =
-      walks t Inside (λ j. eqb (kind c big j) a || eqb (kind c big j) b) (λ j. length t - j) (Places.stepForward t) (forward-way t)
+  over-same a b i h = walks t Inside (λ j. eqb (kind c big j) a || eqb (kind c big j) b) (λ j. length t - j) (Places.stepForward t) (forward-way t)
       (λ q. eqb (Places.kindAt t tell q) (named a) || eqb (Places.kindAt t tell q) (named b)) (forward c) (λ j o. o)
       (λ j o. rw (kind-test j o a, kind-test j o b)) (λ j o e. forward-steps j o) (length c + 1) i h (omega (arith, d .long))
 
@@ -87,8 +74,7 @@ module _ {t : List ℕ} {tell : ℕ → ℕ} {c : List ℕ} {big : Bool} (d : De
 
   pub back-same : (k i : ℕ) → i ≤ length t →
       Halts t Inside (λ j. eqb (soft c big j) k && not (isEmpty c j)) (back c big k i) (first.back t tell (named k) (pos t i))
-  back-same k i h =
-      walks t Inside (λ j. eqb (soft c big j) k && not (isEmpty c j)) (λ j. j) (Places.dec t) (dec-way t)
+  back-same k i h = walks t Inside (λ j. eqb (soft c big j) k && not (isEmpty c j)) (λ j. j) (Places.dec t) (dec-way t)
       (λ q. eqb (Places.cls t tell q) (named k) && not (Places.onEmptyRow t q)) backward (λ j o. o)
       (λ j o. rw (class-of j o, named-same (soft c big j) k, d .empties j o)) (λ j o e. back-steps j o) (i + 1) i h (omega arith)
 
@@ -102,7 +88,7 @@ module _ {t : List ℕ} {tell : ℕ → ℕ} {c : List ℕ} {big : Bool} (d : De
     run-char j o = sym (d .ends j (o .inside)) ∙ ap (λ (x : ℕ). eqb x 4) (o .is-kind) ∙ real
 
     -- the next place of the row, or the next row's first
-    pub next-char : (j : ℕ) → j ≤ length t → isEnd c j ≡ false → isEnd c (j + 1) ≡ false → forward c j ≡ At (j + 1)
+    pub next-char : (j : ℕ) → j ≤ length t → isEnd c j ≡ false → isEnd c (j + 1) ≡ false → forward c j ≡ To (j + 1)
     next-char j h e f =
         let by-before-end = before-end j h e in
         let by-before-end-f = before-end (j + 1) (omega arith) f in
@@ -113,16 +99,16 @@ module _ {t : List ℕ} {tell : ℕ → ℕ} {c : List ℕ} {big : Bool} (d : De
         let by-before-end = before-end j h e in
         d .row (j + 1) (omega arith) ∙ row-char-next c j (omega (arith, d .long)) e ∙ sym (d .row j h)
 
-    pub next-row : (j q : ℕ) → j ≤ length t → isEnd c j ≡ false → isEnd c (j + 1) ≡ true → forward c j ≡ At q → Offsets.rowOf t q ≡ Offsets.rowOf t j + 1
+    pub next-row : (j q : ℕ) → j ≤ length t → isEnd c j ≡ false → isEnd c (j + 1) ≡ true → forward c j ≡ To q → Offsets.rowOf t q ≡ Offsets.rowOf t j + 1
     next-row j q h e f w =
         let by-before-end = before-end j h e in
         let on = forward-on c j q w in
         let two : j + 1 + 1 ≡ j + 2 = omega arith in
-        let forward-is : forward c j ≡ cond (ltb (j + 2) (textEnd c)) (At (j + 2)) NoStep = forward-over c j (rw (e, f)) in
+        let forward-is : forward c j ≡ cond (ltb (j + 2) (textEnd c)) (To (j + 2)) Nowhere = forward-over c j (rw (e, f)) in
         let row-is : rowOf c (j + 2) ≡ rowOf c (j + 1) + 1 = rw two at (row-end-next c (j + 1) (omega (arith, d .long)) f) in
         go (ltb (j + 2) (textEnd c)) (sym w ∙ forward-is) on row-is (row-char-next c j (omega (arith, d .long)) e)
       where
-        go : (b : Bool) → At q ≡ cond b (At (j + 2)) NoStep → (j < q) × (q < textEnd c) → rowOf c (j + 2) ≡ rowOf c (j + 1) + 1 → rowOf c (j + 1) ≡ rowOf c j →
+        go : (b : Bool) → To q ≡ cond b (To (j + 2)) Nowhere → (j < q) × (q < textEnd c) → rowOf c (j + 2) ≡ rowOf c (j + 1) + 1 → rowOf c (j + 1) ≡ rowOf c j →
             Offsets.rowOf t q ≡ Offsets.rowOf t j + 1
         go true v on r s = let q-is : q ≡ j + 2 = cc in omega (arith, d .row q (omega (arith, on .1, end-is)), ap (rowOf c) q-is, d .row j h)
         go false v on r s = let never : _≡_ {A = ℕ} 0 1 = cc in absurd (omega arith)

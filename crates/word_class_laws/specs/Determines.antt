@@ -7,15 +7,14 @@ use mathlib.Core.List.{List}
 use mathlib.Core.Bool.{Bool, true, false}
 use lib.Dec.{eqb}
 use lib.ListN.{length}
-use Rattle.text.specs.Text.{rowCount, rowLen, contentRows, position}
+use Rattle.text.specs.Text.{rowCount, contentRows, position}
 use Rattle.text.specs.Offsets
 use Rattle.text.specs.declared.Position.{Position}
 use Rattle.word_kinds.specs.Places
-use Rattle.word_kinds.specs.Places.{Went, To, Nowhere}
 use Rattle.word_classes.specs.Classes.{classesOf}
 use Rattle.word_places.specs.Places.{isEnd, isEmpty, kind, forward, backward}
-use Rattle.word_places.specs.declared.Reach.{Reach}
-use Rattle.word_places.specs.declared.Reach.the-variants.{At, NoStep}
+use Rattle.word_places.specs.declared.Step.{Step}
+use Rattle.word_places.specs.declared.Step.the-variants.{To, Nowhere}
 use Rattle.word_hops.specs.Hops.{contentEnd}
 use Rattle.word_class_rows.specs.Rows.{rowOf, rowsOf, contentOf}
 
@@ -39,9 +38,9 @@ named (suc (suc (suc (suc zero)))) = 3
 named (suc (suc (suc (suc (suc k))))) = suc (suc (suc (suc (suc k))))
 
 -- a step of the second engine as one of the first
-abbrev pub went : List ℕ → Reach → Went
-went t (At j) = To (pos t j)
-went t NoStep = Nowhere
+abbrev pub went : List ℕ → Step → Places.Step
+went t (To j) = Places.To (pos t j)
+went t Nowhere = Places.Nowhere
 
 pub record Determines (t : List ℕ) (tell : ℕ → ℕ) (c : List ℕ) (big : Bool) : Type 0 where
   pub long : length c ≡ length t + 1
@@ -53,7 +52,7 @@ pub record Determines (t : List ℕ) (tell : ℕ → ℕ) (c : List ℕ) (big : 
   -- the steps
   pub on : (i : ℕ) → i ≤ length t → Places.stepForward t (pos t i) ≡ went t (forward c i)
   pub back : (i : ℕ) → i ≤ length t → Places.dec t (pos t i) ≡ went t (backward i)
-  pub next : (i : ℕ) → i + 1 < length t → Places.inc t (pos t i) ≡ To (pos t (i + 1))
+  pub next : (i : ℕ) → i + 1 < length t → Places.inc t (pos t i) ≡ Places.To (pos t (i + 1))
   pub beside : (i : ℕ) → i ≤ length t → isEnd c i ≡ false → position (pos t i .row) (pos t i .col + 1) ≡ pos t (i + 1)
   pub content : Places.endOfBuffer t ≡ pos t (contentEnd c)
   -- the rows

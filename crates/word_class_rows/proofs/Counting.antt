@@ -1,13 +1,6 @@
 -- Rows by the classes: one place further, and the one place that ends a row. Assumes nothing.
-use mathlib.Core.Path.{_≡_, refl, ap, sym, _∙_}
-use mathlib.Core.List.{List, [], _∷_}
-use mathlib.Core.Bool.{Bool, true, false, cond}
-use Prim.Native.Nat.{ℕ, zero, suc, _+_, _-_, _≤_, _<_}
-use native.Mathlib.Numerals.{add-one}
-use native.Mathlib.Decide.{ℕ-discrete}
-use native.Mathlib.Omega.{arith}
-use lib.Dec.{leb}
-use lib.ListN.{length, getD}
+use Rattle.lists.proofs.Kit.{_≡_, refl, ap, sym, _∙_, List, [], _∷_, Bool, true, false, cond, ℕ, zero, suc, _+_, _-_, _≤_, _<_, add-one, ℕ-discrete, arith}
+use Rattle.lists.proofs.Kit.{length, leb}
 use Rattle.word_places.specs.Places.{isEnd}
 use Rattle.word_class_rows.specs.Rows.{rowOf, rowsOf, endOf, startOf, Stands}
 

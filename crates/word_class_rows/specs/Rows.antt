@@ -41,3 +41,8 @@ lastOf c r = cond (isEmpty c (endOf c r)) (endOf c r) (endOf c r - 1)
 pub record Stands (c : List ℕ) (p : Spot) : Type 0 where
   pub within : p .at ≤ length c
   pub row-is : p .row ≡ rowOf c (p .at)
+
+-- such a spot at a given place
+pub record StandsAt (c : List ℕ) (i : ℕ) (p : Spot) : Type 0 where
+  pub place : p .at ≡ i
+  pub stands : Stands c p

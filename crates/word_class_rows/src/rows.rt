@@ -5,7 +5,7 @@ ghost use mathlib.Core.Path.{_≡_};
 ghost use Prim.Native.Nat.{_+_, _≤_, _<_};
 ghost use lib.ListN.{length};
 ghost use Rattle.word_class_rows.specs.Rows.{rowOf, rowsOf, contentOf, endOf, startOf};
-ghost use Rattle.word_class_rows.specs.Rows.{Stands};
+ghost use Rattle.word_class_rows.specs.Rows.{Stands, StandsAt};
 
 // How many rows end from place a up to place b, b not among them: from 0 to 4 there are 2.
 pub fn ends(c: &[u8], a: usize, b: usize) -> usize
@@ -40,7 +40,7 @@ pub fn content_of(c: &[u8], rows: usize) -> usize
 // Another place with its row: from 0 in row 0 to 4, which is in row 2.
 pub fn moved(c: &[u8], p: Spot, i: usize) -> Spot
     requires { ⌜ Stands (now c) p × (i ≤ length (now c)) ⌝ }
-    ensures { λ r. ⌜ (r .at ≡ i) × Stands (now (c .entry)) r ⌝ }
+    ensures { λ r. ⌜ StandsAt (now (c .entry)) i r ⌝ }
 {
     if i < p.at {
         return Spot {

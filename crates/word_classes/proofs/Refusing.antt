@@ -1,17 +1,10 @@
 -- The refusals of a call that writes classes, and the slice after it. Assumes nothing.
-use mathlib.Core.Path.{_≡_, sym, ap, _∙_}
-use mathlib.Core.List.{List, [], _∷_}
-use Prim.Native.Nat.{ℕ, _+_, _<_}
-use native.Mathlib.Omega.{arith}
-use native.Mathlib.Decide.{decLt}
-use lib.Dec.{ltb}
-use lib.ListN.{length}
-use borrow.Author.Tests.{eq-eqb, ne-eqb, le-ltb}
+use Rattle.lists.proofs.Kit.{_≡_, sym, List, [], _∷_, ℕ, _<_, decLt, arith, length, eq-eqb, ne-eqb, le-ltb}
 use Rattle.text_check.specs.Accept.{textRefusal}
 use Rattle.list_tokens.specs.Tokens.{inList}
 use Rattle.keywords.specs.Table.{parseOf}
 use Rattle.positions.specs.Positions.{lowest}
-use Rattle.positions.proofs.Lowest.{lowest-kept, lowest-last, both}
+use Rattle.positions.proofs.Lowest.{lowest-last, both}
 use Rattle.word_classes.specs.declared.Written.the-variants.{Made, Refused}
 use Rattle.word_classes.specs.Classes.{classesOf, holding}
 use Rattle.word_classes.specs.Call.{placesRefusal, writeRefusal, writtenBy, slicedBy}

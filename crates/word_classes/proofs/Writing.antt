@@ -1,15 +1,6 @@
 -- The classes of a text, written place by place. Assumes nothing.
-use mathlib.Core.Path.{_≡_, refl, ap, sym, _∙_}
-use mathlib.Core.List.{List, [], _∷_}
-use mathlib.Core.Bool.{Bool, true, false}
-use Prim.Native.Nat.{ℕ, _+_, _≤_, _<_}
-use native.Mathlib.Numerals.{add-one}
-use native.Mathlib.Omega.{arith}
-use lib.Dec.{eqb}
-use lib.ListN.{length, getD, drop, set, length-set}
-use lib.Seq.{sets, sets-eq, drop-length}
-use borrow.Author.Tests.{eq-eqb, ne-eqb}
-use Rattle.lists.specs.Lists.{any}
+use Rattle.lists.proofs.Kit.{_≡_, refl, sym, _∙_, List, [], _∷_, Bool, true, false, ℕ, _+_, _≤_, _<_, add-one, arith, length, getD, drop, set, length-set, sets}
+use Rattle.lists.proofs.Kit.{sets-eq, drop-length, eqb, eq-eqb, ne-eqb}
 use Rattle.lists.proofs.Lists.{drop-at}
 use Rattle.lists.proofs.Any.{any-there}
 use Rattle.chars.specs.Scalar.{isScalar, notScalar}
@@ -57,9 +48,7 @@ module _ {word : ℕ → Bool} {t room now : List ℕ} {first : Bool} {i : ℕ} 
   written h room-there q =
       let i-is : i ≡ length t = omega (arith, w .inside) in
       let all : 0 + length (classesOf word t) ≡ length (classesOf word t) = omega arith in
-      rw (q)
-      (sym (w .same ∙ rw (i-is, drop-length t))
-      ∙ rw all at (sets-eq (classesOf word t) room 0 (omega (arith, classes-length word true t))))
+      rw (q) (sym (w .same ∙ rw (i-is, drop-length t)) ∙ rw all at (sets-eq (classesOf word t) room 0 (omega (arith, classes-length word true t))))
 
 -- every code point of an accepted text is a scalar value
 pub scalar-there : (t : List ℕ) (i : ℕ) → textRefusal t ≡ 0 → i < length t → isScalar (getD t i 0) ≡ true

@@ -1,17 +1,19 @@
 // One word on: `next_word_start`, `next_word_end` and `at_word_end` of motions.rs.
+use word_kinds::END;
+use word_kinds::SPACE;
 use word_kinds::Setting;
 use word_kinds::Spot;
 use word_kinds::Step;
 use word_kinds::near;
-use word_loops::Halted;
+use word_loops::Halt;
 use word_loops::walks;
 ghost use mathlib.Core.Path.{_≡_};
 ghost use Rattle.word_kinds.specs.Places.{space, end};
-ghost use Rattle.word_loops.specs.Walks.{skip, run};
+ghost use Rattle.word_loops.specs.Walks.{skip};
 ghost use Rattle.word_edges.specs.Words.{orEnd, fromEnd, runFrom};
 ghost use Rattle.word_edges.specs.Words.{nextWordStart, nextWordEnd};
 ghost use Rattle.word_edges.specs.Words.{atWordEnd, runHere};
-ghost use Rattle.word_kinds.specs.Spots.{placeOf, wentOf, WentIn};
+ghost use Rattle.word_kinds.specs.Spots.{placeOf, Reaches};
 ghost use Rattle.word_kinds.specs.Lent.{kindBy};
 ghost use Rattle.word_edges.specs.Ready.{Ready};
 
@@ -26,15 +28,14 @@ fn over_space(
 ) -> Step
     requires { ⌜ Ready (now t) (now bounds) (now starts) (now lengths) s p ⌝ }
     ensures { λ r.
-        ⌜ (wentOf (now (t .entry)) r ≡
-        orEnd (now (t .entry))
+        ⌜ Reaches (now (t .entry)) r
+        (orEnd (now (t .entry))
         (skip (now (t .entry)) (kindBy (now (bounds .entry)) s) space space
-        (placeOf (now (t .entry)) p))) ×
-        WentIn (now (t .entry)) r ⌝ }
+        (placeOf (now (t .entry)) p))) ⌝ }
 {
-    match walks::skip(t, bounds, starts, lengths, s, 0, 0, p) {
-        Halted::Done(q) => Step::At(q),
-        Halted::Stood(q) => Step::At(near::end_of_buffer(t, s.content)),
+    match walks::skip(t, bounds, starts, lengths, s, SPACE, SPACE, p) {
+        Halt::Onto(q) => Step::To(q),
+        Halt::Stuck(q) => Step::To(near::end_of_buffer(t, s.content)),
     }
 }
 
@@ -49,17 +50,16 @@ fn from_end(
 ) -> Step
     requires { ⌜ Ready (now t) (now bounds) (now starts) (now lengths) s p ⌝ }
     ensures { λ r.
-        ⌜ (wentOf (now (t .entry)) r ≡
-        fromEnd (now (t .entry)) (kindBy (now (bounds .entry)) s) (s .big)
-        (placeOf (now (t .entry)) p)) ×
-        WentIn (now (t .entry)) r ⌝ }
+        ⌜ Reaches (now (t .entry)) r
+        (fromEnd (now (t .entry)) (kindBy (now (bounds .entry)) s) (s .big)
+        (placeOf (now (t .entry)) p)) ⌝ }
 {
     if !s.big {
         return over_space(t, bounds, starts, lengths, s, p);
     }
-    match walks::skip(t, bounds, starts, lengths, s, 3, 3, p) {
-        Halted::Done(q) => over_space(t, bounds, starts, lengths, s, q),
-        Halted::Stood(q) => Step::NoStep,
+    match walks::skip(t, bounds, starts, lengths, s, END, END, p) {
+        Halt::Onto(q) => over_space(t, bounds, starts, lengths, s, q),
+        Halt::Stuck(q) => Step::Nowhere,
     }
 }
 
@@ -74,25 +74,24 @@ pub fn next_word_start(
 ) -> Step
     requires { ⌜ Ready (now t) (now bounds) (now starts) (now lengths) s p ⌝ }
     ensures { λ r.
-        ⌜ (wentOf (now (t .entry)) r ≡
-        nextWordStart (now (t .entry)) (kindBy (now (bounds .entry)) s) (s .big)
-        (placeOf (now (t .entry)) p)) ×
-        WentIn (now (t .entry)) r ⌝ }
+        ⌜ Reaches (now (t .entry)) r
+        (nextWordStart (now (t .entry)) (kindBy (now (bounds .entry)) s) (s .big)
+        (placeOf (now (t .entry)) p)) ⌝ }
 {
     let k = near::kind_at(t, bounds, starts, lengths, s, p);
-    if k == 3 {
+    if k == END {
         match near::step_forward(t, p) {
-            Step::At(q) => {
+            Step::To(q) => {
                 return from_end(t, bounds, starts, lengths, s, q);
             }
-            Step::NoStep => {
-                return Step::NoStep;
+            Step::Nowhere => {
+                return Step::Nowhere;
             }
         }
     }
     match walks::leave(t, bounds, starts, lengths, s, k, p) {
-        Halted::Done(q) => over_space(t, bounds, starts, lengths, s, q),
-        Halted::Stood(q) => Step::At(near::end_of_buffer(t, s.content)),
+        Halt::Onto(q) => over_space(t, bounds, starts, lengths, s, q),
+        Halt::Stuck(q) => Step::To(near::end_of_buffer(t, s.content)),
     }
 }
 
@@ -107,14 +106,13 @@ fn run_end(
 ) -> Step
     requires { ⌜ Ready (now t) (now bounds) (now starts) (now lengths) s p ⌝ }
     ensures { λ r.
-        ⌜ (wentOf (now (t .entry)) r ≡ runHere (now (t .entry)) (kindBy (now (bounds .entry)) s)
-        (placeOf (now (t .entry)) p)) ×
-        WentIn (now (t .entry)) r ⌝ }
+        ⌜ Reaches (now (t .entry)) r
+        (runHere (now (t .entry)) (kindBy (now (bounds .entry)) s) (placeOf (now (t .entry)) p)) ⌝ }
 {
     let k = near::kind_at(t, bounds, starts, lengths, s, p);
     match walks::run(t, bounds, starts, lengths, s, k, p) {
-        Halted::Done(q) => Step::At(q),
-        Halted::Stood(q) => Step::At(q),
+        Halt::Onto(q) => Step::To(q),
+        Halt::Stuck(q) => Step::To(q),
     }
 }
 
@@ -129,15 +127,14 @@ fn run_from(
 ) -> Step
     requires { ⌜ Ready (now t) (now bounds) (now starts) (now lengths) s p ⌝ }
     ensures { λ r.
-        ⌜ (wentOf (now (t .entry)) r ≡
-        runFrom (now (t .entry)) (kindBy (now (bounds .entry)) s)
+        ⌜ Reaches (now (t .entry)) r
+        (runFrom (now (t .entry)) (kindBy (now (bounds .entry)) s)
         (skip (now (t .entry)) (kindBy (now (bounds .entry)) s) space end
-        (placeOf (now (t .entry)) p))) ×
-        WentIn (now (t .entry)) r ⌝ }
+        (placeOf (now (t .entry)) p))) ⌝ }
 {
-    match walks::skip(t, bounds, starts, lengths, s, 0, 3, p) {
-        Halted::Done(q) => run_end(t, bounds, starts, lengths, s, q),
-        Halted::Stood(q) => Step::At(q),
+    match walks::skip(t, bounds, starts, lengths, s, SPACE, END, p) {
+        Halt::Onto(q) => run_end(t, bounds, starts, lengths, s, q),
+        Halt::Stuck(q) => Step::To(q),
     }
 }
 
@@ -152,14 +149,13 @@ pub fn next_word_end(
 ) -> Step
     requires { ⌜ Ready (now t) (now bounds) (now starts) (now lengths) s p ⌝ }
     ensures { λ r.
-        ⌜ (wentOf (now (t .entry)) r ≡
-        nextWordEnd (now (t .entry)) (kindBy (now (bounds .entry)) s)
-        (placeOf (now (t .entry)) p)) ×
-        WentIn (now (t .entry)) r ⌝ }
+        ⌜ Reaches (now (t .entry)) r
+        (nextWordEnd (now (t .entry)) (kindBy (now (bounds .entry)) s)
+        (placeOf (now (t .entry)) p)) ⌝ }
 {
     match near::step_forward(t, p) {
-        Step::At(q) => run_from(t, bounds, starts, lengths, s, q),
-        Step::NoStep => Step::NoStep,
+        Step::To(q) => run_from(t, bounds, starts, lengths, s, q),
+        Step::Nowhere => Step::Nowhere,
     }
 }
 
@@ -178,7 +174,7 @@ pub fn at_word_end(
         (placeOf (now (t .entry)) p) ⌝ }
 {
     let k = near::cls(t, bounds, starts, lengths, s, p);
-    if k == 0 {
+    if k == SPACE {
         return false;
     }
     let next = Spot {

@@ -1,17 +1,17 @@
 // One word back: `prev_word_start` and `prev_word_end` of motions.rs.
+use word_kinds::SPACE;
 use word_kinds::Setting;
 use word_kinds::Spot;
 use word_kinds::Step;
 use word_kinds::near;
-use word_loops::Halted;
+use word_loops::Halt;
 use word_loops::walks;
-ghost use mathlib.Core.Path.{_≡_};
-ghost use Rattle.word_kinds.specs.Places.{space, end};
+ghost use Rattle.word_kinds.specs.Places.{space};
 ghost use Rattle.word_loops.specs.Walks.{back};
 ghost use Rattle.word_edges.specs.Words.{frontFrom, halted, endFrom};
 ghost use Rattle.word_edges.specs.Words.{prevWordStart, prevWordEnd};
 ghost use Rattle.word_edges.specs.Words.{frontHere};
-ghost use Rattle.word_kinds.specs.Spots.{placeOf, wentOf, WentIn};
+ghost use Rattle.word_kinds.specs.Spots.{placeOf, Reaches};
 ghost use Rattle.word_kinds.specs.Lent.{kindBy};
 ghost use Rattle.word_edges.specs.Ready.{Ready};
 
@@ -26,17 +26,17 @@ fn front_of(
 ) -> Step
     requires { ⌜ Ready (now t) (now bounds) (now starts) (now lengths) s p ⌝ }
     ensures { λ r.
-        ⌜ (wentOf (now (t .entry)) r ≡ frontHere (now (t .entry)) (kindBy (now (bounds .entry)) s)
-        (placeOf (now (t .entry)) p)) ×
-        WentIn (now (t .entry)) r ⌝ }
+        ⌜ Reaches (now (t .entry)) r
+        (frontHere (now (t .entry)) (kindBy (now (bounds .entry)) s)
+        (placeOf (now (t .entry)) p)) ⌝ }
 {
     let k = near::cls(t, bounds, starts, lengths, s, p);
     match walks::back(t, bounds, starts, lengths, s, k, p) {
-        Halted::Done(q) => match near::inc(t, q) {
-            Step::At(n) => Step::At(n),
-            Step::NoStep => Step::At(q),
+        Halt::Onto(q) => match near::inc(t, q) {
+            Step::To(n) => Step::To(n),
+            Step::Nowhere => Step::To(q),
         },
-        Halted::Stood(q) => Step::At(q),
+        Halt::Stuck(q) => Step::To(q),
     }
 }
 
@@ -51,20 +51,19 @@ fn front_from(
 ) -> Step
     requires { ⌜ Ready (now t) (now bounds) (now starts) (now lengths) s p ⌝ }
     ensures { λ r.
-        ⌜ (wentOf (now (t .entry)) r ≡
-        frontFrom (now (t .entry)) (kindBy (now (bounds .entry)) s)
+        ⌜ Reaches (now (t .entry)) r
+        (frontFrom (now (t .entry)) (kindBy (now (bounds .entry)) s)
         (back (now (t .entry)) (kindBy (now (bounds .entry)) s) space
-        (placeOf (now (t .entry)) p))) ×
-        WentIn (now (t .entry)) r ⌝ }
+        (placeOf (now (t .entry)) p))) ⌝ }
 {
-    match walks::back(t, bounds, starts, lengths, s, 0, p) {
-        Halted::Done(q) => {
+    match walks::back(t, bounds, starts, lengths, s, SPACE, p) {
+        Halt::Onto(q) => {
             if near::on_empty_row(t, q) {
-                return Step::At(q);
+                return Step::To(q);
             }
             front_of(t, bounds, starts, lengths, s, q)
         }
-        Halted::Stood(q) => Step::At(q),
+        Halt::Stuck(q) => Step::To(q),
     }
 }
 
@@ -79,14 +78,13 @@ pub fn prev_word_start(
 ) -> Step
     requires { ⌜ Ready (now t) (now bounds) (now starts) (now lengths) s p ⌝ }
     ensures { λ r.
-        ⌜ (wentOf (now (t .entry)) r ≡
-        prevWordStart (now (t .entry)) (kindBy (now (bounds .entry)) s)
-        (placeOf (now (t .entry)) p)) ×
-        WentIn (now (t .entry)) r ⌝ }
+        ⌜ Reaches (now (t .entry)) r
+        (prevWordStart (now (t .entry)) (kindBy (now (bounds .entry)) s)
+        (placeOf (now (t .entry)) p)) ⌝ }
 {
     match near::dec(t, p) {
-        Step::At(q) => front_from(t, bounds, starts, lengths, s, q),
-        Step::NoStep => Step::NoStep,
+        Step::To(q) => front_from(t, bounds, starts, lengths, s, q),
+        Step::Nowhere => Step::Nowhere,
     }
 }
 
@@ -101,15 +99,14 @@ fn back_over_space(
 ) -> Step
     requires { ⌜ Ready (now t) (now bounds) (now starts) (now lengths) s p ⌝ }
     ensures { λ r.
-        ⌜ (wentOf (now (t .entry)) r ≡
-        halted
+        ⌜ Reaches (now (t .entry)) r
+        (halted
         (back (now (t .entry)) (kindBy (now (bounds .entry)) s) space
-        (placeOf (now (t .entry)) p))) ×
-        WentIn (now (t .entry)) r ⌝ }
+        (placeOf (now (t .entry)) p))) ⌝ }
 {
-    match walks::back(t, bounds, starts, lengths, s, 0, p) {
-        Halted::Done(q) => Step::At(q),
-        Halted::Stood(q) => Step::At(q),
+    match walks::back(t, bounds, starts, lengths, s, SPACE, p) {
+        Halt::Onto(q) => Step::To(q),
+        Halt::Stuck(q) => Step::To(q),
     }
 }
 
@@ -125,15 +122,14 @@ fn end_from(
 ) -> Step
     requires { ⌜ Ready (now t) (now bounds) (now starts) (now lengths) s p ⌝ }
     ensures { λ r.
-        ⌜ (wentOf (now (t .entry)) r ≡
-        endFrom (now (t .entry)) (kindBy (now (bounds .entry)) s)
+        ⌜ Reaches (now (t .entry)) r
+        (endFrom (now (t .entry)) (kindBy (now (bounds .entry)) s)
         (back (now (t .entry)) (kindBy (now (bounds .entry)) s) class
-        (placeOf (now (t .entry)) p))) ×
-        WentIn (now (t .entry)) r ⌝ }
+        (placeOf (now (t .entry)) p))) ⌝ }
 {
     match walks::back(t, bounds, starts, lengths, s, class, p) {
-        Halted::Done(q) => back_over_space(t, bounds, starts, lengths, s, q),
-        Halted::Stood(q) => Step::At(q),
+        Halt::Onto(q) => back_over_space(t, bounds, starts, lengths, s, q),
+        Halt::Stuck(q) => Step::To(q),
     }
 }
 
@@ -148,19 +144,18 @@ pub fn prev_word_end(
 ) -> Step
     requires { ⌜ Ready (now t) (now bounds) (now starts) (now lengths) s p ⌝ }
     ensures { λ r.
-        ⌜ (wentOf (now (t .entry)) r ≡
-        prevWordEnd (now (t .entry)) (kindBy (now (bounds .entry)) s)
-        (placeOf (now (t .entry)) p)) ×
-        WentIn (now (t .entry)) r ⌝ }
+        ⌜ Reaches (now (t .entry)) r
+        (prevWordEnd (now (t .entry)) (kindBy (now (bounds .entry)) s)
+        (placeOf (now (t .entry)) p)) ⌝ }
 {
     let k = near::cls(t, bounds, starts, lengths, s, p);
     match near::dec(t, p) {
-        Step::At(q) => {
-            if k == 0 {
+        Step::To(q) => {
+            if k == SPACE {
                 return back_over_space(t, bounds, starts, lengths, s, q);
             }
             end_from(t, bounds, starts, lengths, s, k, q)
         }
-        Step::NoStep => Step::NoStep,
+        Step::Nowhere => Step::Nowhere,
     }
 }

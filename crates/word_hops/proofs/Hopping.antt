@@ -1,15 +1,9 @@
 -- One word on or back, by cases; and how far a walk back comes. Assumes nothing.
-use mathlib.Core.Path.{_≡_, refl}
-use mathlib.Core.List.{List}
-use mathlib.Core.Bool.{Bool, true, false, cond, _&&_}
-use Prim.Native.Nat.{ℕ, zero, suc, _-_, _≤_, _<_}
-use native.Mathlib.Omega.{arith}
-use lib.Dec.{ltb}
-use borrow.Author.Tests.{ltb-true}
+use Rattle.lists.proofs.Kit.{_≡_, refl, List, Bool, true, false, cond, _&&_, ℕ, zero, suc, _≤_, _<_, arith, ltb, ltb-true}
 use Rattle.word_places.specs.Places.{isEmpty, textEnd, backward}
 use Rattle.word_places.specs.Walks.{walk, over}
-use Rattle.word_places.specs.declared.Halted.{Halted}
-use Rattle.word_places.specs.declared.Halted.the-variants.{Done, Stood}
+use Rattle.word_places.specs.declared.Halt.{Halt}
+use Rattle.word_places.specs.declared.Halt.the-variants.{Onto, Stuck}
 use Rattle.word_hops.specs.Hops.{lastEmpty, overSpace, thenSpace, fromEnd}
 
 -- behind a row's end
@@ -30,24 +24,24 @@ last-there c e = go (ltb 0 (textEnd c)) (isEmpty c (textEnd c)) refl e
     go false b q h = let never : _≡_ {A = ℕ} 0 1 = cc in absurd (omega arith)
 
 -- a walk back ends at or before the place where it began
-abbrev pub Below : ℕ → Halted → Type 0
-Below i (Done j) = j ≤ i
-Below i (Stood j) = j ≤ i
+abbrev pub Below : ℕ → Halt → Type 0
+Below i (Onto j) = j ≤ i
+Below i (Stuck j) = j ≤ i
 
 pub back-below : (test : ℕ → Bool) (n i : ℕ) → Below i (walk test backward n i)
 unfolding walk
 back-below test zero i = omega arith
 back-below test (suc n) zero = go (test 0)
   where
-    go : (b : Bool) → Below 0 (cond b (Stood 0) (Done 0))
+    go : (b : Bool) → Below 0 (cond b (Stuck 0) (Onto 0))
     go true = omega arith
     go false = omega arith
 back-below test (suc n) (suc i) = go (test (suc i)) (walk test backward n i) (back-below test n i)
   where
-    go : (b : Bool) (h : Halted) → Below i h → Below (suc i) (cond b h (Done (suc i)))
-    go true (Done j) l = omega arith
-    go true (Stood j) l = omega arith
+    go : (b : Bool) (h : Halt) → Below i h → Below (suc i) (cond b h (Onto (suc i)))
+    go true (Onto j) l = omega arith
+    go true (Stuck j) l = omega arith
     go false h l = omega arith
 
-pub done-below : (h : Halted) (i j : ℕ) → h ≡ Done j → Below i h → j ≤ i
-done-below h i j e l = rw e at l
+pub onto-below : (h : Halt) (i j : ℕ) → h ≡ Onto j → Below i h → j ≤ i
+onto-below h i j e l = rw e at l

@@ -2,8 +2,8 @@
 use word_classes::EMPTY_ROW;
 use word_classes::ROW_END;
 use word_classes::SPACE;
-use word_places::Halted;
-use word_places::Reach;
+use word_places::Halt;
+use word_places::Step;
 ghost use mathlib.Core.Path.{_≡_};
 ghost use lib.ListN.{length};
 ghost use Prim.Native.Nat.{_<_};
@@ -36,69 +36,69 @@ fn content_end(c: &[u8]) -> usize
 }
 
 // On over spaces, to the content's end where there is nothing else: from 2 to 3.
-fn over_space(c: &[u8], big: bool, i: usize) -> Reach
+fn over_space(c: &[u8], big: bool, i: usize) -> Step
     ensures { λ r. ⌜ r ≡ overSpace (now (c .entry)) big i ⌝ }
 {
     match word_places::over(c, big, SPACE, SPACE, i) {
-        Halted::Done(j) => Reach::At(j),
-        Halted::Stood(j) => Reach::At(content_end(c)),
+        Halt::Onto(j) => Step::To(j),
+        Halt::Stuck(j) => Step::To(content_end(c)),
     }
 }
 
 // On from the first place behind a row's end: big words go over empty rows too, and stay where
 // there is nothing else. Of the rows `a`, an empty one and `b`, with the classes 0 4 3 0 4, from 2:
 // for small words 2, for big ones 3.
-fn from_end(c: &[u8], big: bool, i: usize) -> Reach
+fn from_end(c: &[u8], big: bool, i: usize) -> Step
     ensures { λ r. ⌜ r ≡ fromEnd (now (c .entry)) big i ⌝ }
 {
     if !big {
         return over_space(c, big, i);
     }
     match word_places::over(c, big, ROW_END, ROW_END, i) {
-        Halted::Done(j) => over_space(c, big, j),
-        Halted::Stood(j) => Reach::NoStep,
+        Halt::Onto(j) => over_space(c, big, j),
+        Halt::Stuck(j) => Step::Nowhere,
     }
 }
 
 // `w`: the start of the next word. From 0, the `i`: to the end of its run, 1, one on, 2, and over
 // spaces, 3, the `(`. From 7 there is no step on, so to the content's end, 8. From 8 nowhere.
-pub fn next_start(c: &[u8], big: bool, i: usize) -> Reach
+pub fn next_start(c: &[u8], big: bool, i: usize) -> Step
     ensures { λ r. ⌜ r ≡ nextStart (now (c .entry)) big i ⌝ }
 {
     if word_places::is_end(c, i) {
         match word_places::forward(c, i) {
-            Reach::At(j) => {
+            Step::To(j) => {
                 return from_end(c, big, j);
             }
-            Reach::NoStep => {
-                return Reach::NoStep;
+            Step::Nowhere => {
+                return Step::Nowhere;
             }
         }
     }
     match word_places::forward(c, word_places::run_end(c, big, i)) {
-        Reach::At(j) => over_space(c, big, j),
-        Reach::NoStep => Reach::At(content_end(c)),
+        Step::To(j) => over_space(c, big, j),
+        Step::Nowhere => Step::To(content_end(c)),
     }
 }
 
 // On over spaces and row ends, and then to the end of the run there: from 2 to 3.
-fn end_from(c: &[u8], big: bool, i: usize) -> Reach
+fn end_from(c: &[u8], big: bool, i: usize) -> Step
     ensures { λ r. ⌜ r ≡ Hops·endFrom (now (c .entry)) big (over (now (c .entry)) big 2 4 i) ⌝ }
 {
     match word_places::over(c, big, SPACE, ROW_END, i) {
-        Halted::Done(j) => Reach::At(word_places::run_end(c, big, j)),
-        Halted::Stood(j) => Reach::At(j),
+        Halt::Onto(j) => Step::To(word_places::run_end(c, big, j)),
+        Halt::Stuck(j) => Step::To(j),
     }
 }
 
 // `e`: the end of the next word. From 0 one on, 1, which is no space, and to the end of its run, 1,
 // the `f`. From 1 to 3: one on, 2, over spaces, 3, whose run ends there. From 7 nowhere.
-pub fn next_end(c: &[u8], big: bool, i: usize) -> Reach
+pub fn next_end(c: &[u8], big: bool, i: usize) -> Step
     ensures { λ r. ⌜ r ≡ nextEnd (now (c .entry)) big i ⌝ }
 {
     match word_places::forward(c, i) {
-        Reach::At(j) => end_from(c, big, j),
-        Reach::NoStep => Reach::NoStep,
+        Step::To(j) => end_from(c, big, j),
+        Step::Nowhere => Step::Nowhere,
     }
 }
 

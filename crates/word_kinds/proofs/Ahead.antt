@@ -1,21 +1,15 @@
 -- Kinds and steps by the code points at an offset: each primitive of the Rust, on rows and columns, as the code reads it.
 -- Assumes nothing.
-use mathlib.Core.Path.{_≡_, ap, _∙_}
-use mathlib.Core.List.{List}
-use mathlib.Core.Bool.{Bool, true, false}
-use Prim.Native.Nat.{ℕ, _+_, _-_, _≤_, _<_}
-use native.Mathlib.Decide.{decLt, ℕ-discrete}
-use native.Mathlib.Omega.{arith}
-use lib.Dec.{eqb}
-use lib.ListN.{length, getD}
-use borrow.Author.Tests.{eq-eqb, ne-eqb, eqb-true, eqb-false, lt-ltb, le-ltb}
+use Rattle.lists.proofs.Kit.{_≡_, ap, _∙_, List, Bool, true, false, ℕ, _+_, _-_, _≤_, _<_, decLt, ℕ-discrete, arith, length, getD, eqb, eq-eqb, ne-eqb}
+use Rattle.lists.proofs.Kit.{eqb-true, eqb-false, lt-ltb, le-ltb}
 use Rattle.text.specs.Text.{rowLen, position}
 use Rattle.text.specs.Offsets.{rowStart, At}
 use Rattle.text.proofs.At.{on-char, after-char, on-nl, on-end, on-last, point-at}
 use Rattle.text.proofs.Stands.{stands-at}
 use Rattle.word_kinds.specs.declared.Spot.{Spot}
-use Rattle.word_kinds.specs.Places.{To, Nowhere, kindAt, cls, onEmptyRow, nextRow, stepForward, inc}
-use Rattle.word_kinds.specs.Spots.{placeOf, IsSpot}
+use Rattle.word_kinds.specs.declared.Step.the-variants as variant
+use Rattle.word_kinds.specs.Places.{To, Nowhere, space, end, kindAt, cls, onEmptyRow, nextRow, stepForward, inc}
+use Rattle.word_kinds.specs.Spots.{placeOf, IsSpot, Reaches}
 use Rattle.word_kinds.proofs.Onto.{spot-at, col-at, next-none}
 
 module _ (t : List ℕ) (p : Spot) (w : IsSpot t p) where
@@ -27,7 +21,7 @@ module _ (t : List ℕ) (p : Spot) (w : IsSpot t p) where
 
   -- past the last character of the row
   module _ (kind : ℕ → ℕ) (e : col ≡ rowLen t (p .row)) where
-    kind-past : 3 ≡ kindAt t kind (placeOf t p)
+    kind-past : end ≡ kindAt t kind (placeOf t p)
     unfolding kindAt
     kind-past = rw (le-ltb col (rowLen t (p .row)) (omega arith))
 
@@ -41,7 +35,7 @@ module _ (t : List ℕ) (p : Spot) (w : IsSpot t p) where
 
   -- at the end of the text
   module _ (h : length t ≤ p .at) where
-    pub end-kind : (kind : ℕ → ℕ) → 3 ≡ kindAt t kind (placeOf t p)
+    pub end-kind : (kind : ℕ → ℕ) → end ≡ kindAt t kind (placeOf t p)
     end-kind kind = kind-past kind (on-end here h)
 
     pub end-forward : Nowhere ≡ stepForward t (placeOf t p)
@@ -56,7 +50,7 @@ module _ (t : List ℕ) (p : Spot) (w : IsSpot t p) where
 
   -- on a separator
   module _ (h : p .at < length t) (e : getD t (p .at) 0 ≡ 10) where
-    pub nl-kind : (kind : ℕ → ℕ) → 3 ≡ kindAt t kind (placeOf t p)
+    pub nl-kind : (kind : ℕ → ℕ) → end ≡ kindAt t kind (placeOf t p)
     nl-kind kind = kind-past kind (on-nl here h e)
 
     pub nl-forward : nextRow t (p .row) ≡ stepForward t (placeOf t p)
@@ -80,9 +74,9 @@ module _ (t : List ℕ) (p : Spot) (w : IsSpot t p) where
     unfolding kindAt
     char-kind kind = rw (lt-ltb col (rowLen t (p .row)) (on-char here h n), point-at here (on-char here h n))
 
-    pub char-inc : To (placeOf t (record { row = p .row; at = p .at + 1 })) ≡ inc t (placeOf t p)
+    pub char-inc : Reaches t (variant.To (record { row = p .row; at = p .at + 1 })) (inc t (placeOf t p))
     unfolding inc
-    char-inc = rw (lt-ltb col (rowLen t (p .row)) (on-char here h n)) (ap To (col-at next))
+    char-inc = record { place = rw (lt-ltb col (rowLen t (p .row)) (on-char here h n)) (ap To (col-at next)); inside = char-spot }
 
     pub last-forward : length t ≤ p .at + 1 → Nowhere ≡ stepForward t (placeOf t p)
     last-forward l = next-none t (p .row) (on-last next l) ∙ forward-past (omega (arith, on-end next l))
@@ -90,13 +84,13 @@ module _ (t : List ℕ) (p : Spot) (w : IsSpot t p) where
     pub row-forward : p .at + 1 < length t → getD t (p .at + 1) 0 ≡ 10 → nextRow t (p .row) ≡ stepForward t (placeOf t p)
     row-forward l e = forward-past (omega (arith, on-nl next l e))
 
-    pub char-forward : p .at + 1 < length t → (getD t (p .at + 1) 0 ≡ 10 → ⊥) → To (placeOf t (record { row = p .row; at = p .at + 1 })) ≡
-        stepForward t (placeOf t p)
+    pub char-forward : p .at + 1 < length t → (getD t (p .at + 1) 0 ≡ 10 → ⊥) →
+        Reaches t (variant.To (record { row = p .row; at = p .at + 1 })) (stepForward t (placeOf t p))
     unfolding stepForward
-    char-forward l m = rw (lt-ltb (col + 1) (rowLen t (p .row)) (on-char next l m)) (ap To (col-at next))
+    char-forward l m = record { place = rw (lt-ltb (col + 1) (rowLen t (p .row)) (on-char next l m)) (ap To (col-at next)); inside = char-spot }
 
   -- a place with a class other than white space is on a character
-  pub class-there : (kind : ℕ → ℕ) → (cls t kind (placeOf t p) ≡ 0 → ⊥) → (p .at < length t) × (getD t (p .at) 0 ≡ 10 → ⊥)
+  pub class-there : (kind : ℕ → ℕ) → (cls t kind (placeOf t p) ≡ space → ⊥) → (p .at < length t) × (getD t (p .at) 0 ≡ 10 → ⊥)
   class-there kind n = go (decLt (p .at) (length t)) (ℕ-discrete (getD t (p .at) 0) 10)
     where
       go : Dec (p .at < length t) → Dec (getD t (p .at) 0 ≡ 10) → (p .at < length t) × (getD t (p .at) 0 ≡ 10 → ⊥)

@@ -1,3 +1,4 @@
 pub mod Onto
 pub mod Ahead
 pub mod Back
+pub mod Telling

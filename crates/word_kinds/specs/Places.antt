@@ -10,10 +10,10 @@ use Rattle.chars.specs.White.{isWhite}
 use Rattle.text.specs.Text.{rowAt, rowLen, contentRows, position}
 use Rattle.text.specs.declared.Position.{Position}
 
--- the Rust's `Option<Position>`
-pub data Went : Type 0 where
-  To : Position → Went
-  Nowhere : Went
+-- where a step leads: the Rust's `Option<Position>`
+pub data Step : Type 0 where
+  To : Position → Step
+  Nowhere : Step
 
 -- the kinds: white space 0, word 1, punctuation 2 (`CharKind`), and 3 the row's end, where the Rust's `char_at` has no character
 abbrev pub space : ℕ
@@ -42,17 +42,17 @@ unfoldable pub onEmptyRow : List ℕ → Position → Bool
 onEmptyRow t p = eqb (p .col) 0 && eqb (rowLen t (p .row)) 0
 
 -- the first place of the next row with content
-unfoldable pub nextRow : List ℕ → ℕ → Went
+unfoldable pub nextRow : List ℕ → ℕ → Step
 nextRow t r = cond (ltb (r + 1) (contentRows t)) (To (position (r + 1) 0)) Nowhere
 
 -- `step_forward`, over the row's end; `inc` and `dec`, onto it
-unfoldable pub stepForward : List ℕ → Position → Went
+unfoldable pub stepForward : List ℕ → Position → Step
 stepForward t p = cond (ltb (p .col + 1) (rowLen t (p .row))) (To (position (p .row) (p .col + 1))) (nextRow t (p .row))
 
-unfoldable pub inc : List ℕ → Position → Went
+unfoldable pub inc : List ℕ → Position → Step
 inc t p = cond (ltb (p .col) (rowLen t (p .row))) (To (position (p .row) (p .col + 1))) (nextRow t (p .row))
 
-unfoldable pub dec : List ℕ → Position → Went
+unfoldable pub dec : List ℕ → Position → Step
 dec t p =
     cond (ltb 0 (p .col)) (To (position (p .row) (p .col - 1)))
     (cond (ltb 0 (p .row)) (To (position (p .row - 1) (rowLen t (p .row - 1)))) Nowhere)
@@ -62,6 +62,6 @@ unfoldable pub endOfBuffer : List ℕ → Position
 endOfBuffer t = position (contentRows t - 1) (rowLen t (contentRows t - 1))
 
 -- on from a step, or else
-abbrev pub further : {A : Type 0} → Went → (Position → A) → A → A
+abbrev pub further : {A : Type 0} → Step → (Position → A) → A → A
 further (To q) f z = f q
 further Nowhere f z = z

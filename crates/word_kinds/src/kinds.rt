@@ -1,6 +1,9 @@
-// The kind of a character, by the bounds or the flags of a keyword list and the letters' ranges, all
-// lent: `is_word` and `char_kind` of motions.rs.
+// The kind of a character, by the bounds or the flags of a keyword list and the letters' ranges,
+// all lent: `is_word` and `char_kind` of motions.rs.
+use crate::MARK;
+use crate::SPACE;
 use crate::Setting;
+use crate::WORD;
 ghost use mathlib.Core.Path.{_≡_};
 ghost use Rattle.word_kinds.specs.Lent.{wordBy, flagged, kindBy, Lends};
 
@@ -43,19 +46,19 @@ fn is_word(bounds: &[u32; 256], starts: &[u32], lengths: &[u16], s: Setting, x: 
     keywords::in_bounds(bounds, s.pairs, x)
 }
 
-// The kind of a character: 0 white space, 1 word, 2 punctuation.
+// The kind of a character: `SPACE`, `WORD` or `MARK`.
 pub fn char_kind(bounds: &[u32; 256], starts: &[u32], lengths: &[u16], s: Setting, x: u32) -> u32
     requires { ⌜ Lends (now bounds) (now starts) (now lengths) s x ⌝ }
     ensures { λ r. ⌜ r ≡ kindBy (now (bounds .entry)) s x ⌝ }
 {
     if chars::is_white(x) {
-        return 0;
+        return SPACE;
     }
     if s.big {
-        return 1;
+        return WORD;
     }
     if is_word(bounds, starts, lengths, s, x) {
-        return 1;
+        return WORD;
     }
-    2
+    MARK
 }

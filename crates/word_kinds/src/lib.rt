@@ -3,6 +3,18 @@
 mod kinds;
 pub mod near;
 
+// The kind of white space.
+pub const SPACE: u32 = 0;
+
+// The kind of a word's characters.
+pub const WORD: u32 = 1;
+
+// The kind of punctuation.
+pub const MARK: u32 = 2;
+
+// The kind at a row's end, where there is no character.
+pub const END: u32 = 3;
+
 // A place of the text: its row, and its offset, which is a separator's where the place is the row's
 // end.
 pub struct Spot {
@@ -10,9 +22,9 @@ pub struct Spot {
     pub at: usize,
 }
 
-// What a walk knows of the text and of the kinds: rows and rows with content, whether the bounds are
-// a flag for each code up to 255, and else how many pairs of bounds the keyword list has, whether
-// letters are in it (by flags, those above 255), and whether words are big.
+// What a walk knows of the text and of the kinds: rows and rows with content, whether the bounds
+// are a flag for each code up to 255, and else how many pairs of bounds the keyword list has,
+// whether letters are in it (by flags, those above 255), and whether words are big.
 pub struct Setting {
     pub rows: usize,
     pub content: usize,
@@ -22,8 +34,8 @@ pub struct Setting {
     pub big: bool,
 }
 
-// A place, where there is one.
+// Where a step leads: to a place, where there is one.
 pub enum Step {
-    At(Spot),
-    NoStep,
+    To(Spot),
+    Nowhere,
 }

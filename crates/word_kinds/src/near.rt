@@ -1,5 +1,7 @@
 // Steps from place to place, and the kind at a place: `step_forward`, `inc`, `dec`, `cls` and their
 // like in motions.rs, "Internals".
+use crate::END;
+use crate::SPACE;
 use crate::Setting;
 use crate::Spot;
 use crate::Step;
@@ -11,10 +13,10 @@ ghost use lib.ListN.{length};
 ghost use Rattle.text.specs.Text.{contentRows};
 ghost use Rattle.word_kinds.specs.Places.{kindAt, cls, onEmptyRow, nextRow, stepForward};
 ghost use Rattle.word_kinds.specs.Places.{inc, dec, endOfBuffer};
-ghost use Rattle.word_kinds.specs.Spots.{placeOf, IsSpot, wentOf, StepIn, Ends};
+ghost use Rattle.word_kinds.specs.Spots.{placeOf, IsSpot, Lands, Steps, Ends};
 ghost use Rattle.word_kinds.specs.Lent.{kindBy, Bounds};
 
-// The kind of the character at a place, 3 at the row's end.
+// The kind of the character at a place, `END` at the row's end.
 pub fn kind_at(
     t: &[u32],
     bounds: &[u32; 256],
@@ -30,11 +32,11 @@ pub fn kind_at(
 {
     let at = p.at;
     if at >= t.len() {
-        return 3;
+        return END;
     }
     let x = t[at];
     if x == 10 {
-        return 3;
+        return END;
     }
     kinds::char_kind(bounds, starts, lengths, s, x)
 }
@@ -54,7 +56,7 @@ pub fn cls(
         (placeOf (now (t .entry)) p) ⌝ }
 {
     let k = kind_at(t, bounds, starts, lengths, s, p);
-    if k == 3 { 0 } else { k }
+    if k == END { SPACE } else { k }
 }
 
 // Whether a place is the first of its row.
@@ -89,63 +91,60 @@ pub fn on_empty_row(t: &[u32], p: Spot) -> bool
 fn next_row(t: &[u32], row: usize, end: usize) -> Step
     requires { ⌜ Ends (now t) row end ⌝ }
     ensures { λ r.
-        ⌜ (wentOf (now (t .entry)) r ≡
-        nextRow (now (t .entry)) row) ×
-        StepIn (now (t .entry)) (end + 1) (length (now (t .entry)) + 1) r ⌝ }
+        ⌜ Steps (now (t .entry)) (end + 1) (length (now (t .entry)) + 1) r
+        (nextRow (now (t .entry)) row) ⌝ }
 {
     let at = end + 1;
     if at < t.len() {
-        return Step::At(Spot {
+        return Step::To(Spot {
             row: row + 1,
             at: at,
         });
     }
-    Step::NoStep
+    Step::Nowhere
 }
 
 // One place on, over the row's end.
 pub fn step_forward(t: &[u32], p: Spot) -> Step
     requires { ⌜ IsSpot (now t) p ⌝ }
     ensures { λ r.
-        ⌜ (wentOf (now (t .entry)) r ≡
-        stepForward (now (t .entry)) (placeOf (now (t .entry)) p)) ×
-        StepIn (now (t .entry)) (p .at + 1) (length (now (t .entry)) + 1) r ⌝ }
+        ⌜ Steps (now (t .entry)) (p .at + 1) (length (now (t .entry)) + 1) r
+        (stepForward (now (t .entry)) (placeOf (now (t .entry)) p)) ⌝ }
 {
     let at = p.at;
     let row = p.row;
     if at >= t.len() {
-        return Step::NoStep;
+        return Step::Nowhere;
     }
     if t[at] == 10 {
         return next_row(t, row, at);
     }
     let next = at + 1;
     if next >= t.len() {
-        return Step::NoStep;
+        return Step::Nowhere;
     }
     if t[next] == 10 {
         return next_row(t, row, next);
     }
-    Step::At(Spot { row: row, at: next })
+    Step::To(Spot { row: row, at: next })
 }
 
 // One place on, the row's end among them.
 pub fn inc(t: &[u32], p: Spot) -> Step
     requires { ⌜ IsSpot (now t) p ⌝ }
     ensures { λ r.
-        ⌜ (wentOf (now (t .entry)) r ≡
-        inc (now (t .entry)) (placeOf (now (t .entry)) p)) ×
-        StepIn (now (t .entry)) (p .at + 1) (length (now (t .entry)) + 1) r ⌝ }
+        ⌜ Steps (now (t .entry)) (p .at + 1) (length (now (t .entry)) + 1) r
+        (inc (now (t .entry)) (placeOf (now (t .entry)) p)) ⌝ }
 {
     let at = p.at;
     let row = p.row;
     if at >= t.len() {
-        return Step::NoStep;
+        return Step::Nowhere;
     }
     if t[at] == 10 {
         return next_row(t, row, at);
     }
-    Step::At(Spot {
+    Step::To(Spot {
         row: row,
         at: at + 1,
     })
@@ -155,31 +154,28 @@ pub fn inc(t: &[u32], p: Spot) -> Step
 pub fn dec(t: &[u32], p: Spot) -> Step
     requires { ⌜ IsSpot (now t) p ⌝ }
     ensures { λ r.
-        ⌜ (wentOf (now (t .entry)) r ≡ dec (now (t .entry)) (placeOf (now (t .entry)) p)) ×
-        StepIn (now (t .entry)) 0 (p .at) r ⌝ }
+        ⌜ Steps (now (t .entry)) 0 (p .at) r
+        (dec (now (t .entry)) (placeOf (now (t .entry)) p)) ⌝ }
 {
     let at = p.at;
     let row = p.row;
     if at == 0 {
-        return Step::NoStep;
+        return Step::Nowhere;
     }
     let prev = at - 1;
     if t[prev] == 10 {
-        return Step::At(Spot {
+        return Step::To(Spot {
             row: row - 1,
             at: prev,
         });
     }
-    Step::At(Spot { row: row, at: prev })
+    Step::To(Spot { row: row, at: prev })
 }
 
 // The end of the last row with content.
 pub fn end_of_buffer(t: &[u32], content: usize) -> Spot
     requires { ⌜ content ≡ contentRows (now t) ⌝ }
-    ensures { λ r.
-        ⌜ (placeOf (now (t .entry)) r ≡
-        endOfBuffer (now (t .entry))) ×
-        IsSpot (now (t .entry)) r ⌝ }
+    ensures { λ r. ⌜ Lands (now (t .entry)) r (endOfBuffer (now (t .entry))) ⌝ }
 {
     let n = t.len();
     if n == 0 {

@@ -1,40 +1,32 @@
 -- The counter of a loop is never used up: each step goes one way, so every counter above the text's length leads to the same end, and a loop is its test,
 -- one step and the loop again. Assumes nothing.
-use mathlib.Core.Path.{_≡_, refl, sym}
-use mathlib.Core.List.{List}
-use mathlib.Core.Bool.{Bool, true, false, cond, _&&_, _||_, not}
-use Prim.Native.Nat.{ℕ, zero, suc, _+_, _-_, _≤_, _<_}
-use native.Mathlib.Omega.{arith}
-use lib.Dec.{eqb, ltb}
-use lib.ListN.{length}
-use borrow.Author.Tests.{ltb-true}
+use Rattle.lists.proofs.Kit.{_≡_, refl, sym, List, Bool, true, false, cond, ℕ, zero, suc, _+_, _-_, _≤_, _<_, arith, length, ltb, ltb-true}
 use Rattle.text.specs.Text.{rowLen, contentRows, position}
 use Rattle.text.specs.Offsets.{rowStart}
 use Rattle.text.specs.declared.Position.{Position}
 use Rattle.text.proofs.Parts.{row-fits, next-start}
 use Rattle.text.proofs.Before.{start-after}
-use Rattle.word_kinds.specs.Places.{Went, To, Nowhere, kindAt, cls, onEmptyRow, nextRow, stepForward, dec, further}
-use Rattle.word_loops.specs.Walks.{Onto, Stuck, walk, skip, leave, goesOn, run, back}
+use Rattle.word_kinds.specs.Places.{Step, To, Nowhere, nextRow, stepForward, dec, further}
+use Rattle.word_loops.specs.Walks.{Onto, Stuck, walk, ofKinds, skip, inRow, leave, goesOn, run, ofClass, back}
 use Rattle.word_loops.proofs.Within.{In, forward-in, dec-in}
 
 -- a step that goes one way: from a place of the text to one, with fewer places ahead
-pub record OneWay (t : List ℕ) (step : Position → Went) : Type 0 where
+pub record OneWay (t : List ℕ) (step : Position → Step) : Type 0 where
   pub ahead : Position → ℕ
   pub few : (p : Position) → In t p → ahead p ≤ length t
   pub nearer : (p q : Position) → In t p → step p ≡ To q → In t q × (ahead q < ahead p)
 
-module _ {t : List ℕ} {step : Position → Went} (way : OneWay t step) (test : Position → Bool) where
+module _ {t : List ℕ} {step : Position → Step} (way : OneWay t step) (test : Position → Bool) where
   -- counters above the places ahead
   same-end : (n m : ℕ) (p : Position) → In t p → way .ahead p < n → way .ahead p < m → walk test step n p ≡ walk test step m p
   unfolding walk
   same-end zero m p i h l = absurd (omega arith)
   same-end (suc n) zero p i h l = absurd (omega arith)
-  same-end (suc n) (suc m) p i h l =
-      go (test p) (step p) (λ q e.
+  same-end (suc n) (suc m) p i h l = go (test p) (step p) (λ q e.
       let by-nearer = way .nearer p q i e in
       same-end n m q (by-nearer .0) (omega (arith, by-nearer .1)) (omega (arith, by-nearer .1)))
     where
-      go : (b : Bool) (w : Went) → ((q : Position) → w ≡ To q → walk test step n q ≡ walk test step m q) →
+      go : (b : Bool) (w : Step) → ((q : Position) → w ≡ To q → walk test step n q ≡ walk test step m q) →
           cond b (further w (walk test step n) (Stuck p)) (Onto p) ≡ cond b (further w (walk test step m) (Stuck p)) (Onto p)
       go true (To q) ih = ih q refl
       go true Nowhere ih = refl
@@ -57,11 +49,11 @@ module _ (t : List ℕ) where
   offset-few : (p : Position) → In t p → offset p ≤ length t
   offset-few p i = omega (arith, row-fits t (p .row) (i .in-row), i .in-col)
 
-  abbrev Later : Position → Went → Type 0
+  abbrev Later : Position → Step → Type 0
   Later p (To q) = offset p < offset q
   Later p Nowhere = Unit {0}
 
-  abbrev Sooner : Position → Went → Type 0
+  abbrev Sooner : Position → Step → Type 0
   Sooner p (To q) = offset q < offset p
   Sooner p Nowhere = Unit {0}
 
@@ -107,14 +99,14 @@ module _ (t : List ℕ) where
 
   -- the four loops: any counter above the text's length
   module _ (kind : ℕ → ℕ) (n : ℕ) (p : Position) (i : In t p) (h : length t < n) where
-    pub skip-any : (a b : ℕ) → walk (λ q. eqb (kindAt t kind q) a || eqb (kindAt t kind q) b) (stepForward t) n p ≡ skip t kind a b p
+    pub skip-any : (a b : ℕ) → walk (ofKinds t kind a b) (stepForward t) n p ≡ skip t kind a b p
     skip-any a b = counter-unused forward-way _ n p i h
 
-    pub leave-any : (k : ℕ) → walk (λ q. eqb (kindAt t kind q) k && eqb (q .row) (p .row)) (stepForward t) n p ≡ leave t kind k p
+    pub leave-any : (k : ℕ) → walk (inRow t kind k (p .row)) (stepForward t) n p ≡ leave t kind k p
     leave-any k = counter-unused forward-way _ n p i h
 
     pub run-any : (k : ℕ) → walk (goesOn t kind k) (stepForward t) n p ≡ run t kind k p
     run-any k = counter-unused forward-way _ n p i h
 
-    pub back-any : (k : ℕ) → walk (λ q. eqb (cls t kind q) k && not (onEmptyRow t q)) (dec t) n p ≡ back t kind k p
+    pub back-any : (k : ℕ) → walk (ofClass t kind k) (dec t) n p ≡ back t kind k p
     back-any k = counter-unused dec-way _ n p i h

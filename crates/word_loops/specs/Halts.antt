@@ -2,16 +2,20 @@
 -- Definitions only. Assumes nothing.
 use Prim.Native.Nat.{ℕ}
 use mathlib.Core.List.{List}
-use Rattle.word_kinds.specs.Spots.{placeOf, IsSpot}
+use Rattle.word_kinds.specs.Spots.{placeOf, IsSpot, Tells}
 use Rattle.word_loops.specs.Walks.{Halt, Onto, Stuck}
-use Rattle.word_loops.specs.declared.Halted.{Halted}
-use Rattle.word_loops.specs.declared.Halted.the-variants.{Done, Stood}
+use Rattle.word_loops.specs.declared.Halt as code
+use Rattle.word_loops.specs.declared.Halt.the-variants as variant
 
-abbrev pub haltOf : List ℕ → Halted → Halt
-haltOf t (Done q) = Onto (placeOf t q)
-haltOf t (Stood q) = Stuck (placeOf t q)
+abbrev pub haltOf : List ℕ → code.Halt → Halt
+haltOf t (variant.Onto q) = Onto (placeOf t q)
+haltOf t (variant.Stuck q) = Stuck (placeOf t q)
 
 -- its spot is one of the text
-abbrev pub HaltIn : List ℕ → Halted → Type 0
-HaltIn t (Done q) = IsSpot t q
-HaltIn t (Stood q) = IsSpot t q
+abbrev pub HaltIn : List ℕ → code.Halt → Type 0
+HaltIn t (variant.Onto q) = IsSpot t q
+HaltIn t (variant.Stuck q) = IsSpot t q
+
+-- the loop ended so, at a spot of the text
+abbrev pub Stops : List ℕ → code.Halt → Halt → Type 0
+Stops t = Tells (haltOf t) (HaltIn t)

@@ -5,7 +5,7 @@ pub mod walks;
 use word_kinds::Spot;
 
 // Where a loop ended: at the first place that fails its test, or at one that has no step.
-pub enum Halted {
-    Done(Spot),
-    Stood(Spot),
+pub enum Halt {
+    Onto(Spot),
+    Stuck(Spot),
 }

@@ -1,13 +1,12 @@
 // The loops of the word motions: each goes from place to place while its test holds. motions.rs,
 // "Internals".
-use crate::Halted;
+use crate::Halt;
 use word_kinds::Setting;
 use word_kinds::Spot;
 use word_kinds::Step;
 use word_kinds::near;
-ghost use mathlib.Core.Path.{_≡_};
 ghost use Rattle.word_loops.specs.Walks.{skip, leave, run, back};
-ghost use Rattle.word_loops.specs.Halts.{haltOf, HaltIn};
+ghost use Rattle.word_loops.specs.Halts.{Stops};
 ghost use Rattle.word_kinds.specs.Spots.{placeOf, IsSpot};
 ghost use Rattle.word_kinds.specs.Lent.{kindBy, Bounds};
 
@@ -21,25 +20,25 @@ pub fn skip(
     a: u32,
     b: u32,
     p: Spot,
-) -> Halted
+) -> Halt
     requires { ⌜ Bounds (now t) (now bounds) (now starts) (now lengths) s × IsSpot (now t) p ⌝ }
     ensures { λ r.
-        ⌜ (haltOf (now (t .entry)) r ≡
-        skip (now (t .entry)) (kindBy (now (bounds .entry)) s) a b (placeOf (now (t .entry)) p)) ×
-        HaltIn (now (t .entry)) r ⌝ }
+        ⌜ Stops (now (t .entry)) r
+        (skip (now (t .entry)) (kindBy (now (bounds .entry)) s) a b
+        (placeOf (now (t .entry)) p)) ⌝ }
 {
     let mut cur = p;
     loop {
         let k = near::kind_at(t, bounds, starts, lengths, s, cur);
         if !((k == a) | (k == b)) {
-            return Halted::Done(cur);
+            return Halt::Onto(cur);
         }
         match near::step_forward(t, cur) {
-            Step::At(q) => {
+            Step::To(q) => {
                 cur = q;
             }
-            Step::NoStep => {
-                return Halted::Stood(cur);
+            Step::Nowhere => {
+                return Halt::Stuck(cur);
             }
         }
     }
@@ -54,26 +53,26 @@ pub fn leave(
     s: Setting,
     kind: u32,
     p: Spot,
-) -> Halted
+) -> Halt
     requires { ⌜ Bounds (now t) (now bounds) (now starts) (now lengths) s × IsSpot (now t) p ⌝ }
     ensures { λ r.
-        ⌜ (haltOf (now (t .entry)) r ≡
-        leave (now (t .entry)) (kindBy (now (bounds .entry)) s) kind (placeOf (now (t .entry)) p)) ×
-        HaltIn (now (t .entry)) r ⌝ }
+        ⌜ Stops (now (t .entry)) r
+        (leave (now (t .entry)) (kindBy (now (bounds .entry)) s) kind
+        (placeOf (now (t .entry)) p)) ⌝ }
 {
     let row = p.row;
     let mut cur = p;
     loop {
         let k = near::kind_at(t, bounds, starts, lengths, s, cur);
         if !((k == kind) & (cur.row == row)) {
-            return Halted::Done(cur);
+            return Halt::Onto(cur);
         }
         match near::step_forward(t, cur) {
-            Step::At(q) => {
+            Step::To(q) => {
                 cur = q;
             }
-            Step::NoStep => {
-                return Halted::Stood(cur);
+            Step::Nowhere => {
+                return Halt::Stuck(cur);
             }
         }
     }
@@ -88,25 +87,25 @@ pub fn run(
     s: Setting,
     kind: u32,
     p: Spot,
-) -> Halted
+) -> Halt
     requires { ⌜ Bounds (now t) (now bounds) (now starts) (now lengths) s × IsSpot (now t) p ⌝ }
     ensures { λ r.
-        ⌜ (haltOf (now (t .entry)) r ≡
-        run (now (t .entry)) (kindBy (now (bounds .entry)) s) kind (placeOf (now (t .entry)) p)) ×
-        HaltIn (now (t .entry)) r ⌝ }
+        ⌜ Stops (now (t .entry)) r
+        (run (now (t .entry)) (kindBy (now (bounds .entry)) s) kind
+        (placeOf (now (t .entry)) p)) ⌝ }
 {
     let mut cur = p;
     loop {
         match near::step_forward(t, cur) {
-            Step::At(q) => {
+            Step::To(q) => {
                 let k = near::kind_at(t, bounds, starts, lengths, s, q);
                 if !((q.row == cur.row) & (k == kind)) {
-                    return Halted::Done(cur);
+                    return Halt::Onto(cur);
                 }
                 cur = q;
             }
-            Step::NoStep => {
-                return Halted::Done(cur);
+            Step::Nowhere => {
+                return Halt::Onto(cur);
             }
         }
     }
@@ -121,25 +120,25 @@ pub fn back(
     s: Setting,
     class: u32,
     p: Spot,
-) -> Halted
+) -> Halt
     requires { ⌜ Bounds (now t) (now bounds) (now starts) (now lengths) s × IsSpot (now t) p ⌝ }
     ensures { λ r.
-        ⌜ (haltOf (now (t .entry)) r ≡
-        back (now (t .entry)) (kindBy (now (bounds .entry)) s) class (placeOf (now (t .entry)) p)) ×
-        HaltIn (now (t .entry)) r ⌝ }
+        ⌜ Stops (now (t .entry)) r
+        (back (now (t .entry)) (kindBy (now (bounds .entry)) s) class
+        (placeOf (now (t .entry)) p)) ⌝ }
 {
     let mut cur = p;
     loop {
         let k = near::cls(t, bounds, starts, lengths, s, cur);
         if !((k == class) & !near::on_empty_row(t, cur)) {
-            return Halted::Done(cur);
+            return Halt::Onto(cur);
         }
         match near::dec(t, cur) {
-            Step::At(q) => {
+            Step::To(q) => {
                 cur = q;
             }
-            Step::NoStep => {
-                return Halted::Stood(cur);
+            Step::Nowhere => {
+                return Halt::Stuck(cur);
             }
         }
     }

@@ -5,8 +5,8 @@ use mathlib.Core.List.{List}
 use mathlib.Core.Bool.{Bool, cond, _&&_, not}
 use lib.ListN.{length, getD}
 use lib.Dec.{eqb, ltb, leb}
-use Rattle.word_places.specs.declared.Reach.{Reach}
-use Rattle.word_places.specs.declared.Reach.the-variants.{At, NoStep}
+use Rattle.word_places.specs.declared.Step.{Step}
+use Rattle.word_places.specs.declared.Step.the-variants.{To, Nowhere}
 
 -- the class of a place; behind the slice there are row ends alone
 abbrev pub classAt : List ℕ → ℕ → ℕ
@@ -38,15 +38,15 @@ textEnd c = length c - 1
 abbrev pub ahead : List ℕ → ℕ → ℕ
 ahead c i = cond (not (isEnd c i) && isEnd c (i + 1)) (i + 2) (i + 1)
 
-unfoldable pub forward : List ℕ → ℕ → Reach
-forward c i = cond (ltb (ahead c i) (textEnd c)) (At (ahead c i)) NoStep
+unfoldable pub forward : List ℕ → ℕ → Step
+forward c i = cond (ltb (ahead c i) (textEnd c)) (To (ahead c i)) Nowhere
 
 -- one place back
-abbrev pub backward : ℕ → Reach
-backward zero = NoStep
-backward (suc i) = At i
+abbrev pub backward : ℕ → Step
+backward zero = Nowhere
+backward (suc i) = To i
 
 -- on from a step, or else
-abbrev pub further : {A : Type 0} → Reach → (ℕ → A) → A → A
-further (At j) f z = f j
-further NoStep f z = z
+abbrev pub further : {A : Type 0} → Step → (ℕ → A) → A → A
+further (To j) f z = f j
+further Nowhere f z = z

@@ -16,13 +16,13 @@ pub use walks::over;
 pub use walks::run_end;
 
 // A place, where there is one to step to.
-pub enum Reach {
-    At(usize),
-    NoStep,
+pub enum Step {
+    To(usize),
+    Nowhere,
 }
 
 // Where a walk ended: at the first place that fails its test, or at one that has no step.
-pub enum Halted {
-    Done(usize),
-    Stood(usize),
+pub enum Halt {
+    Onto(usize),
+    Stuck(usize),
 }

@@ -1,5 +1,5 @@
 // What stands at a place, and the next place.
-use crate::Reach;
+use crate::Step;
 use word_classes::EMPTY_ROW;
 use word_classes::MARK;
 use word_classes::ROW_END;
@@ -65,23 +65,23 @@ pub fn text_end(c: &[u8]) -> usize
 }
 
 // A place, where it lies before the text's end.
-fn before(end: usize, i: usize) -> Reach
-    ensures { λ r. ⌜ r ≡ cond (ltb i end) (Reach.At i) Reach.NoStep ⌝ }
+fn before(end: usize, i: usize) -> Step
+    ensures { λ r. ⌜ r ≡ cond (ltb i end) (Step.To i) Step.Nowhere ⌝ }
 {
     if i < end {
-        return Reach::At(i);
+        return Step::To(i);
     }
-    Reach::NoStep
+    Step::Nowhere
 }
 
 // One place on: from 0 to 1. From a row's last character it goes over the row's end, to the first
 // place of the next row. The text's end is never stepped on, so from 7 there is no step.
-pub fn forward(c: &[u8], i: usize) -> Reach
+pub fn forward(c: &[u8], i: usize) -> Step
     ensures { λ r. ⌜ r ≡ forward (now (c .entry)) i ⌝ }
 {
     let end = text_end(c);
     if i >= end {
-        return Reach::NoStep;
+        return Step::Nowhere;
     }
     if !is_end(c, i) & is_end(c, i + 1) {
         return before(end, i + 2);

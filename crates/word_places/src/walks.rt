@@ -1,6 +1,6 @@
 // The three walks: on over a kind, to the end of a run, and back over a kind.
-use crate::Halted;
-use crate::Reach;
+use crate::Halt;
+use crate::Step;
 use crate::places::class_at;
 use crate::places::forward;
 use crate::places::kind;
@@ -11,21 +11,21 @@ ghost use mathlib.Core.Path.{_≡_};
 ghost use Rattle.word_places.specs.Walks.{over, runEnd, back};
 
 // On over the places of the kinds a and b, also into the next rows: over spaces from 2 to 3.
-pub fn over(c: &[u8], big: bool, a: u8, b: u8, i: usize) -> Halted
+pub fn over(c: &[u8], big: bool, a: u8, b: u8, i: usize) -> Halt
     ensures { λ r. ⌜ r ≡ over (now (c .entry)) big a b i ⌝ }
 {
     let mut cur = i;
     loop {
         let k = kind(c, big, cur);
         if !((k == a) | (k == b)) {
-            return Halted::Done(cur);
+            return Halt::Onto(cur);
         }
         match forward(c, cur) {
-            Reach::At(j) => {
+            Step::To(j) => {
                 cur = j;
             }
-            Reach::NoStep => {
-                return Halted::Stood(cur);
+            Step::Nowhere => {
+                return Halt::Stuck(cur);
             }
         }
     }
@@ -50,16 +50,16 @@ pub fn run_end(c: &[u8], big: bool, i: usize) -> usize
 
 // Back over the places of a kind, where a row's end counts as a space: over spaces from 2 to 1. An
 // empty row ends it, and the text's first place.
-pub fn back(c: &[u8], big: bool, k: u8, i: usize) -> Halted
+pub fn back(c: &[u8], big: bool, k: u8, i: usize) -> Halt
     ensures { λ r. ⌜ r ≡ back (now (c .entry)) big k i ⌝ }
 {
     let mut cur = i;
     loop {
         if !((soft(c, big, cur) == k) & (class_at(c, cur) != EMPTY_ROW)) {
-            return Halted::Done(cur);
+            return Halt::Onto(cur);
         }
         if cur == 0 {
-            return Halted::Stood(cur);
+            return Halt::Stuck(cur);
         }
         cur -= 1;
     }

@@ -1,13 +1,9 @@
 -- Counts of a word motion add: so many rounds and then so many are as many as both, for each of the four motions. Assumes nothing.
-use mathlib.Core.Path.{_≡_, refl, sym, _∙_}
-use mathlib.Core.List.{List}
-use mathlib.Core.Bool.{Bool, true, false, cond, _&&_}
-use Prim.Native.Nat.{ℕ, zero, suc, _+_, _-_, _<_, max}
-use native.Mathlib.Omega.{arith}
+use Rattle.lists.proofs.Kit.{_≡_, refl, sym, _∙_, List, Bool, true, false, cond, _&&_, ℕ, zero, suc, _+_, _-_, _<_, max, arith}
 use Rattle.text.specs.Text.{rowCount}
 use Rattle.text.specs.declared.Position.{Position}
 use Rattle.folds.specs.Folds.{foldRefusal}
-use Rattle.word_kinds.specs.Places.{Went, To, Nowhere}
+use Rattle.word_kinds.specs.Places.{Step, To, Nowhere}
 use Rattle.word_edges.specs.Words.{nextWordStart, prevWordStart, nextWordEnd, prevWordEnd, atWordEnd}
 use Rattle.word_rounds.specs.Rounds.{Turn, On, Off, turn, jumpFwd, jumpBack, roundOf, after, counted, wordMotion}
 use Rattle.word_rounds.specs.declared.Motion.{Motion}
@@ -24,7 +20,7 @@ module _ (t folds : List ℕ) (kind : ℕ → ℕ) (big : Bool) (good : foldRefu
   leap End p = jumpFwd t folds p
   leap EndBack p = p
 
-  word : Motion → Position → Went
+  word : Motion → Position → Step
   word Fwd p = nextWordStart t kind big p
   word Back p = prevWordStart t kind p
   word End p = nextWordEnd t kind p
@@ -48,7 +44,7 @@ module _ (t folds : List ℕ) (kind : ℕ → ℕ) (big : Bool) (good : foldRefu
   last-again : (p q : Position) → roundOf t folds kind big m false p ≡ Off q → roundOf t folds kind big m false q ≡ Off q
   last-again p q e = go (word m (leap m p)) refl (sym (round-leap m p) ∙ e)
     where
-      go : (w : Went) → word m (leap m p) ≡ w → turn (leap m p) w ≡ Off q → roundOf t folds kind big m false q ≡ Off q
+      go : (w : Step) → word m (leap m p) ≡ w → turn (leap m p) w ≡ Off q → roundOf t folds kind big m false q ≡ Off q
       go (To r) h f = let never : _≡_ {A = ℕ} 0 1 = cc in absurd (omega arith)
       go Nowhere h f =
           let leap-is : leap m p ≡ q = cc in
@@ -77,8 +73,7 @@ module _ (t folds : List ℕ) (kind : ℕ → ℕ) (big : Bool) (good : foldRefu
   motion-rounds (suc b) p h = let one : max (suc b) 1 - 1 ≡ b = omega arith in rw one
 
   -- `stop` in the first call alone
-  pub word-counts-add :
-      (stop : Bool) (a b : ℕ) (p : Position) → 0 < a → 0 < b →
+  pub word-counts-add : (stop : Bool) (a b : ℕ) (p : Position) → 0 < a → 0 < b →
       wordMotion t folds kind big m stop (a + b) p ≡ wordMotion t folds kind big m false b (wordMotion t folds kind big m stop a p)
   unfolding wordMotion
   word-counts-add stop a b p h k = go (roundOf t folds kind big m stop p) refl ∙ sym (motion-rounds b _ k)
@@ -86,8 +81,7 @@ module _ (t folds : List ℕ) (kind : ℕ → ℕ) (big : Bool) (good : foldRefu
       all : max (a + b) 1 - 1 ≡ (max a 1 - 1) + b
       all = omega arith
 
-      go : (r : Turn) → roundOf t folds kind big m stop p ≡ r →
-          after r (counted (roundOf t folds kind big m false) (max (a + b) 1 - 1)) ≡
+      go : (r : Turn) → roundOf t folds kind big m stop p ≡ r → after r (counted (roundOf t folds kind big m false) (max (a + b) 1 - 1)) ≡
           counted (roundOf t folds kind big m false) b (after r (counted (roundOf t folds kind big m false) (max a 1 - 1)))
       go (On q) e = rw all (counted-add (roundOf t folds kind big m false) last-again (max a 1 - 1) b q)
       go (Off q) e = sym (counted-off (roundOf t folds kind big m false) b q q k (last-again p q (last-either stop p q e)))

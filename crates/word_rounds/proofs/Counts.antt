@@ -1,10 +1,6 @@
 -- Counts of rounds: they add where a round that ends the motion ends it again, and a round that changes nothing ends it.
 -- Assumes nothing.
-use mathlib.Core.Path.{_≡_, refl, ap, sym, _∙_}
-use mathlib.Core.List.{List}
-use mathlib.Core.Bool.{Bool, false}
-use Prim.Native.Nat.{ℕ, zero, suc, _+_, _-_, _<_, max}
-use native.Mathlib.Omega.{arith}
+use Rattle.lists.proofs.Kit.{_≡_, refl, ap, sym, _∙_, List, Bool, false, ℕ, zero, suc, _+_, _-_, _<_, max, arith}
 use Rattle.lists.specs.Rounds.{rounds}
 use Rattle.lists.proofs.Rounds.{rounds-still, rounds-add}
 use Rattle.text.specs.declared.Position.{Position}
@@ -55,10 +51,7 @@ module _ (round : Position → Turn) where
     pub counted-add : (m n : ℕ) (p : Position) → counted round (m + n) p ≡ counted round n (counted round m p)
     counted-add m n p =
         let step : Position → Position = λ q. ends (round q) in
-        counted-rounds (m + n) p
-        ∙ rounds-add step m n p
-        ∙ ap (rounds step n) (sym (counted-rounds m p))
-        ∙ sym (counted-rounds n (counted round m p))
+        counted-rounds (m + n) p ∙ rounds-add step m n p ∙ ap (rounds step n) (sym (counted-rounds m p)) ∙ sym (counted-rounds n (counted round m p))
 
 -- the first round, and the rest
 module _ (t folds : List ℕ) (kind : ℕ → ℕ) (big : Bool) (m : Motion) (stop : Bool) (count : ℕ) (p : Position) {q : Position} where

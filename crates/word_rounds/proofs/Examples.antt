@@ -1,9 +1,5 @@
 -- Worked examples of the definitions, as theorems: each holds by computation. Slips that document 01 names. Assumes nothing.
-use mathlib.Core.Path.{_≡_, refl}
-use mathlib.Core.List.{[], _∷_}
-use mathlib.Core.Bool.{true, false, cond}
-use Prim.Native.Nat.{ℕ}
-use lib.Dec.{eqb}
+use Rattle.lists.proofs.Kit.{_≡_, refl, [], _∷_, true, false, cond, ℕ, eqb}
 use Rattle.text.specs.Text.{onFirst, rows, position}
 use Rattle.folds.specs.Folds.{anyFold, visibleFrom}
 use Rattle.word_rounds.specs.declared.Motion.the-variants.{Fwd, End}

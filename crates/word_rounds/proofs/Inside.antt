@@ -1,17 +1,13 @@
 -- From a place of the text every round of the definitions leads to a place of the text, and so does a word motion.
 -- Assumes nothing.
-use mathlib.Core.Path.{_≡_, refl}
-use mathlib.Core.List.{List}
-use mathlib.Core.Bool.{Bool, true, false, cond, _&&_}
-use Prim.Native.Nat.{ℕ, zero, suc, _-_, _<_, max}
-use native.Mathlib.Omega.{arith}
+use Rattle.lists.proofs.Kit.{_≡_, refl, List, Bool, true, false, cond, _&&_, ℕ, zero, suc, _-_, _<_, max, arith}
 use Rattle.text.specs.Text.{rowCount, contentRows}
 use Rattle.text.specs.declared.Position.{Position}
 use Rattle.folds.specs.declared.Span.{Span}
 use Rattle.folds.specs.declared.Span.the-variants.{Of, NoSpan}
 use Rattle.text.proofs.Content.{content-near}
-use Rattle.word_kinds.specs.Places.{Went, To, Nowhere}
-use Rattle.word_loops.proofs.Within.{In, WentTo}
+use Rattle.word_kinds.specs.Places.{Step, To, Nowhere}
+use Rattle.word_loops.proofs.Within.{In, StepsTo}
 use Rattle.word_rounds.specs.declared.Motion.{Motion}
 use Rattle.word_rounds.specs.declared.Motion.the-variants.{Fwd, Back, End, EndBack}
 use Rattle.word_edges.specs.Words
@@ -25,7 +21,7 @@ Turns t (On q) = In t q
 Turns t (Off q) = In t q
 
 module _ (t : List ℕ) where
-  turn-in : (p : Position) (w : Went) → In t p → WentTo t w → Turns t (turn p w)
+  turn-in : (p : Position) (w : Step) → In t p → StepsTo t w → Turns t (turn p w)
   turn-in p (To q) i j = j
   turn-in p Nowhere i j = i
 

@@ -1,4 +1,5 @@
 pub mod Folding
+pub mod Own
 pub mod Again
 pub mod Counts
 pub mod Adding

@@ -1,62 +1,52 @@
 -- Rounds of the code at the places of spots, and what they require. Assumes nothing.
-use mathlib.Core.Path.{_≡_, ap, sym, _∙_}
-use mathlib.Core.List.{List}
-use mathlib.Core.Bool.{Bool, true, false, _&&_}
-use Prim.Native.Nat.{ℕ}
+use Rattle.lists.proofs.Kit.{_≡_, ap, sym, _∙_, List, Bool, true, false, _&&_, ℕ}
 use Rattle.text.specs.declared.Position.{Position}
 use Rattle.text.proofs.Before.{same-row, same-col}
 use Rattle.text.proofs.Stands.{stands-at}
 use Rattle.word_kinds.specs.declared.Spot.{Spot}
-use Rattle.word_kinds.specs.declared.Step.{Step}
-use Rattle.word_kinds.specs.declared.Step.the-variants.{At, NoStep}
-use Rattle.word_rounds.specs.declared.Round.{Round}
-use Rattle.word_rounds.specs.declared.Round.the-variants.{Next, Last}
-use Rattle.word_kinds.specs.Places.{Went}
-use Rattle.word_rounds.specs.Rounds.{Turn, On, Off, turn, endTurn}
+use Rattle.word_kinds.specs.declared.Step as code-step
+use Rattle.word_kinds.specs.declared.Step.the-variants as step
+use Rattle.word_rounds.specs.declared.Turn as code
+use Rattle.word_rounds.specs.declared.Turn.the-variants as variant
+use Rattle.word_kinds.specs.Places.{Step}
+use Rattle.word_rounds.specs.Rounds.{turn, endTurn}
 use Rattle.word_edges.specs.Words.{nextWordEnd, atWordEnd}
 use Rattle.word_kinds.specs.declared.Setting.{Setting}
-use Rattle.word_kinds.specs.Spots.{placeOf, IsSpot, wentOf, WentIn}
-use Rattle.word_rounds.specs.Turns.{turnOf, RoundIn, turned, Set}
+use Rattle.word_kinds.specs.Spots.{placeOf, IsSpot, Lands, stepOf, Where, Reaches}
+use Rattle.word_rounds.specs.Turns.{turnOf, TurnIn, ComesTo, turned, Set}
 use Rattle.word_edges.specs.Ready.{Ready}
 
--- the code's rounds at the places of spots
-module _ (t : List ℕ) (from : Spot) {r : Round} where
-  pub turned-turn : (f : Step) → r ≡ turned from f → turnOf t r ≡ turn (placeOf t from) (wentOf t f)
-  turned-turn (At q) e = rw e
-  turned-turn NoStep e = rw e
+-- a round from the spot that the jump reached
+module _ {t : List ℕ} {from : Spot} {at : Position} (begun : Lands t from at) where
+  -- the word found from there, or none
+  module _ {r : code.Turn} where
+    turned-turn : (f : code-step.Step) → r ≡ turned from f → turnOf t r ≡ turn (placeOf t from) (stepOf t f)
+    turned-turn (step.To q) e = rw e
+    turned-turn step.Nowhere e = rw e
 
-  pub turned-in : (f : Step) → r ≡ turned from f → IsSpot t from → WentIn t f → RoundIn t r
-  turned-in (At q) e i w = rw e w
-  turned-in NoStep e i w = rw e i
+    turned-in : (f : code-step.Step) → r ≡ turned from f → Where (IsSpot t) f → TurnIn t r
+    turned-in (step.To q) e i = rw e i
+    turned-in step.Nowhere e i = rw e (begun .inside)
 
-module _ (t : List ℕ) (q : Spot) {r : Round} where
-  pub turn-next : {h : Turn} → r ≡ Next q → turnOf t r ≡ h → h ≡ On (placeOf t q)
-  turn-next e w = sym w ∙ ap (turnOf t) e
+    pub round-from : (word : Position → Step) (f : code-step.Step) → r ≡ turned from f → Reaches t f (word (placeOf t from)) → ComesTo t r (turn at (word at))
+    round-from word f e found =
+        record {
+          place = turned-turn f e ∙ ap (turn (placeOf t from)) (found .place) ∙ ap (λ (x : Position). turn x (word x)) (begun .place);
+          inside = turned-in f e (found .inside);
+        }
 
-  pub turn-last : {h : Turn} → r ≡ Last q → turnOf t r ≡ h → h ≡ Off (placeOf t q)
-  turn-last e w = sym w ∙ ap (turnOf t) e
+  -- a round of `move_word_end`, held or not
+  module _ (kind : ℕ → ℕ) (stop : Bool) where
+    pub end-held : stop ≡ true → atWordEnd t kind (placeOf t from) ≡ true → ComesTo t (variant.On from) (endTurn t kind stop at)
+    end-held s e =
+        let held : turnOf t (variant.On from) ≡ endTurn t kind stop (placeOf t from) = rw (s, e) in
+        record { place = held ∙ ap (endTurn t kind stop) (begun .place); inside = begun .inside }
 
-  pub next-in : r ≡ Next q → RoundIn t r → IsSpot t q
-  next-in e i = rw e at i
-
-  pub last-in : r ≡ Last q → RoundIn t r → IsSpot t q
-  last-in e i = rw e at i
-
--- a round from the place that the jump reached
-pub round-from : (word : Position → Went) {f j : Position} {n : Went} → f ≡ j → n ≡ word f → turn f n ≡ turn j (word j)
-round-from word {f} a b = ap (turn f) b ∙ ap (λ (x : Position). turn x (word x)) a
-
--- a round of `move_word_end`, held or not
-module _ (t : List ℕ) (kind : ℕ → ℕ) (stop : Bool) {f j : Position} (a : f ≡ j) where
-  pub end-held : stop ≡ true → atWordEnd t kind f ≡ true → On f ≡ endTurn t kind stop j
-  end-held s e =
-      let on-is : On f ≡ endTurn t kind stop f = rw (s, e) in
-      on-is ∙ ap (endTurn t kind stop) a
-
-  pub end-moved : {n : Went} → (stop && atWordEnd t kind f) ≡ false → n ≡ nextWordEnd t kind f → turn f n ≡ endTurn t kind stop j
-  end-moved e b =
-      let turn-is : turn f (nextWordEnd t kind f) ≡ endTurn t kind stop f = rw e in
-      ap (turn f) b ∙ (turn-is ∙ ap (endTurn t kind stop) a)
+    pub end-moved : {r : code.Turn} (f : code-step.Step) → (stop && atWordEnd t kind (placeOf t from)) ≡ false → r ≡ turned from f →
+        Reaches t f (nextWordEnd t kind (placeOf t from)) → ComesTo t r (endTurn t kind stop at)
+    end-moved f n e found =
+        let still = ap (λ (x : Position). stop && atWordEnd t kind x) (sym (begun .place)) ∙ n in
+        rw still (round-from (nextWordEnd t kind) f e found)
 
 -- what a round requires, for its parts
 module _ {t folds bounds starts lengths : List ℕ} {s : Setting} {p : Spot} (w : Set t folds bounds starts lengths s p) where

@@ -8,7 +8,7 @@ use Rattle.text.specs.declared.Position.{Position}
 use Rattle.folds.specs.Folds.{closedFoldAt}
 use Rattle.folds.specs.declared.Span.{Span}
 use Rattle.folds.specs.declared.Span.the-variants.{Of, NoSpan}
-use Rattle.word_kinds.specs.Places.{Went, To, Nowhere}
+use Rattle.word_kinds.specs.Places.{Step, To, Nowhere}
 use Rattle.word_edges.specs.Words.{nextWordStart, prevWordStart, nextWordEnd, prevWordEnd, atWordEnd}
 use Rattle.word_rounds.specs.declared.Motion.{Motion}
 use Rattle.word_rounds.specs.declared.Motion.the-variants.{Fwd, Back, End, EndBack}
@@ -37,7 +37,7 @@ abbrev pub jumpBack : List ℕ → List ℕ → Position → Position
 jumpBack t folds p = toFirst p (foldAt t folds p)
 
 -- a word found, or no more rounds: the place where the fold's jump went is kept
-abbrev pub turn : Position → Went → Turn
+abbrev pub turn : Position → Step → Turn
 turn from (To q) = On q
 turn from Nowhere = Off from
 

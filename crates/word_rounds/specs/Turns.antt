@@ -5,30 +5,34 @@ use mathlib.Core.Path.{_≡_}
 use mathlib.Core.List.{List}
 use Rattle.text.specs.Text.{rowCount, contentRows}
 use Rattle.folds.specs.Folds.{foldRefusal}
-use Rattle.word_kinds.specs.Spots.{placeOf, IsSpot}
+use Rattle.word_kinds.specs.Spots.{placeOf, IsSpot, Tells}
 use Rattle.word_kinds.specs.Lent.{Bounds}
 use Rattle.word_kinds.specs.declared.Spot.{Spot}
 use Rattle.word_kinds.specs.declared.Setting.{Setting}
-use Rattle.word_kinds.specs.declared.Step.{Step}
-use Rattle.word_kinds.specs.declared.Step.the-variants.{At, NoStep}
+use Rattle.word_kinds.specs.declared.Step as code-step
+use Rattle.word_kinds.specs.declared.Step.the-variants as step
 use Rattle.word_rounds.specs.Rounds.{Turn, On, Off}
-use Rattle.word_rounds.specs.declared.Round.{Round}
-use Rattle.word_rounds.specs.declared.Round.the-variants.{Next, Last}
-
--- what a round's answer says of places
-abbrev pub turnOf : List ℕ → Round → Turn
-turnOf t (Next q) = On (placeOf t q)
-turnOf t (Last q) = Off (placeOf t q)
+use Rattle.word_rounds.specs.declared.Turn as code
+use Rattle.word_rounds.specs.declared.Turn.the-variants as variant
 
 -- a round's answer: the word found, or the spot from which none was found
-abbrev pub turned : Spot → Step → Round
-turned from (At q) = Next q
-turned from NoStep = Last from
+abbrev pub turned : Spot → code-step.Step → code.Turn
+turned from (step.To q) = variant.On q
+turned from step.Nowhere = variant.Off from
+
+-- what a round's answer says of places
+abbrev pub turnOf : List ℕ → code.Turn → Turn
+turnOf t (variant.On q) = On (placeOf t q)
+turnOf t (variant.Off q) = Off (placeOf t q)
 
 -- its spot is one of the text
-abbrev pub RoundIn : List ℕ → Round → Type 0
-RoundIn t (Next q) = IsSpot t q
-RoundIn t (Last q) = IsSpot t q
+abbrev pub TurnIn : List ℕ → code.Turn → Type 0
+TurnIn t (variant.On q) = IsSpot t q
+TurnIn t (variant.Off q) = IsSpot t q
+
+-- the round ended so, at a spot of the text
+abbrev pub ComesTo : List ℕ → code.Turn → Turn → Type 0
+ComesTo t = Tells (turnOf t) (TurnIn t)
 
 -- what a jump out of a fold requires, and a round
 pub record Folded (t folds : List ℕ) (rows content : ℕ) (p : Spot) : Type 0 where

@@ -14,7 +14,7 @@ pub enum Motion {
 }
 
 // Where a round ended: the next goes on from there, or it was the last.
-pub enum Round {
-    Next(Spot),
-    Last(Spot),
+pub enum Turn {
+    On(Spot),
+    Off(Spot),
 }

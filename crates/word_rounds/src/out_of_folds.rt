@@ -2,20 +2,17 @@
 use folds::Span;
 use text::offsets;
 use word_kinds::Spot;
-ghost use mathlib.Core.Path.{_≡_};
 ghost use Prim.Native.Nat.{_-_, _<_};
 ghost use Rattle.text.specs.Text.{rowCount, rowLen, position};
 ghost use Rattle.word_rounds.specs.Rounds.{jumpFwd, jumpBack};
-ghost use Rattle.word_kinds.specs.Spots.{placeOf, IsSpot};
+ghost use Rattle.word_kinds.specs.Spots.{placeOf, IsSpot, Lands};
 ghost use Rattle.word_rounds.specs.Turns.{Folded};
 
 // The last character of a row, or its only place where it is empty.
 fn row_last(t: &[u32], p: Spot, row: usize) -> Spot
     requires { ⌜ IsSpot (now t) p × (row < rowCount (now t)) ⌝ }
     ensures { λ r.
-        ⌜ (placeOf (now (t .entry)) r ≡
-        position row (rowLen (now (t .entry)) row - 1)) ×
-        IsSpot (now (t .entry)) r ⌝ }
+        ⌜ Lands (now (t .entry)) r (position row (rowLen (now (t .entry)) row - 1)) ⌝ }
 {
     let l = offsets::line_to(t, p.row, p.at, row);
     let n = offsets::row_len(t, l);
@@ -34,7 +31,7 @@ fn row_last(t: &[u32], p: Spot, row: usize) -> Spot
 // The first place of a row.
 fn row_first(t: &[u32], p: Spot, row: usize) -> Spot
     requires { ⌜ IsSpot (now t) p × (row < rowCount (now t)) ⌝ }
-    ensures { λ r. ⌜ (placeOf (now (t .entry)) r ≡ position row 0) × IsSpot (now (t .entry)) r ⌝ }
+    ensures { λ r. ⌜ Lands (now (t .entry)) r (position row 0) ⌝ }
 {
     let l = offsets::line_to(t, p.row, p.at, row);
     Spot {
@@ -47,9 +44,8 @@ fn row_first(t: &[u32], p: Spot, row: usize) -> Spot
 pub fn fold_jump_fwd(t: &[u32], folds: &[u32], rows: usize, content: usize, p: Spot) -> Spot
     requires { ⌜ Folded (now t) (now folds) rows content p ⌝ }
     ensures { λ r.
-        ⌜ (placeOf (now (t .entry)) r ≡
-        jumpFwd (now (t .entry)) (now (folds .entry)) (placeOf (now (t .entry)) p)) ×
-        IsSpot (now (t .entry)) r ⌝ }
+        ⌜ Lands (now (t .entry)) r
+        (jumpFwd (now (t .entry)) (now (folds .entry)) (placeOf (now (t .entry)) p)) ⌝ }
 {
     match folds::closed_fold_at(folds, rows, content, p.row) {
         Span::Of(first, last) => row_last(t, p, last),
@@ -61,9 +57,8 @@ pub fn fold_jump_fwd(t: &[u32], folds: &[u32], rows: usize, content: usize, p: S
 pub fn fold_jump_back(t: &[u32], folds: &[u32], rows: usize, content: usize, p: Spot) -> Spot
     requires { ⌜ Folded (now t) (now folds) rows content p ⌝ }
     ensures { λ r.
-        ⌜ (placeOf (now (t .entry)) r ≡
-        jumpBack (now (t .entry)) (now (folds .entry)) (placeOf (now (t .entry)) p)) ×
-        IsSpot (now (t .entry)) r ⌝ }
+        ⌜ Lands (now (t .entry)) r
+        (jumpBack (now (t .entry)) (now (folds .entry)) (placeOf (now (t .entry)) p)) ⌝ }
 {
     match folds::closed_fold_at(folds, rows, content, p.row) {
         Span::Of(first, last) => row_first(t, p, first),

@@ -1,7 +1,7 @@
 // One round of each word motion: of `move_word_fwd`, `move_word_back`, `move_word_end` and
 // `move_word_end_back` of motions.rs.
 use crate::Motion;
-use crate::Round;
+use crate::Turn;
 use crate::out_of_folds;
 use word_kinds::Setting;
 use word_kinds::Spot;
@@ -12,15 +12,15 @@ ghost use Rattle.word_kinds.specs.Spots.{placeOf};
 ghost use Rattle.word_kinds.specs.Lent.{kindBy};
 ghost use Rattle.word_rounds.specs.declared.Motion.the-variants as variant;
 ghost use Rattle.word_rounds.specs.Rounds.{roundOf};
-ghost use Rattle.word_rounds.specs.Turns.{turnOf, RoundIn, turned, Set};
+ghost use Rattle.word_rounds.specs.Turns.{ComesTo, turned, Set};
 
 // The round's answer: the word found, or the place from which none was found.
-fn turned(from: Spot, found: Step) -> Round
+fn turned(from: Spot, found: Step) -> Turn
     ensures { λ r. ⌜ r ≡ turned from found ⌝ }
 {
     match found {
-        Step::At(q) => Round::Next(q),
-        Step::NoStep => Round::Last(from),
+        Step::To(q) => Turn::On(q),
+        Step::Nowhere => Turn::Off(from),
     }
 }
 
@@ -33,13 +33,12 @@ fn fwd_round(
     lengths: &[u16],
     s: Setting,
     p: Spot,
-) -> Round
+) -> Turn
     requires { ⌜ Set (now t) (now folds) (now bounds) (now starts) (now lengths) s p ⌝ }
     ensures { λ r.
-        ⌜ (turnOf (now (t .entry)) r ≡
-        roundOf (now (t .entry)) (now (folds .entry)) (kindBy (now (bounds .entry)) s) (s .big)
-        variant.Fwd false (placeOf (now (t .entry)) p)) ×
-        RoundIn (now (t .entry)) r ⌝ }
+        ⌜ ComesTo (now (t .entry)) r
+        (roundOf (now (t .entry)) (now (folds .entry)) (kindBy (now (bounds .entry)) s) (s .big)
+        variant.Fwd false (placeOf (now (t .entry)) p)) ⌝ }
 {
     let from = out_of_folds::fold_jump_fwd(t, folds, s.rows, s.content, p);
     let next = word_edges::next_word_start(t, bounds, starts, lengths, s, from);
@@ -55,13 +54,12 @@ fn back_round(
     lengths: &[u16],
     s: Setting,
     p: Spot,
-) -> Round
+) -> Turn
     requires { ⌜ Set (now t) (now folds) (now bounds) (now starts) (now lengths) s p ⌝ }
     ensures { λ r.
-        ⌜ (turnOf (now (t .entry)) r ≡
-        roundOf (now (t .entry)) (now (folds .entry)) (kindBy (now (bounds .entry)) s) (s .big)
-        variant.Back false (placeOf (now (t .entry)) p)) ×
-        RoundIn (now (t .entry)) r ⌝ }
+        ⌜ ComesTo (now (t .entry)) r
+        (roundOf (now (t .entry)) (now (folds .entry)) (kindBy (now (bounds .entry)) s) (s .big)
+        variant.Back false (placeOf (now (t .entry)) p)) ⌝ }
 {
     let from = out_of_folds::fold_jump_back(t, folds, s.rows, s.content, p);
     let prev = word_edges::prev_word_start(t, bounds, starts, lengths, s, from);
@@ -78,18 +76,17 @@ fn end_round(
     s: Setting,
     stop: bool,
     p: Spot,
-) -> Round
+) -> Turn
     requires { ⌜ Set (now t) (now folds) (now bounds) (now starts) (now lengths) s p ⌝ }
     ensures { λ r.
-        ⌜ (turnOf (now (t .entry)) r ≡
-        roundOf (now (t .entry)) (now (folds .entry)) (kindBy (now (bounds .entry)) s) (s .big)
-        variant.End stop (placeOf (now (t .entry)) p)) ×
-        RoundIn (now (t .entry)) r ⌝ }
+        ⌜ ComesTo (now (t .entry)) r
+        (roundOf (now (t .entry)) (now (folds .entry)) (kindBy (now (bounds .entry)) s) (s .big)
+        variant.End stop (placeOf (now (t .entry)) p)) ⌝ }
 {
     let from = out_of_folds::fold_jump_fwd(t, folds, s.rows, s.content, p);
     if stop {
         if word_edges::at_word_end(t, bounds, starts, lengths, s, from) {
-            return Round::Next(from);
+            return Turn::On(from);
         }
         let other = word_edges::next_word_end(t, bounds, starts, lengths, s, from);
         return turned(from, other);
@@ -107,13 +104,12 @@ fn end_back_round(
     lengths: &[u16],
     s: Setting,
     p: Spot,
-) -> Round
+) -> Turn
     requires { ⌜ Set (now t) (now folds) (now bounds) (now starts) (now lengths) s p ⌝ }
     ensures { λ r.
-        ⌜ (turnOf (now (t .entry)) r ≡
-        roundOf (now (t .entry)) (now (folds .entry)) (kindBy (now (bounds .entry)) s) (s .big)
-        variant.EndBack false (placeOf (now (t .entry)) p)) ×
-        RoundIn (now (t .entry)) r ⌝ }
+        ⌜ ComesTo (now (t .entry)) r
+        (roundOf (now (t .entry)) (now (folds .entry)) (kindBy (now (bounds .entry)) s) (s .big)
+        variant.EndBack false (placeOf (now (t .entry)) p)) ⌝ }
 {
     let end = word_edges::prev_word_end(t, bounds, starts, lengths, s, p);
     turned(p, end)
@@ -130,13 +126,12 @@ pub fn round(
     m: Motion,
     stop: bool,
     p: Spot,
-) -> Round
+) -> Turn
     requires { ⌜ Set (now t) (now folds) (now bounds) (now starts) (now lengths) s p ⌝ }
     ensures { λ r.
-        ⌜ (turnOf (now (t .entry)) r ≡
-        roundOf (now (t .entry)) (now (folds .entry)) (kindBy (now (bounds .entry)) s) (s .big) m
-        stop (placeOf (now (t .entry)) p)) ×
-        RoundIn (now (t .entry)) r ⌝ }
+        ⌜ ComesTo (now (t .entry)) r
+        (roundOf (now (t .entry)) (now (folds .entry)) (kindBy (now (bounds .entry)) s) (s .big) m
+        stop (placeOf (now (t .entry)) p)) ⌝ }
 {
     match m {
         Motion::Fwd => fwd_round(t, folds, bounds, starts, lengths, s, p),

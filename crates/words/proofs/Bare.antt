@@ -1,9 +1,5 @@
 -- A round at a row of a stretch without closed folds. Assumes nothing.
-use mathlib.Core.Path.{_≡_, refl}
-use mathlib.Core.List.{List, []}
-use mathlib.Core.Bool.{Bool, true, false, _&&_}
-use Prim.Native.Nat.{ℕ}
-use lib.Dec.{ltb, leb}
+use Rattle.lists.proofs.Kit.{_≡_, refl, List, [], Bool, true, _&&_, ℕ, ltb, leb}
 use Rattle.text.specs.Text.{rowCount, contentRows}
 use Rattle.text.specs.declared.Position.{Position}
 use Rattle.folds.specs.Folds.{anyFold, foldRefusal}

@@ -2,3 +2,4 @@ pub mod Bare
 pub mod Classes
 pub mod Made
 pub mod Letters
+pub mod Counting

@@ -1,8 +1,5 @@
 -- What a walk goes by where it was made before. Assumes nothing.
-use mathlib.Core.Path.{_≡_, ap, _∙_}
-use mathlib.Core.List.{List}
-use mathlib.Core.Bool.{Bool}
-use Prim.Native.Nat.{ℕ}
+use Rattle.lists.proofs.Kit.{_≡_, ap, _∙_, List, Bool, ℕ}
 use Rattle.text.specs.declared.Position.{Position}
 use Rattle.word_kinds.specs.Places.{kindOf}
 use Rattle.word_kinds.specs.Lent.{kindBy}
@@ -26,6 +23,5 @@ module _ {t : List ℕ} {word : ℕ → Bool} {big : Bool} {rows content : ℕ} 
   pub made-motion : (folds : List ℕ) (m : Motion) (stop : Bool) (count : ℕ) (p : Position) →
       wordMotion t folds (kindBy (r .bounds) (r .setting)) (r .setting .big) m stop count p ≡
       wordMotion t folds (kindOf word big) big m stop count p
-  made-motion folds m stop count p =
-      ap (λ (kind : ℕ → ℕ). wordMotion t folds kind (r .setting .big) m stop count p) (made .kinds) ∙
+  made-motion folds m stop count p = ap (λ (kind : ℕ → ℕ). wordMotion t folds kind (r .setting .big) m stop count p) (made .kinds) ∙
       ap (λ (b : Bool). wordMotion t folds (kindOf word big) b m stop count p) (made .is-big)

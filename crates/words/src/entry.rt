@@ -7,7 +7,7 @@ use keywords::KeywordSpec;
 use word_kinds::Setting;
 use word_kinds::Spot;
 use word_rounds::Motion;
-use word_rounds::Round;
+use word_rounds::Turn;
 ghost use mathlib.Core.Path.{_≡_};
 ghost use mathlib.Core.Bool.{false};
 ghost use Prim.Native.Nat.{_+_, _-_, _≤_, max};
@@ -17,7 +17,7 @@ ghost use Rattle.list_tokens.specs.Tokens.{anyToken};
 ghost use Rattle.keywords.specs.Table.{kept};
 ghost use Rattle.word_kinds.specs.Places.{kindOf};
 ghost use Rattle.word_rounds.specs.Rounds.{wordMotion};
-ghost use Rattle.word_kinds.specs.Spots.{placeOf, IsSpot};
+ghost use Rattle.word_kinds.specs.Spots.{placeOf, Lands};
 ghost use Rattle.word_rounds.specs.Turns.{Folded, Set};
 ghost use Rattle.word_kinds.specs.Lent.{kindBy, isHigh};
 
@@ -47,14 +47,13 @@ pub fn walk(
 ) -> Spot
     requires { ⌜ Set (now t) (now folds) (now bounds) (now starts) (now lengths) s p ⌝ }
     ensures { λ r.
-        ⌜ (placeOf (now (t .entry)) r ≡
-        wordMotion (now (t .entry)) (now (folds .entry)) (kindBy (now (bounds .entry)) s)
-        (s .big) m stop count (placeOf (now (t .entry)) p)) ×
-        IsSpot (now (t .entry)) r ⌝ }
+        ⌜ Lands (now (t .entry)) r
+        (wordMotion (now (t .entry)) (now (folds .entry)) (kindBy (now (bounds .entry)) s)
+        (s .big) m stop count (placeOf (now (t .entry)) p)) ⌝ }
 {
     match word_rounds::rounds::round(t, folds, bounds, starts, lengths, s, m, stop, p) {
-        Round::Next(q) => rounds::rounds(t, folds, bounds, starts, lengths, s, m, rest(count), q),
-        Round::Last(q) => q,
+        Turn::On(q) => rounds::rounds(t, folds, bounds, starts, lengths, s, m, rest(count), q),
+        Turn::Off(q) => q,
     }
 }
 
@@ -72,10 +71,9 @@ fn walk_with_letters(
     requires { ⌜ (s .pairs + s .pairs ≤ length (now bounds)) ×
         Folded (now t) (now folds) (s .rows) (s .content) p ⌝ }
     ensures { λ r.
-        ⌜ (placeOf (now (t .entry)) r ≡
-        wordMotion (now (t .entry)) (now (folds .entry)) (kindBy (now (bounds .entry)) s)
-        (s .big) m stop count (placeOf (now (t .entry)) p)) ×
-        IsSpot (now (t .entry)) r ⌝ }
+        ⌜ Lands (now (t .entry)) r
+        (wordMotion (now (t .entry)) (now (folds .entry)) (kindBy (now (bounds .entry)) s)
+        (s .big) m stop count (placeOf (now (t .entry)) p)) ⌝ }
 {
     walk(
         t,
@@ -91,8 +89,8 @@ fn walk_with_letters(
     )
 }
 
-// The same by what was made for the text. The ranges of the letters are lent where the text may need
-// them, `high`, and else other numbers, which are then not read as letters.
+// The same by what was made for the text. The ranges of the letters are lent where the text may
+// need them, `high`, and else other numbers, which are then not read as letters.
 pub fn walk_made(
     t: &[u32],
     folds: &[u32],
@@ -108,10 +106,9 @@ pub fn walk_made(
         (high ≡ false → any isHigh (now t) ≡ false) ×
         Folded (now t) (now folds) (s .rows) (s .content) p ⌝ }
     ensures { λ r.
-        ⌜ (placeOf (now (t .entry)) r ≡
-        wordMotion (now (t .entry)) (now (folds .entry)) (kindBy (now (bounds .entry)) s)
-        (s .big) m stop count (placeOf (now (t .entry)) p)) ×
-        IsSpot (now (t .entry)) r ⌝ }
+        ⌜ Lands (now (t .entry)) r
+        (wordMotion (now (t .entry)) (now (folds .entry)) (kindBy (now (bounds .entry)) s)
+        (s .big) m stop count (placeOf (now (t .entry)) p)) ⌝ }
 {
     if high {
         return walk_with_letters(t, folds, bounds, s, m, stop, count, p);
@@ -136,10 +133,9 @@ pub fn word_motion(
 ) -> Spot
     requires { ⌜ Folded (now t) (now folds) rows content p × (spec .len ≤ 128) ⌝ }
     ensures { λ r.
-        ⌜ (placeOf (now (t .entry)) r ≡
-        wordMotion (now (t .entry)) (now (folds .entry)) (kindOf (anyToken (kept spec)) big) big
-        m stop count (placeOf (now (t .entry)) p)) ×
-        IsSpot (now (t .entry)) r ⌝ }
+        ⌜ Lands (now (t .entry)) r
+        (wordMotion (now (t .entry)) (now (folds .entry)) (kindOf (anyToken (kept spec)) big) big
+        m stop count (placeOf (now (t .entry)) p)) ⌝ }
 {
     let made = prepare(t, spec, big, rows, content);
     let bounds = made.bounds;

@@ -37,8 +37,8 @@ pub fn needs_letters(t: &[u32]) -> bool
     has_high(t)
 }
 
-// The bounds of the list's table, the setting, and whether the ranges of the letters are to be lent.
-// The rows of the text, and those with content, are handed in.
+// The bounds of the list's table, the setting, and whether the ranges of the letters are to be
+// lent. The rows of the text, and those with content, are handed in.
 pub fn prepare(t: &[u32], spec: KeywordSpec, big: bool, rows: usize, content: usize) -> Prepared
     requires { ⌜ spec .len ≤ 128 ⌝ }
     ensures { λ r. ⌜ Prepares (now (t .entry)) (anyToken (kept spec)) big rows content r ⌝ }

@@ -5,14 +5,13 @@ use fold_stretches::Stretch;
 use word_kinds::Setting;
 use word_kinds::Spot;
 use word_rounds::Motion;
-use word_rounds::Round;
-ghost use mathlib.Core.Path.{_≡_};
+use word_rounds::Turn;
 ghost use mathlib.Core.Bool.{false};
-ghost use Rattle.word_kinds.specs.Spots.{placeOf, IsSpot};
+ghost use Rattle.word_kinds.specs.Spots.{placeOf, Lands};
 ghost use Rattle.word_kinds.specs.Lent.{kindBy};
 ghost use Rattle.fold_stretches.specs.Stretches.{NoFold};
 ghost use Rattle.word_rounds.specs.Rounds.{roundOf, counted};
-ghost use Rattle.word_rounds.specs.Turns.{turnOf, RoundIn, Set};
+ghost use Rattle.word_rounds.specs.Turns.{ComesTo, Set};
 ghost use Rattle.words.specs.Walked.{Rounded};
 
 // A round after the first, where a stretch of rows without closed folds is known: outside it the
@@ -27,13 +26,13 @@ fn round_near(
     m: Motion,
     w: Stretch,
     p: Spot,
-) -> Round
-    requires { ⌜ Set (now t) (now folds) (now bounds) (now starts) (now lengths) s p × NoFold (now folds) w ⌝ }
+) -> Turn
+    requires { ⌜ Set (now t) (now folds) (now bounds) (now starts) (now lengths) s p ×
+        NoFold (now folds) w ⌝ }
     ensures { λ r.
-        ⌜ (turnOf (now (t .entry)) r ≡
-        roundOf (now (t .entry)) (now (folds .entry)) (kindBy (now (bounds .entry)) s) (s .big) m
-        false (placeOf (now (t .entry)) p)) ×
-        RoundIn (now (t .entry)) r ⌝ }
+        ⌜ ComesTo (now (t .entry)) r
+        (roundOf (now (t .entry)) (now (folds .entry)) (kindBy (now (bounds .entry)) s) (s .big) m
+        false (placeOf (now (t .entry)) p)) ⌝ }
 {
     if (w.lo <= p.row) & (p.row < w.hi) {
         let none = &folds[..0];
@@ -43,12 +42,12 @@ fn round_near(
 }
 
 // Rounds up to a count, from a stretch of rows without closed folds that is known; with the place
-// comes the stretch that is known then, so that a walk that follows need not ask all folds. One that
-// changes nothing ends them: where a closed fold covers the end of the text, each round comes to the
-// same place. Any other passes places that no later round passes again; a jump passes the rows of a
-// fold, and the next round starts outside it. The folds are asked where a round leaves a stretch of
-// rows without closed folds: some twice for each fold, a pass over them each time. So the cost is
-// linear in the text, and some passes over the folds for each fold, whatever the count.
+// comes the stretch that is known then, so that a walk that follows need not ask all folds. One
+// that changes nothing ends them: where a closed fold covers the end of the text, each round comes
+// to the same place. Any other passes places that no later round passes again; a jump passes the
+// rows of a fold, and the next round starts outside it. The folds are asked where a round leaves a
+// stretch of rows without closed folds: some twice for each fold, a pass over them each time. So
+// the cost is linear in the text, and some passes over the folds for each fold, whatever the count.
 pub fn rounds_from(
     t: &[u32],
     folds: &[u32],
@@ -61,8 +60,11 @@ pub fn rounds_from(
     count: u32,
     p: Spot,
 ) -> Walked
-    requires { ⌜ Set (now t) (now folds) (now bounds) (now starts) (now lengths) s p × NoFold (now folds) known ⌝ }
-    ensures { λ r. ⌜ Rounded (now (t .entry)) (now (folds .entry)) (kindBy (now (bounds .entry)) s) (s .big) m count (placeOf (now (t .entry)) p) r ⌝ }
+    requires { ⌜ Set (now t) (now folds) (now bounds) (now starts) (now lengths) s p ×
+        NoFold (now folds) known ⌝ }
+    ensures { λ r.
+        ⌜ Rounded (now (t .entry)) (now (folds .entry)) (kindBy (now (bounds .entry)) s) (s .big) m
+        count (placeOf (now (t .entry)) p) r ⌝ }
 {
     let mut cur = p;
     let mut left = count;
@@ -70,7 +72,7 @@ pub fn rounds_from(
     while left > 0 {
         w = fold_stretches::near(folds, s.rows, w, cur.row);
         match round_near(t, folds, bounds, starts, lengths, s, m, w, cur) {
-            Round::Next(q) => {
+            Turn::On(q) => {
                 if q.at == cur.at {
                     return Walked {
                         spot: cur,
@@ -80,7 +82,7 @@ pub fn rounds_from(
                 cur = q;
                 left -= 1;
             }
-            Round::Last(q) => {
+            Turn::Off(q) => {
                 return Walked {
                     spot: q,
                     stretch: w,
@@ -108,12 +110,11 @@ pub fn rounds(
 ) -> Spot
     requires { ⌜ Set (now t) (now folds) (now bounds) (now starts) (now lengths) s p ⌝ }
     ensures { λ r.
-        ⌜ (placeOf (now (t .entry)) r ≡
-        counted
+        ⌜ Lands (now (t .entry)) r
+        (counted
         (roundOf (now (t .entry)) (now (folds .entry)) (kindBy (now (bounds .entry)) s) (s .big) m
         false)
-        count (placeOf (now (t .entry)) p)) ×
-        IsSpot (now (t .entry)) r ⌝ }
+        count (placeOf (now (t .entry)) p)) ⌝ }
 {
     let w = fold_stretches::around(folds, s.rows, p.row);
     let r = rounds_from(t, folds, bounds, starts, lengths, s, m, w, count, p);

@@ -12,17 +12,15 @@ show-requires c κs =
     let taken = sized .before .before in
     let given = taken .before .before .before .before .before .args in
     host-fits (given.text .now) (given.folds .now) (sized .sizes-in .result) (positionAt given.row given.col) (positionAt given.row given.col)
-    (given.points .now) (taken .caret-in .result)
-    (done .insert .result) (done .insert .ensures .answer)
+    (given.points .now) (taken .caret-in .result) (done .insert .result) (done .insert .ensures .answer)
 
 returns : tie.Need-returns
 returns c =
     let done = c .before .before .before .before .before .before .before in
     let sized = done .before .before .before in
     let taken = sized .before .before in
-    host-edits (done .insert .ensures) (taken .caret-in .ensures) (sized .sizes-in .ensures) (c .show .ensures .0) (c .show .ensures .1)
+    host-edits (done .insert .ensures) (taken .caret-in .ensures) (sized .sizes-in .ensures) (c .show .ensures .caret-left) (c .show .ensures .sizes-left)
 
 pub insert-spec : {M : Type 1} → statement M
-insert-spec =
-    tie.close
+insert-spec = tie.close
     (tie.spec (λ c κs. search needs) (λ c κs. search needs) (λ c κs. search needs) show-requires (λ c. search needs) (λ c. search needs) returns)

@@ -1,11 +1,6 @@
 -- `decode` meets its contract. The loop's invariant: the first i code points stand in the room, the rest of it is as it was.
 -- The measure is the number of code points less i. Assumes nothing.
-use Prim.Native.Nat.{_-_, _/_, _≤_, _<_}
-use mathlib.Core.Path.{_≡_, refl}
-use mathlib.Core.List.{_++_}
-use native.Mathlib.Omega.{arith}
-use borrow.Author.Needs.{needs}
-use lib.ListN.{length, take, drop, length-set}
+use Rattle.lists.proofs.Kit.{_≡_, refl, _++_, _-_, _/_, _≤_, _<_, arith, length, take, drop, length-set, needs}
 use Rattle.call_points.specs.Points.{points}
 use Rattle.call_points.proofs.Laws.{length-points, point-at, fill-on, filled-all, take-filled}
 use Rattle.call_points.proofs.decode.Statement.{statement}
@@ -41,28 +36,8 @@ returns c =
     record { count = refl; room-left = by-filled-all; within = omega arith; front = take-filled bytes-now room-now _ by-filled-all }
 
 pub decode-spec : {M : Type 1} → statement M
-decode-spec =
-    tie.close
-    (tie.spec
-    Inv-loop
-    μ-loop
-    (λ c. search needs)
-    (λ c. search needs)
-    (λ c. search needs)
-    (λ c. search needs)
-    (λ c. search needs)
-    (λ c. search needs)
-    (λ c. search needs)
-    (λ c. search needs)
-    (λ c. search needs)
-    (λ c. search needs)
-    (λ c. search needs)
-    (λ c. search needs)
-    (λ c κs. search needs)
-    (λ c. search needs)
-    (λ c. search needs)
-    (λ c. search needs)
-    (λ c. search needs)
-    loop-again
-    (λ c. search needs)
+decode-spec = tie.close (tie.spec Inv-loop μ-loop (λ c. search needs) (λ c. search needs) (λ c. search needs) (λ c. search needs) (λ c. search needs)
+    (λ c. search needs) (λ c. search needs) (λ c. search needs) (λ c. search needs) (λ c. search needs) (λ c. search needs) (λ c. search needs)
+    (λ c κs. search needs) (λ c. search needs) (λ c. search needs) (λ c. search needs) (λ c. search needs)
+    loop-again (λ c. search needs)
     returns)

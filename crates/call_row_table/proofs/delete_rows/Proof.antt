@@ -1,8 +1,5 @@
 -- `delete_rows` meets its contract: what the edit leaves is shown. Assumes nothing.
-use mathlib.Core.Path.{refl}
-use mathlib.Core.List.{[]}
-use lib.ListN.{getD}
-use borrow.Author.Needs.{needs}
+use Rattle.lists.proofs.Kit.{refl, [], getD, needs}
 use Rattle.call_edits.specs.Edits.{positionAt}
 use Rattle.call_row_table.proofs.Shown.{host-fits, host-keeps}
 use Rattle.call_row_table.proofs.delete_rows.Statement.{statement}
@@ -23,10 +20,10 @@ returns c =
     let done = c .before .before .before .before .before .before .before .before .before in
     let sized = done .before .before .before .before .before in
     let taken = sized .before .before in
-    host-keeps (done .delete-rows .ensures) (taken .caret-in .ensures) (sized .sizes-in .ensures) refl (c .show .ensures .0) (c .show .ensures .1)
+    host-keeps (done .delete-rows .ensures) (taken .caret-in .ensures) (sized .sizes-in .ensures) refl (c .show .ensures .caret-left)
+    (c .show .ensures .sizes-left)
 
 pub delete-rows-spec : {M : Type 1} → statement M
-delete-rows-spec =
-    tie.close
+delete-rows-spec = tie.close
     (tie.spec (λ c κs. search needs) (λ c κs. search needs) (λ c. search needs) (λ c κs. search needs) show-requires (λ c. search needs) (λ c. search needs)
     (λ c. search needs) returns)

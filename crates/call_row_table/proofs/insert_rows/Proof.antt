@@ -1,7 +1,5 @@
 -- `insert_rows` meets its contract: what the edit leaves is shown. Assumes nothing.
-use mathlib.Core.Path.{refl}
-use lib.ListN.{getD}
-use borrow.Author.Needs.{needs}
+use Rattle.lists.proofs.Kit.{refl, getD, needs}
 use Rattle.call_edits.specs.Edits.{positionAt}
 use Rattle.call_row_table.proofs.Shown.{host-fits, host-keeps}
 use Rattle.call_row_table.proofs.insert_rows.Statement.{statement}
@@ -22,10 +20,10 @@ returns c =
     let done = c .before .before .before .before .before .before .before .before .before in
     let sized = done .before .before .before .before .before in
     let taken = sized .before .before in
-    host-keeps (done .insert-rows .ensures) (taken .caret-in .ensures) (sized .sizes-in .ensures) refl (c .show .ensures .0) (c .show .ensures .1)
+    host-keeps (done .insert-rows .ensures) (taken .caret-in .ensures) (sized .sizes-in .ensures) refl (c .show .ensures .caret-left)
+    (c .show .ensures .sizes-left)
 
 pub insert-rows-spec : {M : Type 1} → statement M
-insert-rows-spec =
-    tie.close
+insert-rows-spec = tie.close
     (tie.spec (λ c κs. search needs) (λ c κs. search needs) (λ c. search needs) (λ c κs. search needs) show-requires (λ c. search needs) (λ c. search needs)
     (λ c. search needs) returns)

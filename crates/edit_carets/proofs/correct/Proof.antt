@@ -14,8 +14,7 @@ use Rattle.edit_carets.proofs.correct.Code as code
 
 pub correct-spec : {M : Type 1} → stated.statement M
 unfolding code.routine tablesOf
-correct-spec 𝓤 H 𝓜 𝓖 𝓡 =
-    entered 𝓤 H (tripleOf 𝓤 H (𝓖 .A) correct.signature (correct.spec 𝓤 H (𝓖 .A) (𝓜 .mem) (𝓡 .run)))
+correct-spec 𝓤 H 𝓜 𝓖 𝓡 = entered 𝓤 H (tripleOf 𝓤 H (𝓖 .A) correct.signature (correct.spec 𝓤 H (𝓖 .A) (𝓜 .mem) (𝓡 .run)))
     (tables 𝓤 H 𝓜 𝓡 code.env .C) (tables 𝓤 H 𝓜 𝓡 code.env .Λ) #edit_carets·correct code.function (code.unfolded 𝓤 H 𝓜 𝓡)
     (thin-meets Fits correctedBy 𝓤 H (𝓖 .A) #edit_carets·corrected (givenOf 𝓤 H 𝓜 𝓖) (tablesOf 𝓤 H 𝓜 (tables 𝓤 H 𝓜 𝓡 code.env))
     (cited 𝓤 H (ByValue Fits correctedBy 𝓤 H (𝓖 .A)) 𝓜 𝓡 code.env #edit_carets·corrected corrected-def.routine code.calls-edit-carets·corrected

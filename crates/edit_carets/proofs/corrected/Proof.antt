@@ -1,7 +1,5 @@
 -- `edit_carets::corrected` meets its contract: the caret's position is moved, and all else is cleared. Assumes nothing.
-use mathlib.Core.Path.{ap, _∙_}
-use native.Mathlib.Omega.{arith}
-use borrow.Author.Needs.{needs}
+use Rattle.lists.proofs.Kit.{ap, _∙_, arith, needs}
 use Rattle.text.specs.declared.Position.{Position}
 use Rattle.edit_carets.specs.Carets.{clearedAt}
 use Rattle.edit_carets.proofs.Follows.{moved-fits}
@@ -10,8 +8,8 @@ use Rattle.edit_carets.proofs.corrected.Tie as tie
 
 cleared-requires : tie.Need-cleared-requires
 cleared-requires c κs =
-    let start = c .before .before .before in
-    let by-moved-fits = moved-fits (start .args .k) (start .args .c) (start .pre) (omega arith) (omega arith) in
+    let at-start = c .before .before .before in
+    let by-moved-fits = moved-fits (at-start .args .k) (at-start .args .c) (at-start .pre) (omega arith) (omega arith) in
     let moved-told = c .moved .ensures in
     (omega (arith, by-moved-fits .0, ap (λ (y : Position). y .row) moved-told), omega (arith, by-moved-fits .1, ap (λ (y : Position). y .col) moved-told))
 

@@ -1,9 +1,4 @@
--- `edit_checks::held_folds` meets its contract. Assumes nothing.
-use mathlib.Core.Path.{sym}
-use native.Mathlib.Omega.{arith}
-use lib.Seq.{length-take-le}
-use borrow.Author.Needs.{needs}
-use borrow.Author.Tests.{lt-ltb, le-ltb}
+use Rattle.lists.proofs.Kit.{sym, arith, length-take-le, needs, lt-ltb, le-ltb}
 use Rattle.edit_checks.specs.Refusals.{heldFolds}
 use Rattle.edit_checks.proofs.held_folds.Statement.{statement}
 use Rattle.edit_checks.proofs.held_folds.Tie as tie
@@ -20,5 +15,4 @@ unfolding heldFolds
 returns-2 c = rw (le-ltb _ _ (c .before .before .if1 .left)) (c .fold-refusal .ensures)
 
 pub held-folds-spec : {M : Type 1} → statement M
-held-folds-spec =
-    tie.close (tie.spec returns (λ c. search needs) slice-aggregate-fold-refusal (λ c κs. search needs) returns-2)
+held-folds-spec = tie.close (tie.spec returns (λ c. search needs) slice-aggregate-fold-refusal (λ c κs. search needs) returns-2)

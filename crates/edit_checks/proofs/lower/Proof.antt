@@ -1,6 +1,4 @@
--- `edit_checks::lower` meets its contract. Assumes nothing.
-use mathlib.Core.Path.{sym, _∙_}
-use native.Mathlib.Omega.{arith}
+use Rattle.lists.proofs.Kit.{sym, _∙_, arith}
 use Rattle.edit_checks.proofs.Numbers.{lower-second, lower-first, lower-both}
 use Rattle.edit_checks.proofs.lower.Statement.{statement}
 use Rattle.edit_checks.proofs.lower.Tie as tie

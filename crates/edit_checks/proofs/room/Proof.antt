@@ -1,4 +1,3 @@
--- `edit_checks::room` meets its contract. Assumes nothing.
 use borrow.Author.Tests.{lt-ltb, le-ltb}
 use Rattle.edit_checks.specs.Refusals.{roomRefusal}
 use Rattle.edit_checks.proofs.room.Statement.{statement}

@@ -1,8 +1,5 @@
 -- `edit_checks::stretch` meets its contract: the two positions, and then their order. Assumes nothing.
-use mathlib.Core.Path.{sym, _∙_}
-use Prim.Native.Nat.{_+_, _<_, _^_}
-use native.Mathlib.Omega.{arith}
-use borrow.Author.Needs.{needs}
+use Rattle.lists.proofs.Kit.{sym, _∙_, _+_, _<_, _^_, arith, needs}
 use Rattle.text.proofs.Stands.{first-line}
 use Rattle.edit_checks.specs.Refusals.{stretchRefusal}
 use Rattle.edit_checks.proofs.Spots.{out-outside, in-inside, in-line, in-fits, checked-refused, stretch-first, stretch-second, stretch-order}
@@ -26,8 +23,10 @@ returns c =
 spot-in-requires-2 : tie.Need-spot-in-requires-2
 spot-in-requires-2 c κs =
     let found = c .before .before .before in
-    let start = found .before .before in
-    (in-line (start .args .t .now) (start .args .p) (c .before .l .given .0 .0) (sym (found .spot-in .ensures) ∙ c .before .l .given .1), start .pre .0)
+    let at-start = found .before .before in (
+      in-line (at-start .args .t .now) (at-start .args .p) (c .before .l .given .0 .0) (sym (found .spot-in .ensures) ∙ c .before .l .given .1),
+      at-start .pre .0,
+    )
 
 -- the second
 returns-2 : tie.Need-returns-2
@@ -72,10 +71,10 @@ add-t12 c =
     let asked = c .before .before .before .before .before in
     let second = asked .before .before in
     let next = second .before .before in
-    let start = next .before .before .before .before .before .before in
-    let given = start .args in
+    let at-start = next .before .before .before .before .before .before in
+    let given = at-start .args in
     let by-in-fits = in-fits (given.t .now) given.q (second .m .given .0 .0) (sym (next .spot-in2 .ensures) ∙ second .m .given .1) in
-    let sum-below : second .m .given .0 .0 .start + given.q .col < 2 ^ 64 = omega (arith, by-in-fits, start .pre .1) in
+    let sum-below : second .m .given .0 .0 .start + given.q .col < 2 ^ 64 = omega (arith, by-in-fits, at-start .pre .1) in
     record { fits = sum-below }
 
 returns-4 : tie.Need-returns-4
@@ -85,16 +84,15 @@ returns-4 c =
     let next = second .before .before in
     let first = next .before .before in
     let found = first .before .before in
-    let start = found .before .before in
-    let given = start .args in
+    let at-start = found .before .before in
+    let given = at-start .args in
     let text-now = given.t .now in
     let in-p = in-inside text-now given.p (first .l .given .0 .0) (sym (found .spot-in .ensures) ∙ first .l .given .1) in
     let in-q = in-inside text-now given.q (second .m .given .0 .0) (sym (next .spot-in2 .ensures) ∙ second .m .given .1) in
-    stretch-none text-now given.p given.q (first .l .given .0 .0) (second .m .given .0 .0) given.rows (start .pre .0) in-p in-q
+    stretch-none text-now given.p given.q (first .l .given .0 .0) (second .m .given .0 .0) given.rows (at-start .pre .0) in-p in-q
     (sym (asked .is-before .ensures) ∙ c .before .before .before .before .if1 .left)
 
 pub stretch-spec : {M : Type 1} → statement M
-stretch-spec =
-    tie.close
+stretch-spec = tie.close
     (tie.spec spot-in-requires (λ c. search needs) (λ c. search needs) (λ c κs. search needs) returns spot-in-requires-2 (λ c. search needs)
     (λ c. search needs) (λ c κs. search needs) returns-2 (λ c κs. search needs) (λ c κs. search needs) returns-3 add-t11 add-t12 returns-4)

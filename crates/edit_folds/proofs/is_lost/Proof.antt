@@ -1,4 +1,3 @@
--- `edit_folds::is_lost` meets its contract. Assumes nothing.
 use borrow.Author.Tests.{eq-eqb, ne-eqb}
 use Rattle.edit_folds.specs.Folds.{isLost}
 use Rattle.edit_folds.proofs.is_lost.Statement.{statement}

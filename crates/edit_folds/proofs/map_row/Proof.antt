@@ -1,7 +1,5 @@
--- `edit_folds::map_row` meets its contract. Assumes nothing.
-use borrow.Author.Tests.{le-leb, lt-leb}
+use Rattle.lists.proofs.Kit.{needs, le-leb, lt-leb}
 use Rattle.edit_folds.specs.Folds.{mappedRow}
-use borrow.Author.Needs.{needs}
 use Rattle.edit_folds.proofs.map_row.Statement.{statement}
 use Rattle.edit_folds.proofs.map_row.Tie as tie
 

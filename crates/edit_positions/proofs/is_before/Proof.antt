@@ -1,4 +1,3 @@
--- `edit_positions::is_before` meets its contract. Assumes nothing.
 use borrow.Author.Tests.{eq-eqb, ne-eqb}
 use Rattle.edit_positions.specs.Change.{isBefore}
 use Rattle.edit_positions.proofs.is_before.Statement.{statement}

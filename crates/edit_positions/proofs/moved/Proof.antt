@@ -1,7 +1,5 @@
 -- `edit_positions::moved` meets its contract: each test picks the case of the definition. Assumes nothing.
-use mathlib.Core.Path.{sym, _∙_}
-use native.Mathlib.Omega.{arith}
-use borrow.Author.Needs.{needs}
+use Rattle.lists.proofs.Kit.{sym, _∙_, needs}
 use Rattle.edit_positions.proofs.Formula.{not-before-col, not-before-row, moved-before, moved-inside, moved-row, moved-later}
 use Rattle.edit_positions.proofs.moved.Statement.{statement}
 use Rattle.edit_positions.proofs.moved.Tie as tie
@@ -53,6 +51,5 @@ returns-4 c =
     (sym (second .is-before2 .ensures) ∙ tested .before .before .before .if2 .left) (tested .if3 .left)
 
 pub moved-spec : {M : Type 1} → statement M
-moved-spec =
-    tie.close
+moved-spec = tie.close
     (tie.spec (λ c κs. search needs) returns (λ c κs. search needs) returns-2 sub-t9 (λ c. search needs) returns-3 sub-t11 (λ c. search needs) returns-4)

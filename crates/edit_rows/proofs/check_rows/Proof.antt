@@ -1,10 +1,5 @@
 -- `check_rows` meets its contract: the rows after the edit are those before it, less the stretch's and with those of the code points. Assumes nothing.
-use mathlib.Core.Path.{_≡_, sym, ap, _∙_}
-use Prim.Native.Nat.{ℕ, _+_, _-_, max}
-use native.Mathlib.Omega.{arith}
-use lib.ListN.{take}
-use lib.Seq.{length-take-le}
-use borrow.Author.Needs.{needs}
+use Rattle.lists.proofs.Kit.{_≡_, sym, ap, _∙_, ℕ, _+_, _-_, max, arith, take, length-take-le, needs}
 use Rattle.text.specs.Text.{rowCount}
 use Rattle.text.proofs.Parts.{count-le}
 use Rattle.row_table.specs.Table.{tableRefusal}
@@ -18,37 +13,35 @@ slice-t c = sym (length-take-le _ _ (c .before .before .before .before .pre .0 .
 
 add-after : tie.Need-add-after
 add-after c =
-    let start = c .before .before .before .before .before .before .before in
-    let given = start .args in
+    let at-start = c .before .before .before .before .before .before .before in
+    let given = at-start .args in
     let front = take given.len (given.text .now) in
     omega (
       arith,
-      start .pre .0 .1,
+      at-start .pre .0 .1,
       c .separators .ensures,
       count-le front,
-      length-take-le given.len (given.text .now) (start .pre .0 .0 .fits),
-      start .pre .0 .0 .brief,
+      length-take-le given.len (given.text .now) (at-start .pre .0 .0 .fits),
+      at-start .pre .0 .0 .brief,
     )
 
 returns : tie.Need-returns
 returns c =
     let most = c .before in
     let counted = most .before in
-    let start = counted .before .before .before .before .before .before .before in
-    let given = start .args in
+    let at-start = counted .before .before .before .before .before .before .before in
+    let given = at-start .args in
     let front = take given.len (given.text .now) in
     let new = textAfter front given.p given.q (given.points .now) in
     let after-is : given.before - (given.q .row - given.p .row) + counted .separators .result ≡ rowCount new =
-    omega (arith, start .pre .0 .1, counted .separators .ensures .0, rows-after (start .pre .0 .0) (given.points .now)) in
-    let need : most .most .result ≡ max (rowCount front) (rowCount new) = most .most .ensures ∙ (λ i. max (start .pre .0 .1 i) (after-is i)) in
+    omega (arith, at-start .pre .0 .1, counted .separators .ensures .count, rows-after (at-start .pre .0 .0) (given.points .now)) in
+    let need : most .most .result ≡ max (rowCount front) (rowCount new) = most .most .ensures ∙ (λ i. max (at-start .pre .0 .1 i) (after-is i)) in
     record {
       refusal-is = c .table-refusal .ensures ∙ ap (λ (n : ℕ). tableRefusal n front (given.starts .now) given.content) need;
-      before-is = start .pre .0 .1;
+      before-is = at-start .pre .0 .1;
       after-is = after-is;
     }
 
 pub check-rows-spec : {M : Type 1} → statement M
-check-rows-spec =
-    tie.close
-    (tie.spec slice-t (λ c. search needs) (λ c. search needs) (λ c κs. search needs) add-after (λ c κs. search needs)
+check-rows-spec = tie.close (tie.spec slice-t (λ c. search needs) (λ c. search needs) (λ c κs. search needs) add-after (λ c κs. search needs)
     (λ c κs. search needs) returns)

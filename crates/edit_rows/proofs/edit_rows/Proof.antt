@@ -1,6 +1,5 @@
 -- `edit_rows` meets its contract: what the checks of the edit find out, then the check of the table, and then the edit itself. Assumes nothing.
-use mathlib.Core.Path.{sym, _∙_}
-use borrow.Author.Needs.{needs}
+use Rattle.lists.proofs.Kit.{sym, _∙_, needs}
 use Rattle.edits.proofs.Known.{editable}
 use Rattle.edits.proofs.Made.{number-is}
 use Rattle.edit_rows.proofs.Tables.{stretch, tabled}
@@ -37,8 +36,7 @@ returns-2 c =
     let none = sym (number-is (given.text .now) (given.folds .now) given.s given.p given.q (given.points .now) given.k (checked .check .result) is)
     ∙ tested .if1 .left in
     rows-by-table (given.text .now) (given.folds .now) (given.starts .now) given.s given.content given.p given.q (given.points .now) given.k none
-    (found .check-rows .ensures .refusal-is)
-    (c .if2 .taken)
+    (found .check-rows .ensures .refusal-is) (c .if2 .taken)
 
 make-rows-requires : tie.Need-make-rows-requires
 make-rows-requires c κs =
@@ -66,13 +64,10 @@ returns-3 c =
     let none = sym (number-is (given.text .now) (given.folds .now) given.s given.p given.q (given.points .now) given.k (checked .check .result) is)
     ∙ tested .if1 .left in
     rows-done (given.text .now) (given.folds .now) (given.starts .now) given.s given.content given.p given.q (given.points .now) given.k none
-    (found .check-rows .ensures .refusal-is)
-    (right .if2 .left)
-    (done .make-rows .ensures)
+    (found .check-rows .ensures .refusal-is) (right .if2 .left) (done .make-rows .ensures)
 
 pub edit-rows-spec : {M : Type 1} → statement M
-edit-rows-spec =
-    tie.close
+edit-rows-spec = tie.close
     (tie.spec (λ c. search needs) (λ c. search needs) (λ c κs. search needs) (λ c. search needs) (λ c. search needs) returns check-rows-requires
     (λ c. search needs) (λ c. search needs) (λ c. search needs) returns-2 make-rows-requires (λ c. search needs) (λ c. search needs) (λ c. search needs)
     returns-3)

@@ -7,23 +7,22 @@ use Rattle.edit_rows.proofs.make_rows.Tie as tie
 
 keep-starts-requires : tie.Need-keep-starts-requires
 keep-starts-requires c κs =
-    let start = c .before .before .before .before .before in
-    keepable (start .pre .0) (start .pre .1)
+    let at-start = c .before .before .before .before .before in
+    keepable (at-start .pre .0) (at-start .pre .1)
 
 content-in-requires : tie.Need-content-in-requires
 content-in-requires c κs =
     let made = c .before .before .before .before .before in
-    let start = made .before .before .before .before .before .before .before .before .before .before .before in
-    content-asked (start .pre .0) (start .pre .1) (made .make .ensures)
+    let at-start = made .before .before .before .before .before .before .before .before .before .before .before in
+    content-asked (at-start .pre .0) (at-start .pre .1) (made .make .ensures)
 
 returns : tie.Need-returns
 returns c =
     let made = c .before .before .before .before .before .before in
     let kept = made .before .before .before .before .before in
-    let start = kept .before .before .before .before .before .before in
-    made-rows (start .pre .0) (start .pre .1) (made .make .ensures) (c .content-in .ensures) (kept .keep-starts .ensures)
+    let at-start = kept .before .before .before .before .before .before in
+    made-rows (at-start .pre .0) (at-start .pre .1) (made .make .ensures) (c .content-in .ensures) (kept .keep-starts .ensures)
 
 pub make-rows-spec : {M : Type 1} → statement M
-make-rows-spec =
-    tie.close
+make-rows-spec = tie.close
     (tie.spec keep-starts-requires (λ c κs. search needs) content-in-requires (λ c. search needs) (λ c. search needs) (λ c. search needs) returns)

@@ -1,11 +1,5 @@
 -- `move_starts` meets its contract. The invariant of its loop: the first k starts are moved. The measure is their number less k. Assumes nothing.
-use Prim.Native.Nat.{_+_, _-_, _≤_}
-use mathlib.Core.Path.{_≡_, ap, sym, _∙_}
-use mathlib.Core.List.{map}
-use native.Mathlib.Omega.{arith}
-use lib.ListN.{length, getD, take, drop}
-use lib.Seq.{length-slice}
-use borrow.Author.Needs.{needs}
+use Rattle.lists.proofs.Kit.{ap, sym, _∙_, map, _+_, _-_, _≤_, arith, take, drop, length-slice, needs}
 use Rattle.edit_places.proofs.Puts.{Up, up-none, up-next, up-all, up-read, part-read}
 use Rattle.edit_starts.specs.Moved.{movedStart}
 use Rattle.edit_starts.proofs.Moving.{map-read, map-size}
@@ -30,18 +24,18 @@ loop-holds c =
 sub-starts : tie.Need-sub-starts Inv-loop μ-loop
 sub-starts c =
     let at-loop = c .before .before .loop in
-    let start = c .before .before .before in
-    let given = start .args in
+    let at-start = c .before .before .before in
+    let given = at-start .args in
     let read = up-read (at-loop.inv .1) (given.from + at-loop.k) (omega arith) in
-    omega (arith, start .pre .1 .room (given.from + at-loop.k) (omega arith) (omega arith))
+    omega (arith, at-start .pre .1 .room (given.from + at-loop.k) (omega arith) (omega arith))
 
 add-starts : tie.Need-add-starts Inv-loop μ-loop
 add-starts c =
     let at-loop = c .before .before .loop in
-    let start = c .before .before .before in
-    let given = start .args in
+    let at-start = c .before .before .before in
+    let given = at-start .args in
     let read = up-read (at-loop.inv .1) (given.from + at-loop.k) (omega arith) in
-    omega (arith, start .pre .1 .room (given.from + at-loop.k) (omega arith) (omega arith))
+    omega (arith, at-start .pre .1 .room (given.from + at-loop.k) (omega arith) (omega arith))
 
 loop-again : tie.Need-loop-again Inv-loop μ-loop
 loop-again c =
@@ -53,8 +47,7 @@ loop-again c =
     let by-length-slice = length-slice given.from given.to (given.starts .now) (omega arith) in
     let read = up-read (at-loop.inv .1) (given.from + at-loop.k) (omega arith) in (
       omega arith,
-      up-next (at-loop.inv .1) (omega arith)
-          (ap moved-start (read ∙ sym (part-read (given.starts .now) given.to given.from at-loop.k (omega arith)))
+      up-next (at-loop.inv .1) (omega arith) (ap moved-start (read ∙ sym (part-read (given.starts .now) given.to given.from at-loop.k (omega arith)))
           ∙ sym (map-read moved-start part at-loop.k (omega arith))),
     )
 
@@ -66,22 +59,7 @@ returns c =
     up-all (c .before .loop .inv .1) (omega arith)
 
 pub move-starts-spec : {M : Type 1} → statement M
-move-starts-spec =
-    tie.close
-    (tie.spec
-    Inv-loop
-    μ-loop
-    (λ c. search needs)
-    loop-holds
-    (λ c. search needs)
-    (λ c. search needs)
-    (λ c. search needs)
-    sub-starts
-    add-starts
-    (λ c. search needs)
-    (λ c. search needs)
-    (λ c. search needs)
-    (λ c. search needs)
-    loop-again
-    (λ c. search needs)
+move-starts-spec = tie.close (tie.spec Inv-loop μ-loop (λ c. search needs) loop-holds (λ c. search needs) (λ c. search needs) (λ c. search needs) sub-starts
+    add-starts (λ c. search needs) (λ c. search needs) (λ c. search needs) (λ c. search needs)
+    loop-again (λ c. search needs)
     returns)

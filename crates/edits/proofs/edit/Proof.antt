@@ -1,6 +1,5 @@
 -- `edits::edit` meets its contract: what the checks find out, and then the edit itself. Assumes nothing.
-use mathlib.Core.Path.{sym, _∙_}
-use borrow.Author.Needs.{needs}
+use Rattle.lists.proofs.Kit.{sym, _∙_, needs}
 use Rattle.edits.proofs.Known.{editable}
 use Rattle.edits.proofs.Made.{number-is, edit-refused, edit-done}
 use Rattle.edits.proofs.edit.Statement.{statement}
@@ -30,11 +29,8 @@ returns-2 c =
     let checked = tested .before .before in
     let given = checked .before .before .before .before .before .before .before .before .args in
     edit-done (given.text .now) (given.folds .now) given.s given.p given.q (given.points .now) given.k (checked .check .result)
-    (checked .check .ensures) (tested .if1 .left)
-    (done .make .ensures)
+    (checked .check .ensures) (tested .if1 .left) (done .make .ensures)
 
 pub edit-spec : {M : Type 1} → statement M
-edit-spec =
-    tie.close
-    (tie.spec (λ c. search needs) (λ c. search needs) (λ c κs. search needs) (λ c. search needs) (λ c. search needs) returns make-requires
+edit-spec = tie.close (tie.spec (λ c. search needs) (λ c. search needs) (λ c κs. search needs) (λ c. search needs) (λ c. search needs) returns make-requires
     (λ c. search needs) (λ c. search needs) returns-2)

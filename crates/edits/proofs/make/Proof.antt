@@ -1,9 +1,5 @@
 -- `edits::make` meets its contract: what its parts leave is what the definition says. Assumes nothing.
-use mathlib.Core.Path.{_≡_, refl, ap}
-use Prim.Native.Nat.{_-_}
-use native.Mathlib.Omega.{arith}
-use borrow.Author.Needs.{needs}
-use Rattle.text.specs.Text.{rowCount}
+use Rattle.lists.proofs.Kit.{refl, ap, arith, needs}
 use Rattle.text.specs.declared.Position.{Position}
 use Rattle.text.proofs.Parts.{count-le}
 use Rattle.edits.proofs.Making.{end-rows}
@@ -33,14 +29,14 @@ sub-added c =
 cast-added : tie.Need-cast-added
 cast-added c =
     let found = c .before .before .before .before in
-    let start = found .before .before .before .before in
-    let given = start .args in
+    let at-start = found .before .before .before .before in
+    let given = at-start .args in
     omega (
       arith,
       ap (λ (x : Position). x .row) (found .end-of .ensures),
       end-rows given.p (given.points .now),
       count-le (given.points .now),
-      start .pre .points-brief,
+      at-start .pre .points-brief,
     )
 
 sub-len-2 : tie.Need-sub-len-2
@@ -56,25 +52,24 @@ replace-at-requires c κs =
 map-folds-requires : tie.Need-map-folds-requires
 map-folds-requires c κs =
     let found = c .before .before .before .before .before .before .before .before .before .before .before in
-    let start = found .before .before .before .before in
-    ((start .pre .rows-order, start .pre .folds-fit), folds-asked (start .pre) (found .end-of .ensures))
+    let at-start = found .before .before .before .before in
+    ((at-start .pre .rows-order, at-start .pre .folds-fit), folds-asked (at-start .pre) (found .end-of .ensures))
 
 corrected-requires : tie.Need-corrected-requires
 corrected-requires c κs =
     let found = c .before .before .before .before .before .before .before .before .before .before .before .before .before .before in
-    let start = found .before .before .before .before in
-    caret-asked (start .pre) (found .end-of .ensures)
+    let at-start = found .before .before .before .before in
+    caret-asked (at-start .pre) (found .end-of .ensures)
 
 returns : tie.Need-returns
 returns c =
     let mapped = c .before .before .before in
     let moved = mapped .before .before .before .before in
     let found = moved .before .before .before .before .before .before .before .before in
-    let start = found .before .before .before .before in
-    made (start .pre) (found .end-of .ensures) refl (moved .replace-at .ensures) (mapped .map-folds .ensures) (c .corrected .ensures)
+    let at-start = found .before .before .before .before in
+    made (at-start .pre) (found .end-of .ensures) refl (moved .replace-at .ensures) (mapped .map-folds .ensures) (c .corrected .ensures)
 
 pub make-spec : {M : Type 1} → statement M
-make-spec =
-    tie.close
+make-spec = tie.close
     (tie.spec end-of-requires cast-r1 cast-r2 sub-added cast-added (λ c. search needs) sub-len-2 (λ c. search needs) replace-at-requires map-folds-requires
     corrected-requires (λ c. search needs) (λ c. search needs) returns)

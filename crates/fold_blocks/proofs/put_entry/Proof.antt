@@ -10,6 +10,4 @@ returns c =
     wrote-then (second .before .before .before .before .put-four .ensures) (wrote-then (second .put-four2 .ensures) (c .before .before .put .ensures))
 
 pub put-entry-spec : {M : Type 1} → statement M
-put-entry-spec =
-    tie.close
-    (tie.spec (λ c κs. search needs) (λ c κs. search needs) (λ c. search needs) (λ c κs. search needs) (λ c. search needs) returns)
+put-entry-spec = tie.close (tie.spec (λ c κs. search needs) (λ c κs. search needs) (λ c. search needs) (λ c κs. search needs) (λ c. search needs) returns)

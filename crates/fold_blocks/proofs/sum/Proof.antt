@@ -1,10 +1,6 @@
 -- `sum` meets its contract. The invariant of its loop: what is added, with what is left, comes to the whole. The measure is the length less i.
 -- Assumes nothing.
-use Prim.Native.Nat.{_+_, _*_, _-_, _≤_}
-use mathlib.Core.Path.{_≡_}
-use native.Mathlib.Omega.{arith}
-use borrow.Author.Needs.{needs}
-use lib.ListN.{length, drop}
+use Rattle.lists.proofs.Kit.{_≡_, _+_, _*_, _-_, _≤_, arith, length, drop, needs}
 use Rattle.fold_blocks.specs.Bytes.{sum}
 use Rattle.fold_blocks.proofs.Numbers.{sum-at, sum-end}
 use Rattle.fold_blocks.proofs.sum.Statement.{statement}
@@ -20,28 +16,18 @@ loop-holds : tie.Need-loop-holds Inv-loop μ-loop
 loop-holds c = (omega arith, omega arith, omega arith)
 
 add-total : tie.Need-add-total Inv-loop μ-loop
-add-total c = omega (arith, c .wide .ensures .1)
+add-total c = omega (arith, c .wide .ensures .small)
 
 loop-again : tie.Need-loop-again Inv-loop μ-loop
 loop-again c =
     let at-loop = c .before .before .before in
     let next = sum-at (at-loop .before .before .args .bytes .now) (at-loop .loop .i) (c .before .before .loop-test .taken) in
-    (omega arith, omega (arith, c .wide .ensures .1), omega (arith, next, c .wide .ensures .0, at-loop .loop .inv .2))
+    (omega arith, omega (arith, c .wide .ensures .small), omega (arith, next, c .wide .ensures .same, at-loop .loop .inv .2))
 
 returns : tie.Need-returns Inv-loop μ-loop
 returns c = omega (arith, c .before .loop .inv .2, sum-end (c .before .before .before .args .bytes .now) (c .before .loop .i) (c .loop-test .left))
 
 pub sum-spec : {M : Type 1} → statement M
-sum-spec =
-    tie.close
-    (tie.spec
-    Inv-loop
-    μ-loop
-    loop-holds
-    (λ c. search needs)
-    (λ c κs. search needs)
-    add-total
-    (λ c. search needs)
-    (λ c. search needs)
+sum-spec = tie.close (tie.spec Inv-loop μ-loop loop-holds (λ c. search needs) (λ c κs. search needs) add-total (λ c. search needs) (λ c. search needs)
     loop-again
     returns)

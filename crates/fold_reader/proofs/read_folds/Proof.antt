@@ -1,8 +1,5 @@
 -- `read_folds` meets its contract: each refusal, and the folds. Assumes nothing.
-use mathlib.Core.Path.{sym, _∙_}
-use native.Mathlib.Omega.{arith}
-use borrow.Author.Needs.{needs}
-use lib.Seq.{length-take-le}
+use Rattle.lists.proofs.Kit.{sym, _∙_, arith, length-take-le, needs}
 use Rattle.fold_blocks.proofs.Whole.{layout-whole, folds-most}
 use Rattle.fold_reader.proofs.Answers.{taken-front, read-text, read-layout, read-folds, read-short, read-list}
 use Rattle.fold_reader.proofs.read_folds.Statement.{statement}
@@ -118,9 +115,6 @@ returns-5 c =
     (omega (arith, first)) (omega (arith, at-if4 .if4 .left, first)) (at-take-all2 .take-all2 .ensures)
 
 pub read-folds-spec : {M : Type 1} → statement M
-read-folds-spec =
-    tie.close
-    (tie.spec (λ c κs. search needs) returns (λ c κs. search needs) returns-2
-    (λ c. search needs) take-all-requires array-share-prefix-list slice-aggregate-fold-refusal (λ c κs. search needs)
-    (λ c κs. search needs) returns-3 returns-4
+read-folds-spec = tie.close (tie.spec (λ c κs. search needs) returns (λ c κs. search needs) returns-2
+    (λ c. search needs) take-all-requires array-share-prefix-list slice-aggregate-fold-refusal (λ c κs. search needs) (λ c κs. search needs) returns-3 returns-4
     take-all-requires-2 (λ c. search needs) returns-5)

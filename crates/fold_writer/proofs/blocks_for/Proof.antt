@@ -1,7 +1,5 @@
 -- `blocks_for` meets its contract: one block where there are no folds, and else as many as they take. Assumes nothing.
-use mathlib.Core.Path.{sym}
-use native.Mathlib.Omega.{arith}
-use borrow.Author.Needs.{needs}
+use Rattle.lists.proofs.Kit.{sym, arith, needs}
 use Rattle.fold_blocks.proofs.Files.{blocks-some, blocks-none}
 use Rattle.fold_writer.proofs.blocks_for.Statement.{statement}
 use Rattle.fold_writer.proofs.blocks_for.Tie as tie

@@ -1,7 +1,6 @@
 -- `put_blocks` meets its contract. The invariant of its loop: the folds before index `from` are written. The measure is how many blocks are left.
 -- Assumes nothing.
-use Prim.Native.Nat.{_-_}
-use borrow.Author.Needs.{needs}
+use Rattle.lists.proofs.Kit.{_-_, needs}
 use Rattle.fold_writer.proofs.Laying.{Laying, laying-start, laying-room, laying-on, laying-end, part-most}
 use Rattle.fold_writer.proofs.put_blocks.Statement.{statement}
 use Rattle.fold_writer.proofs.put_blocks.Tie as tie
@@ -18,9 +17,9 @@ loop-holds c = laying-start _ _ _ (c .blocks-for .ensures)
 put-block-requires : tie.Need-put-block-requires Inv-loop μ-loop
 put-block-requires c κs =
     let at-loop = c .before .before .before .before in
-    let entry = at-loop .before .before .before .before in (
-      part-most (entry .args .folds .now) (at-loop .loop .from) (c .before .before .end-of .result) (c .before .before .end-of .ensures),
-      laying-room (at-loop .loop .inv) (c .before .before .before .loop-test .taken) (entry .pre .1),
+    let at-start = at-loop .before .before .before .before in (
+      part-most (at-start .args .folds .now) (at-loop .loop .from) (c .before .before .end-of .result) (c .before .before .end-of .ensures),
+      laying-room (at-loop .loop .inv) (c .before .before .before .loop-test .taken) (at-start .pre .1),
     )
 
 loop-again : tie.Need-loop-again Inv-loop μ-loop
@@ -32,17 +31,8 @@ returns : tie.Need-returns Inv-loop μ-loop
 returns c = laying-end (c .before .loop .inv) (c .loop-test .left)
 
 pub put-blocks-spec : {M : Type 1} → statement M
-put-blocks-spec =
-    tie.close
-    (tie.spec
-    Inv-loop
-    μ-loop
-    (λ c κs. search needs)
-    loop-holds
-    (λ c κs. search needs)
+put-blocks-spec = tie.close (tie.spec Inv-loop μ-loop (λ c κs. search needs) loop-holds (λ c κs. search needs)
     (λ c. search needs) (λ c. search needs) (λ c. search needs) (λ c. search needs)
-    put-block-requires
-    (λ c. search needs) (λ c. search needs)
-    loop-again
-    (λ c. c .before .loop .inv .toward .size)
+    put-block-requires (λ c. search needs) (λ c. search needs)
+    loop-again (λ c. c .before .loop .inv .toward .size)
     returns)

@@ -1,10 +1,6 @@
 -- `put_entries` meets its contract. The invariant of its loop: what is written, with the entries to come, comes to the whole. The measure is what is
 -- left of the folds. Assumes nothing.
-use Prim.Native.Nat.{_+_, _-_, _≤_}
-use mathlib.Core.List.{_++_}
-use native.Mathlib.Omega.{arith}
-use borrow.Author.Needs.{needs}
-use lib.ListN.{length, getD, drop}
+use Rattle.lists.proofs.Kit.{_++_, _+_, _-_, _≤_, arith, length, getD, drop, needs}
 use Rattle.fold_blocks.specs.Bytes.{one, four, entries}
 use Rattle.fold_blocks.proofs.Files.{length-entries, entries-at, entries-end}
 use Rattle.fold_blocks.proofs.Toward.{Toward, toward-start, toward-room, toward-on, toward-end}
@@ -23,8 +19,8 @@ loop-holds c = (omega arith, toward-start _ _ _)
 put-entry-requires : tie.Need-put-entry-requires Inv-loop μ-loop
 put-entry-requires c κs =
     let at-loop = c .before .before .before .before .before in
-    let args = at-loop .before .before .before .args in
-    let folds-now = args .folds .now in
+    let given = at-loop .before .before .before .args in
+    let folds-now = given .folds .now in
     let index = at-loop .loop .i in
     let next = entries-at folds-now index (c .before .before .before .before .loop-test .taken) in
     let piece = four (getD folds-now index 0) ++ four (getD folds-now (index + 1) 0) ++ one (getD folds-now (index + 2) 0) in
@@ -48,21 +44,12 @@ loop-again c =
     )
 
 returns : tie.Need-returns Inv-loop μ-loop
-returns c =
-    toward-end (c .before .loop .inv .1) (entries-end (c .before .before .before .before .args .folds .now) (c .before .loop .i) (c .loop-test .left))
+returns c = toward-end (c .before .loop .inv .1) (entries-end (c .before .before .before .before .args .folds .now) (c .before .loop .i) (c .loop-test .left))
 
 pub put-entries-spec : {M : Type 1} → statement M
-put-entries-spec =
-    tie.close
-    (tie.spec
-    Inv-loop
-    μ-loop
-    loop-holds
+put-entries-spec = tie.close (tie.spec Inv-loop μ-loop loop-holds
     (λ c. search needs) (λ c. search needs) (λ c. search needs) (λ c. search needs) (λ c. search needs) (λ c. search needs)
     (λ c. search needs) (λ c. search needs) (λ c. search needs)
-    put-entry-requires
-    (λ c. search needs)
-    (λ c. search needs)
-    loop-again
-    (λ c. c .before .loop .inv .1 .size)
+    put-entry-requires (λ c. search needs) (λ c. search needs)
+    loop-again (λ c. c .before .loop .inv .1 .size)
     returns)

@@ -1,9 +1,5 @@
 -- `put_zeros` meets its contract. The invariant of its loop: i zeros are written. The measure is how many are left. Assumes nothing.
-use Prim.Native.Nat.{_+_, _-_, _≤_}
-use native.Mathlib.Omega.{arith}
-use native.Mathlib.Nat.{add-zero}
-use borrow.Author.Needs.{needs}
-use lib.ListN.{length, replicate}
+use Rattle.lists.proofs.Kit.{_+_, _-_, _≤_, add-zero, arith, replicate, needs}
 use Rattle.print.specs.Print.{Wrote}
 use Rattle.print.proofs.Laws.{wrote-none}
 use Rattle.fold_writer.proofs.Writes.{wrote-zero, wrote-zeros}
@@ -28,16 +24,7 @@ returns : tie.Need-returns Inv-loop μ-loop
 returns c = wrote-zeros (c .before .loop .i) (c .before .before .args .n) (c .before .loop .inv .0) (c .loop-test .left) (c .before .loop .inv .1)
 
 pub put-zeros-spec : {M : Type 1} → statement M
-put-zeros-spec =
-    tie.close
-    (tie.spec
-    Inv-loop
-    μ-loop
-    loop-holds
-    (λ c. search needs)
-    (λ c. omega (arith, c .before .loop .inv .1 .size))
+put-zeros-spec = tie.close (tie.spec Inv-loop μ-loop loop-holds (λ c. search needs) (λ c. omega (arith, c .before .loop .inv .1 .size))
     (λ c. search needs) (λ c. search needs)
-    loop-again
-    (λ c. search needs)
-    (λ c. c .before .loop .inv .1 .size)
+    loop-again (λ c. search needs) (λ c. c .before .loop .inv .1 .size)
     returns)

@@ -1,9 +1,5 @@
 -- `write_folds` meets its contract: each refusal, and the file. Assumes nothing.
-use mathlib.Core.Path.{ap, sym, _∙_}
-use Prim.Native.Nat.{_/_}
-use native.Mathlib.Omega.{arith}
-use borrow.Author.Needs.{needs}
-use lib.ListN.{length}
+use Rattle.lists.proofs.Kit.{ap, sym, _∙_, _/_, arith, length, needs}
 use Rattle.folds.specs.Folds.{foldRefusal}
 use Rattle.fold_blocks.proofs.Files.{length-file, blocks-few}
 use Rattle.fold_writer.proofs.Answers.{folds-few, write-text, write-folds, write-short, write-file}
@@ -77,7 +73,5 @@ returns-4 c =
     (at-put-blocks .put-blocks .ensures)
 
 pub write-folds-spec : {M : Type 1} → statement M
-write-folds-spec =
-    tie.close
-    (tie.spec (λ c κs. search needs) returns (λ c κs. search needs)
+write-folds-spec = tie.close (tie.spec (λ c κs. search needs) returns (λ c κs. search needs)
     (λ c κs. search needs) returns-2 blocks-for-requires mul-size returns-3 put-blocks-requires (λ c. search needs) returns-4)

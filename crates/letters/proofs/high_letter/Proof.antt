@@ -1,6 +1,5 @@
 -- `letters::high_letter` meets its contract: the consts are the starts and the lengths of its ranges. Assumes nothing.
-use mathlib.Core.Path.{refl}
-use borrow.Author.Needs.{needs}
+use Rattle.lists.proofs.Kit.{refl, needs}
 use Rattle.letters.specs.Letters.{letters}
 use Rattle.letters.proofs.high_letter.Statement.{statement}
 use Rattle.letters.proofs.high_letter.Tie as tie

@@ -1,22 +1,11 @@
--- `letters::latin_letter` meets its contract: from U+00AA on the ranges of ASCII hold nothing. Assumes nothing.
-use native.Mathlib.Omega.{arith}
-use mathlib.Core.Bool.{and-false}
-use lib.Dec.{leb}
-use borrow.Author.Tests.{le-ltb}
-use Rattle.letters.proofs.Tables.{letter-latin}
+-- `letters::latin_letter` meets its contract: beside A to Z and a to z, all from U+00C0 on but two. Assumes nothing.
+use mathlib.Core.Path.{sym}
+use Rattle.letters.proofs.Tables.{letter-plain}
 use Rattle.letters.proofs.latin_letter.Statement.{statement}
 use Rattle.letters.proofs.latin_letter.Tie as tie
 
 returns : tie.Need-returns
-returns c =
-    let given-x = c .args .x in
-    rw (
-      letter-latin given-x (omega arith),
-      le-ltb given-x 91 (omega arith),
-      le-ltb given-x 123 (omega arith),
-      and-false (leb 65 given-x),
-      and-false (leb 97 given-x),
-    )
+returns c = sym (letter-plain (c .args .x) (c .pre .0) (c .pre .1))
 
 pub latin-letter-spec : {M : Type 1} → statement M
 latin-letter-spec = tie.close (tie.spec returns)

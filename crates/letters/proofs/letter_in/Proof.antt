@@ -1,6 +1,5 @@
 -- `letters::letter_in` meets its contract: what is lent lists the ranges of the definition, and keeps the rule. Assumes nothing.
-use mathlib.Core.Path.{_∙_}
-use borrow.Author.Needs.{needs}
+use Rattle.lists.proofs.Kit.{_∙_, needs}
 use Rattle.letters.specs.Letters.{isLetter}
 use Rattle.letters.proofs.Tables.{letters-apart, letters-listed}
 use Rattle.letters.proofs.letter_in.Statement.{statement}

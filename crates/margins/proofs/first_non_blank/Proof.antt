@@ -1,9 +1,6 @@
 -- `margins::first_non_blank` meets its contract: the row's indent, within its last column.
 -- Assumes nothing.
-use mathlib.Core.Path.{ap}
-use native.Mathlib.Omega.{arith}
-use lib.ListN.{length}
-use borrow.Author.Needs.{needs}
+use Rattle.lists.proofs.Kit.{ap, arith, length, needs}
 use Rattle.text.proofs.Parts.{row-fits}
 use Rattle.margins.specs.Margins.{indentOf}
 use Rattle.margins.proofs.first_non_blank.Statement.{statement}

@@ -1,11 +1,6 @@
 -- `margins::indent` meets its contract. The invariant of its loop: everything before i is blank. The measure is the row's length less i.
 -- Assumes nothing.
-use Prim.Native.Nat.{_+_, _-_, _≤_}
-use mathlib.Core.Path.{_≡_, sym, _∙_}
-use native.Mathlib.Omega.{arith}
-use lib.ListN.{length, drop}
-use borrow.Author.Needs.{needs}
-use borrow.Author.Tests.{not-true, not-false}
+use Rattle.lists.proofs.Kit.{_≡_, sym, _∙_, _+_, _-_, _≤_, arith, length, drop, needs, not-true, not-false}
 use Rattle.margins.specs.Margins.{indentOf}
 use Rattle.margins.proofs.Edging.{indent-on, indent-stop, indent-end}
 use Rattle.margins.proofs.indent.Statement.{statement}
@@ -39,7 +34,6 @@ returns-2 : tie.Need-returns-2 Inv-loop μ-loop
 returns-2 c = omega (arith, indent-end (c .before .before .before .args .row .now) (c .before .loop .i) (c .loop-test .left))
 
 pub indent-spec : {M : Type 1} → statement M
-indent-spec =
-    tie.close
+indent-spec = tie.close
     (tie.spec Inv-loop μ-loop (λ c. search needs) (λ c. search needs) (λ c. search needs) (λ c κs. search needs) returns (λ c. search needs) (λ c. search needs)
     loop-again returns-2)

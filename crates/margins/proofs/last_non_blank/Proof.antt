@@ -1,8 +1,6 @@
 -- `margins::last_non_blank` meets its contract: the row up to its last character that is no white space, less one.
 -- Assumes nothing.
-use mathlib.Core.Path.{refl, ap}
-use native.Mathlib.Omega.{arith}
-use borrow.Author.Needs.{needs}
+use Rattle.lists.proofs.Kit.{refl, ap, arith, needs}
 use Rattle.chars.specs.White.{whites}
 use Rattle.text.specs.Text.{rowAt}
 use Rattle.text.proofs.Parts.{row-fits}

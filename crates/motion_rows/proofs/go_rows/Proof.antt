@@ -1,8 +1,5 @@
 -- `go_rows` meets its contract: the table's number in the answer's place, or the first entry's answer by a row from the table. Assumes nothing.
-use mathlib.Core.Path.{_≡_, sym, ap, _∙_}
-use Prim.Native.Nat.{ℕ}
-use native.Mathlib.Omega.{arith}
-use borrow.Author.Needs.{needs}
+use Rattle.lists.proofs.Kit.{sym, ap, _∙_, ℕ, needs}
 use Rattle.text.specs.Text.{rowCount}
 use Rattle.text_rows.specs.declared.Found.{Found}
 use Rattle.row_table.specs.Table.{tableRefusal}
@@ -30,7 +27,8 @@ returns-2 c =
     let given = at-check .before .before .before .before .before .args in
     let number = ap (λ (f : Found). f .table) (at-check .checked .ensures) in
     c .go2 .ensures
-    ∙ sym (second-first (given .t .now) (given .starts .now) (given .content) (sym number ∙ at-test .if1 .left) (given .folds .now) (given .list .now) (given .tabstop) (given .m) (given .count) (given .k))
+    ∙ sym (second-first (given .t .now) (given .starts .now) (given .content) (sym number ∙ at-test .if1 .left) (given .folds .now) (given .list .now)
+    (given .tabstop) (given .m) (given .count) (given .k))
 
 enter-by-requires : tie.Need-enter-by-requires
 enter-by-requires c κs =
@@ -39,8 +37,7 @@ enter-by-requires c κs =
     let given = at-check .before .before .before .before .before .args in
     let found = at-check .checked .ensures in
     table-held (given .t .now) (given .starts .now) (at-check .checked .result .rows) (given .content)
-    (sym (ap (λ (f : Found). f .refusal) found) ∙ c .before .before .if2 .left)
-    (ap (λ (f : Found). f .rows) found)
+    (sym (ap (λ (f : Found). f .refusal) found) ∙ c .before .before .if2 .left) (ap (λ (f : Found). f .rows) found)
     (sym (ap (λ (f : Found). f .table) found) ∙ at-test .if1 .left)
 
 returns-3 : tie.Need-returns-3
@@ -50,10 +47,9 @@ returns-3 c =
     let given = at-check .before .before .before .before .before .args in
     let number = ap (λ (f : Found). f .table) (at-check .checked .ensures) in
     c .go-from .ensures
-    ∙ sym (second-first (given .t .now) (given .starts .now) (given .content) (sym number ∙ at-test .if1 .left) (given .folds .now) (given .list .now) (given .tabstop) (given .m) (given .count) (given .k))
+    ∙ sym (second-first (given .t .now) (given .starts .now) (given .content) (sym number ∙ at-test .if1 .left) (given .folds .now) (given .list .now)
+    (given .tabstop) (given .m) (given .count) (given .k))
 
 pub go-rows-spec : {M : Type 1} → statement M
-go-rows-spec =
-    tie.close
-    (tie.spec (λ c κs. search needs) (λ c κs. search needs) (λ c κs. search needs) returns (λ c κs. search needs)
+go-rows-spec = tie.close (tie.spec (λ c κs. search needs) (λ c κs. search needs) (λ c κs. search needs) returns (λ c κs. search needs)
     returns-2 (λ c. search needs) (λ c. search needs) enter-by-requires (λ c κs. search needs) returns-3)

@@ -1,6 +1,5 @@
 -- `or_table` meets its contract, answer by answer. Assumes nothing.
-use borrow.Author.Needs.{needs}
-use borrow.Author.Tests.{eq-eqb, ne-eqb}
+use Rattle.lists.proofs.Kit.{needs, eq-eqb, ne-eqb}
 use Rattle.motion_rows.specs.Going.{orTable}
 use Rattle.motion_rows.proofs.or_table.Statement.{statement}
 use Rattle.motion_rows.proofs.or_table.Tie as tie
@@ -26,6 +25,4 @@ unfolding orTable
 returns-5 c = rw (c .before .before .answer3 .given .1, ne-eqb _ 0 (c .if2 .left))
 
 pub or-table-spec : {M : Type 1} → statement M
-or-table-spec =
-    tie.close
-    (tie.spec (λ c. search needs) (λ c. search needs) returns (λ c. search needs) returns-2 returns-3 returns-4 returns-5)
+or-table-spec = tie.close (tie.spec (λ c. search needs) (λ c. search needs) returns (λ c. search needs) returns-2 returns-3 returns-4 returns-5)

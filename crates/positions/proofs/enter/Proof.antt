@@ -1,10 +1,6 @@
 -- `enter` meets its contract: it goes through the checks in the order of the table.
 -- Assumes nothing.
-use mathlib.Core.Path.{_≡_, ap, sym, _∙_}
-use mathlib.Core.List.{List}
-use Prim.Native.Nat.{ℕ}
-use native.Mathlib.Omega.{arith}
-use borrow.Author.Needs.{needs}
+use Rattle.lists.proofs.Kit.{_≡_, ap, sym, _∙_, List, ℕ, arith, needs}
 use Rattle.text.specs.Text.{rowCount, rowLen, contentRows}
 use Rattle.text.specs.Offsets.{lineAt}
 use Rattle.text.specs.declared.Line.{Line}
@@ -86,7 +82,5 @@ returns-4 c =
     (refusal-none (given .t .now) (given .p) none inside (omega (arith, by-long, at-rows .before .if3 .left)))
 
 pub enter-spec : {M : Type 1} → statement M
-enter-spec =
-    tie.close
-    (tie.spec (λ c κs. search needs) (λ c κs. search needs) returns (λ c κs. search needs) (λ c κs. search needs) returns-2
+enter-spec = tie.close (tie.spec (λ c κs. search needs) (λ c κs. search needs) returns (λ c κs. search needs) (λ c κs. search needs) returns-2
     row-len-requires (λ c κs. search needs) returns-3 rows-from-requires (λ c κs. search needs) returns-4)

@@ -1,6 +1,4 @@
--- `or_folds` meets its contract. Assumes nothing.
-use borrow.Author.Needs.{needs}
-use borrow.Author.Tests.{eq-eqb, ne-eqb}
+use Rattle.lists.proofs.Kit.{needs, eq-eqb, ne-eqb}
 use Rattle.positions.specs.Positions.{orFolds}
 use Rattle.positions.proofs.or_folds.Statement.{statement}
 use Rattle.positions.proofs.or_folds.Tie as tie

@@ -1,7 +1,5 @@
 -- `or_sought` meets its contract: 1, then the character sought, then the rest. Assumes nothing.
-use mathlib.Core.Path.{sym, _∙_}
-use borrow.Author.Needs.{needs}
-use borrow.Author.Tests.{eq-eqb, ne-eqb, not-true, not-false}
+use Rattle.lists.proofs.Kit.{sym, _∙_, needs, eq-eqb, ne-eqb, not-true, not-false}
 use Rattle.positions.specs.Positions.{orSought}
 use Rattle.positions.proofs.or_sought.Statement.{statement}
 use Rattle.positions.proofs.or_sought.Tie as tie

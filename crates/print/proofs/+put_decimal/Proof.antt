@@ -1,7 +1,5 @@
 -- `print::put_decimal` meets its contract: the last digit stands after those of a tenth. The measure is the number. Assumes nothing.
-use Prim.Native.Nat.{ℕ, _<_}
-use native.Mathlib.Omega.{arith}
-use borrow.Author.Needs.{needs}
+use Rattle.lists.proofs.Kit.{ℕ, _<_, arith, needs}
 use borrow.Fn.Kinds.{In}
 use borrow.Fn.PlainCycle.{Measures, is, falls, and}
 use Rattle.print.proofs.Laws.{length-small, length-more, wrote-small, wrote-more}
@@ -30,8 +28,7 @@ module _ (t : ℕ) where
   returns c = wrote-small (c .before .before .before .before .if1 .taken) (c .before .before .put .ensures)
 
   put-decimal-requires : lts.Need-put-decimal-requires (put.Asked, put.Learnt, below t, put-decimal.Post) (here t) put-decimal.Post
-  put-decimal-requires c κs =
-      (omega arith, omega (arith, length-more (c .before .before .before .args .n) (c .before .if1 .left) (omega arith)))
+  put-decimal-requires c κs = (omega arith, omega (arith, length-more (c .before .before .before .args .n) (c .before .if1 .left) (omega arith)))
 
   put-requires-2 : lts.Need-put-requires-2 (put.Asked, put.Learnt, below t, put-decimal.Post) (here t) put-decimal.Post
   put-requires-2 c κs =
@@ -45,16 +42,6 @@ module _ (t : ℕ) where
       wrote-more (at-put-decimal .before .before .if1 .left) (omega arith) (at-put-decimal .put-decimal .ensures) (c .before .before .put2 .ensures)
 
 pub +put-decimal-spec : {M : Type 1} → statement M
-+put-decimal-spec =
-    close μ λ t. lts.spec (put.Asked, put.Learnt, below t, put-decimal.Post) (here t) put-decimal.Post
-    (λ c. search needs)
-    (λ c. search needs)
-    (put-requires t)
-    (λ c. search needs)
-    (returns t)
-    (put-decimal-requires t)
-    (λ c. search needs)
-    (λ c. search needs)
-    (put-requires-2 t)
-    (λ c. search needs)
++put-decimal-spec = close μ λ t. lts.spec (put.Asked, put.Learnt, below t, put-decimal.Post) (here t) put-decimal.Post (λ c. search needs) (λ c. search needs)
+    (put-requires t) (λ c. search needs) (returns t) (put-decimal-requires t) (λ c. search needs) (λ c. search needs) (put-requires-2 t) (λ c. search needs)
     (returns-2 t)

@@ -1,10 +1,6 @@
 -- `print::put_bytes` meets its contract. The invariant of its loop: the first i bytes are written. The measure is the length less i.
 -- Assumes nothing.
-use Prim.Native.Nat.{_+_, _-_, _≤_}
-use native.Mathlib.Omega.{arith}
-use native.Mathlib.Nat.{add-zero}
-use borrow.Author.Needs.{needs}
-use lib.ListN.{length, take}
+use Rattle.lists.proofs.Kit.{_+_, _-_, _≤_, add-zero, arith, length, take, needs}
 use Rattle.print.specs.Print.{Wrote}
 use Rattle.print.proofs.Laws.{wrote-none, wrote-byte, wrote-bytes}
 use Rattle.print.proofs.put_bytes.Statement.{statement}
@@ -28,18 +24,7 @@ returns : tie.Need-returns Inv-loop μ-loop
 returns c = wrote-bytes (c .before .before .args .s .now) (c .before .loop .i) (c .before .loop .inv .1) (c .loop-test .left)
 
 pub put-bytes-spec : {M : Type 1} → statement M
-put-bytes-spec =
-    tie.close
-    (tie.spec
-    Inv-loop
-    μ-loop
-    loop-holds
+put-bytes-spec = tie.close (tie.spec Inv-loop μ-loop loop-holds (λ c. search needs) (λ c. search needs) (λ c. search needs) (λ c. search needs)
     (λ c. search needs)
-    (λ c. search needs)
-    (λ c. search needs)
-    (λ c. search needs)
-    (λ c. search needs)
-    loop-again
-    (λ c. search needs)
-    (λ c. search needs)
+    loop-again (λ c. search needs) (λ c. search needs)
     returns)

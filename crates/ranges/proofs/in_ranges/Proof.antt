@@ -1,9 +1,6 @@
 -- `ranges::in_ranges` meets its contract: the last range that starts at x or before decides, and there is none where x is before every start.
 -- Assumes nothing.
-use Prim.Native.Nat.{_-_}
-use mathlib.Core.Path.{sym}
-use native.Mathlib.Omega.{arith}
-use borrow.Author.Needs.{needs}
+use Rattle.lists.proofs.Kit.{sym, _-_, arith, needs}
 use Rattle.ranges.proofs.Lengths.{apart-starts, apart-length, before-all, last-of}
 use Rattle.ranges.proofs.in_ranges.Statement.{statement}
 use Rattle.ranges.proofs.in_ranges.Tie as tie
@@ -46,7 +43,5 @@ returns-2 c =
     last-of at-start.args.starts.now at-start.args.lengths.now (found .result) (omega (arith, c .before .before .if1 .left)) at-start.pre (found .ensures)
 
 pub in-ranges-spec : {M : Type 1} → statement M
-in-ranges-spec =
-    tie.close
-    (tie.spec up-to-requires returns (λ c. search needs) (λ c. search needs) (λ c. search needs) sub-result (λ c. search needs)
+in-ranges-spec = tie.close (tie.spec up-to-requires returns (λ c. search needs) (λ c. search needs) (λ c. search needs) sub-result (λ c. search needs)
     shared-slice-read-result-2 cast-result returns-2)

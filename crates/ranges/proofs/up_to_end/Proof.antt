@@ -1,9 +1,6 @@
 -- `ranges::up_to_end` meets its contract. The invariant of its loop: the numbers before `low` are at most x, those from `high` on are
 -- above it. The measure is what lies between. Assumes nothing.
-use Prim.Native.Nat.{_+_, _-_, _/_}
-use mathlib.Core.Path.{_≡_}
-use native.Mathlib.Omega.{arith}
-use borrow.Author.Needs.{needs}
+use Rattle.lists.proofs.Kit.{_≡_, _+_, _-_, _/_, arith, needs}
 use Rattle.ranges.proofs.Search.{Search, search-up, search-down, search-found}
 use Rattle.ranges.proofs.up_to_end.Statement.{statement}
 use Rattle.ranges.proofs.up_to_end.Tie as tie
@@ -40,19 +37,8 @@ returns c =
     search-found at-loop.low (rw high-is at at-loop.inv)
 
 pub up-to-end-spec : {M : Type 1} → statement M
-up-to-end-spec =
-    tie.close
-    (tie.spec
-    Inv-loop
-    μ-loop
-    loop-holds
-    (λ c. search needs)
-    (λ c. search needs)
-    (λ c. search needs)
-    (λ c. search needs)
-    (λ c. search needs)
-    (λ c. search needs)
-    loop-again
-    (λ c. search needs)
+up-to-end-spec = tie.close (tie.spec Inv-loop μ-loop loop-holds (λ c. search needs) (λ c. search needs) (λ c. search needs) (λ c. search needs)
+    (λ c. search needs) (λ c. search needs)
+    loop-again (λ c. search needs)
     loop-again-2
     returns)

@@ -1,8 +1,5 @@
 -- `main` is safe and ends: it lends all of its room. Assumes nothing.
-use Prim.Native.Nat.{ℕ}
-use mathlib.Core.Path.{sym}
-use borrow.Author.Needs.{needs}
-use lib.ListN.{length-replicate}
+use Rattle.lists.proofs.Kit.{sym, ℕ, length-replicate, needs}
 use Rattle.replay.proofs.main.Statement.{statement}
 use Rattle.replay.proofs.main.Tie as tie
 

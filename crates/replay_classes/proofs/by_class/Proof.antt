@@ -1,9 +1,5 @@
 -- `by_class` meets its contract: the test of the definition, and the slice that is lent. Assumes nothing.
-use mathlib.Core.Path.{sym}
-use borrow.Author.Needs.{needs}
-use borrow.Author.Tests.{le-leb, lt-leb}
-use lib.ListN.{replicate}
-use lib.Seq.{length-take-le}
+use Rattle.lists.proofs.Kit.{sym, replicate, length-take-le, needs, le-leb, lt-leb}
 use Rattle.replay_verdicts.proofs.Comparing.{take-replicate}
 use Rattle.replay_classes.specs.Classes.{classVerdict}
 use Rattle.replay_classes.proofs.by_class.Statement.{statement}
@@ -24,6 +20,4 @@ returns-2 c =
     rw (le-leb _ 64 (fit .if1 .left), ← take-replicate (given-k .g) 64 165 (fit .if1 .left)) (c .before .into .ensures)
 
 pub by-class-spec : {M : Type 1} → statement M
-by-class-spec =
-    tie.close
-    (tie.spec (λ c. search needs) returns (λ c. search needs) lent (λ c κs. search needs) returns-2)
+by-class-spec = tie.close (tie.spec (λ c. search needs) returns (λ c. search needs) lent (λ c κs. search needs) returns-2)

@@ -1,11 +1,5 @@
 -- `compared_all` meets its contract: the number with the places first, and then the bytes. Assumes nothing.
-use mathlib.Core.Path.{sym, ap, _∙_}
-use mathlib.Core.List.{_∷_}
-use native.Mathlib.Omega.{arith}
-use borrow.Author.Needs.{needs}
-use Prim.Native.Nat.{_+_, _-_}
-use lib.ListN.{length, drop, length-drop}
-use lib.Seq.{take-all, length-take-le}
+use Rattle.lists.proofs.Kit.{sym, ap, _∙_, _∷_, _+_, _-_, arith, length, drop, length-drop, take-all, length-take-le, needs}
 use Rattle.replay_verdicts.specs.Answers.{compared}
 use Rattle.replay_classes.proofs.Parts.{parts-short, parts-agree, parts-differ, parts-formed}
 use Rattle.replay_classes.proofs.compared_all.Statement.{statement}
@@ -25,8 +19,7 @@ returns-2 c =
     let at-first = agreed .before .before in
     let fit = at-first .before .before in
     let given = fit .before .before .before .before .args in
-    c .compared-bytes .ensures
-    ∙ ap (compared (given .bytes .now))
+    c .compared-bytes .ensures ∙ ap (compared (given .bytes .now))
     (take-all (length (given .stored .now) - (length (given .places .now) + 1)) (drop (length (given .places .now) + 1) (given .stored .now))
     (omega (arith, length-drop (length (given .places .now) + 1) (given .stored .now))))
     ∙ parts-agree (given .number ∷ given .places .now) (given .bytes .now) (given .stored .now) (length (given .places .now) + 1) (omega arith)
@@ -48,20 +41,8 @@ returns-4 c =
     (sym (at-first .compared .ensures) ∙ c .enum-told3 .given .1)
 
 pub compared-all-spec : {M : Type 1} → statement M
-compared-all-spec =
-    tie.close
-    (tie.spec
-    (λ c. search needs)
-    returns
-    lent
-    (λ c κs. search needs)
-    (λ c. search needs)
-    (λ c. search needs)
-    (λ c. search needs)
-    (λ c. search needs)
-    (λ c κs. search needs)
-    (λ c. search needs)
-    (λ c. search needs)
+compared-all-spec = tie.close (tie.spec (λ c. search needs) returns lent (λ c κs. search needs) (λ c. search needs) (λ c. search needs) (λ c. search needs)
+    (λ c. search needs) (λ c κs. search needs) (λ c. search needs) (λ c. search needs)
     returns-2
     returns-3
     returns-4)

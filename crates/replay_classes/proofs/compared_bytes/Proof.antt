@@ -1,6 +1,4 @@
--- `compared_bytes` meets its contract. Assumes nothing.
-use mathlib.Core.Path.{sym, _∙_}
-use borrow.Author.Needs.{needs}
+use Rattle.lists.proofs.Kit.{sym, _∙_, needs}
 use Rattle.replay_verdicts.specs.Answers.{compared}
 use Rattle.replay_classes.proofs.compared_bytes.Statement.{statement}
 use Rattle.replay_classes.proofs.compared_bytes.Tie as tie

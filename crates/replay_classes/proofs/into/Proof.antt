@@ -1,6 +1,5 @@
 -- `into` meets its contract, by the operation. Assumes nothing.
-use borrow.Author.Needs.{needs}
-use borrow.Author.Tests.{eq-eqb, ne-eqb}
+use Rattle.lists.proofs.Kit.{needs, eq-eqb, ne-eqb}
 use Rattle.replay_classes.specs.Classes.{answered}
 use Rattle.replay_classes.proofs.into.Statement.{statement}
 use Rattle.replay_classes.proofs.into.Tie as tie
@@ -14,6 +13,4 @@ unfolding answered
 returns-2 c = rw (ne-eqb _ 5 (c .before .before .before .before .if1 .left)) (c .before .before .classed-into .ensures)
 
 pub into-spec : {M : Type 1} → statement M
-into-spec =
-    tie.close
-    (tie.spec (λ c κs. search needs) (λ c. search needs) returns (λ c κs. search needs) (λ c. search needs) returns-2)
+into-spec = tie.close (tie.spec (λ c κs. search needs) (λ c. search needs) returns (λ c κs. search needs) (λ c. search needs) returns-2)

@@ -1,16 +1,8 @@
 -- `compared_three` meets its contract, by what stands first in the stored answer and then by the rest. Assumes nothing.
-use mathlib.Core.Path.{sym, _∙_}
-use mathlib.Core.List.{_∷_}
-use native.Mathlib.Omega.{arith}
-use borrow.Author.Needs.{needs}
+use Rattle.lists.proofs.Kit.{sym, _∙_, _∷_, arith, needs}
 use Rattle.replay_verdicts.proofs.Comparing.{compared-none, compared-other, compared-first}
 use Rattle.replay_codings.proofs.compared_three.Statement.{statement}
 use Rattle.replay_codings.proofs.compared_three.Tie as tie
-
-returns : tie.Need-returns
-returns c =
-    let given = c .before .before .before .args in
-    compared-none given.first (given .second ∷ given .third ∷ given .places .now) (given .stored .now) (c .if1 .taken)
 
 returns-2 : tie.Need-returns-2
 returns-2 c =
@@ -25,14 +17,6 @@ returns-3 c =
     ∙ sym (compared-first given.first (given .second ∷ given .third ∷ given .places .now) (given .stored .now) (omega arith) (at-if2 .if2 .left))
 
 pub compared-three-spec : {M : Type 1} → statement M
-compared-three-spec =
-    tie.close
-    (tie.spec
-    returns
-    (λ c. search needs)
-    returns-2
-    (λ c. search needs)
-    (λ c. search needs)
-    (λ c. search needs)
-    (λ c κs. search needs)
-    returns-3)
+compared-three-spec = tie.close
+    (tie.spec (λ c. search (needs, compared-none)) (λ c. search needs) returns-2 (λ c. search needs) (λ c. search needs) (λ c. search needs)
+    (λ c κs. search needs) returns-3)

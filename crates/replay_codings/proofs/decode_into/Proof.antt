@@ -13,13 +13,6 @@ returns c =
     (rw (utf8-decode-told .1) at (c .compared-three .ensures))
 
 pub decode-into-spec : {M : Type 1} → statement M
-decode-into-spec =
-    tie.close
-    (tie.spec
-    (λ c κs. search needs)
-    (λ c. search needs)
-    (λ c. search needs)
-    (λ c. search needs)
-    (λ c κs. search needs)
+decode-into-spec = tie.close (tie.spec (λ c κs. search needs) (λ c. search needs) (λ c. search needs) (λ c. search needs) (λ c κs. search needs)
     (λ c. search needs)
     returns)

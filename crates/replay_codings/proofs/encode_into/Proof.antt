@@ -1,6 +1,5 @@
 -- `encode_into` meets its contract: what the call answers, and leaves in both lent places, is compared. Assumes nothing.
-use mathlib.Core.Path.{_∙_}
-use borrow.Author.Needs.{needs}
+use Rattle.lists.proofs.Kit.{_∙_, needs}
 use Rattle.replay_codings.proofs.Coded.{encoded-compared}
 use Rattle.replay_codings.proofs.encode_into.Statement.{statement}
 use Rattle.replay_codings.proofs.encode_into.Tie as tie
@@ -15,13 +14,6 @@ returns c =
     (rw (widened .widen .ensures ∙ utf8-encode-told .1) at (c .compared-two .ensures))
 
 pub encode-into-spec : {M : Type 1} → statement M
-encode-into-spec =
-    tie.close
-    (tie.spec
-    (λ c κs. search needs)
-    (λ c κs. search needs)
-    (λ c. search needs)
-    (λ c κs. search needs)
-    (λ c. search needs)
+encode-into-spec = tie.close (tie.spec (λ c κs. search needs) (λ c κs. search needs) (λ c. search needs) (λ c κs. search needs) (λ c. search needs)
     (λ c. search needs)
     returns)

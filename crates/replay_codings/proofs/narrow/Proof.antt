@@ -1,13 +1,6 @@
 -- `narrow` meets its contract. The invariant of its loop: the numbers before i are bytes, and stand in the places. The measure is the length
 -- less i. Assumes nothing.
-use Prim.Native.Nat.{_-_, _≤_}
-use mathlib.Core.Path.{_≡_, refl, ap, sym, _∙_}
-use mathlib.Core.Bool.{true, false, not}
-use native.Mathlib.Omega.{arith}
-use borrow.Author.Needs.{needs}
-use borrow.Author.Tests.{lt-ltb, le-ltb}
-use lib.ListN.{length, getD, take, drop, length-set}
-use lib.Seq.{take-all}
+use Rattle.lists.proofs.Kit.{_≡_, ap, sym, _∙_, false, not, _-_, _≤_, arith, length, getD, take, drop, length-set, take-all, needs, lt-ltb, le-ltb}
 use Rattle.lists.specs.Lists.{any}
 use Rattle.lists.proofs.Any.{any-on, any-end, any-there}
 use Rattle.replay_codings.specs.Codings.{isWide}
@@ -21,9 +14,6 @@ Inv-loop numbers bytes₀ i₀ bytes i =
 
 abbrev μ-loop : tie.MeasureT-loop
 μ-loop numbers bytes₀ i₀ bytes i = length numbers - i
-
-loop-holds : tie.Need-loop-holds Inv-loop μ-loop
-loop-holds c = (omega arith, refl, refl, refl)
 
 -- a number that is no byte
 returns : tie.Need-returns Inv-loop μ-loop
@@ -58,20 +48,6 @@ returns-2 c =
     }
 
 pub narrow-spec : {M : Type 1} → statement M
-narrow-spec =
-    tie.close
-    (tie.spec
-    Inv-loop
-    μ-loop
-    loop-holds
-    (λ c. search needs)
-    (λ c. search needs)
-    (λ c. c .before .before .before .loop .inv .3)
-    returns
-    (λ c. search needs)
-    (λ c. omega arith)
-    (λ c. search needs)
-    (λ c. search needs)
-    loop-again
-    (λ c. c .before .loop .inv .3)
-    returns-2)
+narrow-spec = tie.close
+    (tie.spec Inv-loop μ-loop (λ c. search needs) (λ c. search needs) (λ c. search needs) (λ c. c .before .before .before .loop .inv .3) returns
+    (λ c. search needs) (λ c. omega arith) (λ c. search needs) (λ c. search needs) loop-again (λ c. c .before .loop .inv .3) returns-2)

@@ -1,10 +1,5 @@
 -- `utf8_decode` meets its contract: the tests of the definition in their order. Assumes nothing.
-use mathlib.Core.Path.{_≡_, sym, ap, _∙_}
-use native.Mathlib.Omega.{arith}
-use borrow.Author.Needs.{needs}
-use borrow.Author.Tests.{le-leb, lt-leb, not-true, not-false}
-use lib.ListN.{length, replicate}
-use lib.Seq.{length-take-le}
+use Rattle.lists.proofs.Kit.{sym, _∙_, arith, length-take-le, needs, le-leb, lt-leb, not-true, not-false}
 use Rattle.replay_verdicts.specs.Answers.{filler}
 use Rattle.replay_verdicts.proofs.Comparing.{take-replicate}
 use Rattle.replay_codings.specs.Codings.{decodeVerdict}
@@ -33,11 +28,6 @@ lent c =
     let narrowed = c .before .before .before in
     sym (length-take-le _ _ (omega (arith, narrowed .narrow .ensures .same, narrowed .before .before .before .if1 .left)))
 
-lent-2 : tie.Need-slice-aggregate-decode-into-2
-lent-2 c =
-    let at-if2 = c .before .before .before .before .before .before in
-    sym (length-take-le _ (replicate 64 filler) (at-if2 .if2 .left))
-
 returns-4 : tie.Need-returns-4
 unfolding decodeVerdict
 returns-4 c =
@@ -51,22 +41,9 @@ returns-4 c =
       le-leb _ 64 (roomy .if2 .left),
       sym (narrowed .narrow .ensures .told) ∙ is-true,
       ← take-replicate (given-k .a) 64 filler (roomy .if2 .left),
-    )
-    (rw (narrowed .narrow .ensures .front is-true) at (c .before .decode-into .ensures))
+    ) (rw (narrowed .narrow .ensures .front is-true) at (c .before .decode-into .ensures))
 
 pub utf8-decode-spec : {M : Type 1} → statement M
-utf8-decode-spec =
-    tie.close
-    (tie.spec
-    (λ c. search needs)
-    returns
-    returns-2
-    (λ c. search needs)
-    (λ c κs. search needs)
-    returns-3
-    (λ c. search needs)
-    lent
-    (λ c. search needs)
-    lent-2
-    (λ c κs. search needs)
-    returns-4)
+utf8-decode-spec = tie.close
+    (tie.spec (λ c. search needs) returns returns-2 (λ c. search needs) (λ c κs. search needs) returns-3 (λ c. search needs) lent (λ c. search needs)
+    (λ c. search (needs, length-take-le)) (λ c κs. search needs) returns-4)

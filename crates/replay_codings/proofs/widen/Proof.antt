@@ -1,10 +1,5 @@
 -- `widen` meets its contract. The invariant of its loop: the first i bytes stand in the places. The measure is the length less i. Assumes nothing.
-use Prim.Native.Nat.{_-_, _≤_}
-use mathlib.Core.Path.{_≡_, refl, sym, _∙_}
-use native.Mathlib.Omega.{arith}
-use borrow.Author.Needs.{needs}
-use lib.ListN.{length, take, length-set}
-use lib.Seq.{take-all}
+use Rattle.lists.proofs.Kit.{_≡_, refl, sym, _∙_, _-_, _≤_, arith, length, take, length-set, take-all, needs}
 use Rattle.replay_codings.proofs.Coded.{take-on}
 use Rattle.replay_codings.proofs.widen.Statement.{statement}
 use Rattle.replay_codings.proofs.widen.Tie as tie
@@ -18,15 +13,6 @@ abbrev μ-loop : tie.MeasureT-loop
 cast-numbers : tie.Need-cast-numbers Inv-loop μ-loop
 cast-numbers c = omega (arith, c .shared-slice-known .given (c .before .before .loop .i))
 
-loop-again : tie.Need-loop-again Inv-loop μ-loop
-loop-again c =
-    let at-loop = c .before .before in
-    let tested = c .before .loop-test .taken in (
-      omega arith,
-      take-on (at-loop .before .args .bytes .now) (at-loop .loop .numbers) (at-loop .loop .i) tested (omega arith) (at-loop .loop .inv .1),
-      simp length-set (at-loop .loop .inv .2),
-    )
-
 returns : tie.Need-returns Inv-loop μ-loop
 returns c =
     let at-loop = c .before .loop in
@@ -34,18 +20,5 @@ returns c =
     sym (take-all at-loop.i at-loop.numbers (omega arith)) ∙ at-loop.inv .1 ∙ take-all at-loop.i bytes-now (omega arith)
 
 pub widen-spec : {M : Type 1} → statement M
-widen-spec =
-    tie.close
-    (tie.spec
-    Inv-loop
-    μ-loop
-    (λ c. (omega arith, refl, refl))
-    (λ c. search needs)
-    cast-numbers
-    (λ c. search needs)
-    (λ c. omega arith)
-    (λ c. search needs)
-    (λ c. search needs)
-    loop-again
-    (λ c. c .before .loop .inv .2)
-    returns)
+widen-spec = tie.close (tie.spec Inv-loop μ-loop (λ c. (omega arith, refl, refl)) (λ c. search needs) cast-numbers (λ c. search needs) (λ c. omega arith)
+    (λ c. search needs) (λ c. search needs) (λ c. search (needs, length-set, take-on)) (λ c. c .before .loop .inv .2) returns)

@@ -1,58 +1,9 @@
 -- `compared_all` meets its contract: the pieces, one after another, are compared. Assumes nothing.
-use mathlib.Core.Path.{sym}
-use native.Mathlib.Omega.{arith}
-use borrow.Author.Needs.{needs}
-use lib.Seq.{length-take-le}
+use Rattle.lists.proofs.Kit.{sym, arith, length-take-le, needs}
 use Rattle.print.proofs.Laws.{wrote-then}
 use Rattle.replay_edits.proofs.Comparing.{written-front}
 use Rattle.replay_edits.proofs.compared_all.Statement.{statement}
 use Rattle.replay_edits.proofs.compared_all.Tie as tie
-
-second : tie.Need-put-all-requires-2
-second c κs = let put-all-told = c .before .before .before .put-all .ensures in omega (arith, put-all-told .next, put-all-told .size)
-
-third : tie.Need-put-all-requires-3
-third c κs =
-    let at-put-all2 = c .before .before in
-    let at-put-all = at-put-all2 .before .before .before .before in
-    let entry = at-put-all .before .before .before .before .before .before in
-    let put-all-told = at-put-all .put-all .ensures in
-    let put-all2-told = at-put-all2 .put-all2 .ensures in
-    omega (arith, put-all-told .next, put-all-told .size, put-all2-told .next, put-all2-told .size, entry .pre .0)
-
-fourth : tie.Need-put-all-requires-4
-fourth c κs =
-    let at-put-all3 = c .before .before in
-    let at-put-all2 = at-put-all3 .before .before .before in
-    let at-put-all = at-put-all2 .before .before .before .before in
-    let entry = at-put-all .before .before .before .before .before .before in
-    let put-all-told = at-put-all .put-all .ensures in
-    let put-all2-told = at-put-all2 .put-all2 .ensures in
-    let put-all3-told = at-put-all3 .put-all3 .ensures in
-    omega (
-      arith,
-      put-all-told .next,
-      put-all-told .size,
-      put-all2-told .next,
-      put-all2-told .size,
-      put-all3-told .next,
-      put-all3-told .size,
-      entry .pre .0,
-      entry .pre .1,
-    )
-
-prefix : tie.Need-array-share-prefix-all
-prefix c =
-    let at-put-all4 = c .before in
-    let at-put-all3 = at-put-all4 .before .before .before in
-    let at-put-all2 = at-put-all3 .before .before .before in
-    let at-put-all = at-put-all2 .before .before .before .before in
-    let entry = at-put-all .before .before .before .before .before .before in
-    let put-all-told = at-put-all .put-all .ensures in
-    let put-all2-told = at-put-all2 .put-all2 .ensures in
-    let put-all3-told = at-put-all3 .put-all3 .ensures in
-    let put-all4-told = at-put-all4 .put-all4 .ensures in
-    omega (arith, put-all-told .next, put-all2-told .next, put-all3-told .next, put-all4-told .next, entry .pre .0, entry .pre .1)
 
 lent : tie.Need-slice-aggregate-compared
 lent c =
@@ -60,14 +11,12 @@ lent c =
     let at-put-all3 = at-put-all4 .before .before .before in
     let at-put-all2 = at-put-all3 .before .before .before in
     let at-put-all = at-put-all2 .before .before .before .before in
-    let entry = at-put-all .before .before .before .before .before .before in
+    let at-start = at-put-all .before .before .before .before .before .before in
     let put-all-told = at-put-all .put-all .ensures in
     let put-all2-told = at-put-all2 .put-all2 .ensures in
     let put-all3-told = at-put-all3 .put-all3 .ensures in
     let put-all4-told = at-put-all4 .put-all4 .ensures in
-    sym
-    (length-take-le _ _
-    (omega (
+    sym (length-take-le _ _ (omega (
       arith,
       put-all-told .next,
       put-all-told .size,
@@ -77,8 +26,8 @@ lent c =
       put-all3-told .size,
       put-all4-told .next,
       put-all4-told .size,
-      entry .pre .0,
-      entry .pre .1,
+      at-start .pre .0,
+      at-start .pre .1,
     )))
 
 returns : tie.Need-returns
@@ -87,29 +36,17 @@ returns c =
     let at-put-all3 = at-put-all4 .before .before .before in
     let at-put-all2 = at-put-all3 .before .before .before in
     let at-put-all = at-put-all2 .before .before .before .before in
-    let entry = at-put-all .before .before .before .before .before .before in
+    let at-start = at-put-all .before .before .before .before .before .before in
     let put-all-told = at-put-all .put-all .ensures in
     let put-all2-told = at-put-all2 .put-all2 .ensures in
     let put-all3-told = at-put-all3 .put-all3 .ensures in
     let put-all4-told = at-put-all4 .put-all4 .ensures in
     let all = wrote-then (wrote-then (wrote-then put-all-told put-all2-told) put-all3-told) put-all4-told in
     let front = written-front all
-    (omega (arith, all .next, put-all-told .next, put-all2-told .next, put-all3-told .next, put-all4-told .next, entry .pre .0, entry .pre .1)) in
+    (omega (arith, all .next, put-all-told .next, put-all2-told .next, put-all3-told .next, put-all4-told .next, at-start .pre .0, at-start .pre .1)) in
     rw front at (c .compared .ensures)
 
 pub compared-all-spec : {M : Type 1} → statement M
-compared-all-spec =
-    tie.close
-    (tie.spec
-    (λ c. search needs)
-    (λ c κs. search needs)
-    (λ c. search needs)
-    second
-    (λ c. search needs)
-    third
-    (λ c. search needs)
-    fourth
-    prefix
-    lent
-    (λ c κs. search needs)
-    returns)
+compared-all-spec = tie.close
+    (tie.spec (λ c. search needs) (λ c κs. search needs) (λ c. search needs) (λ c κs. search needs) (λ c. search needs) (λ c κs. search needs)
+    (λ c. search needs) (λ c κs. search needs) (λ c. search needs) lent (λ c κs. search needs) returns)

@@ -1,9 +1,5 @@
 -- `edit` meets its contract: the tests of the definition, and the buffers that are lent. Assumes nothing.
-use mathlib.Core.Path.{sym}
-use native.Mathlib.Omega.{arith}
-use borrow.Author.Needs.{needs}
-use borrow.Author.Tests.{le-leb, lt-leb}
-use lib.Seq.{length-take-le}
+use Rattle.lists.proofs.Kit.{sym, arith, length-take-le, needs, le-leb, lt-leb}
 use Rattle.replay_edits.specs.Edits.{editVerdict}
 use Rattle.replay_edits.proofs.Comparing.{lent-front}
 use Rattle.replay_edits.proofs.edit.Statement.{statement}
@@ -53,17 +49,7 @@ returns-3 c =
     (rw (lent-front (at-put-all .put-all .ensures) text-fits, lent-front (at-put-all2 .put-all2 .ensures) folds-fit) at (at-edit-into .edit-into .ensures))
 
 pub edit-spec : {M : Type 1} → statement M
-edit-spec =
-    tie.close
-    (tie.spec
-    returns
-    returns-2
-    (λ c. search needs)
-    (λ c κs. search needs)
-    (λ c. search needs)
-    (λ c κs. search needs)
-    (λ c. search needs)
-    lent
+edit-spec = tie.close (tie.spec returns returns-2 (λ c. search needs) (λ c κs. search needs) (λ c. search needs) (λ c κs. search needs) (λ c. search needs) lent
     (λ c. search needs)
     lent-2
     edit-into-requires

@@ -8,8 +8,8 @@ returns : tie.Need-returns
 returns c =
     let at-insert = c .before .before .before .before in
     let at-if1 = at-insert .before .before .before .before .before in
-    let entry = at-if1 .before .before .before .before .before in
-    let given = entry .args in
+    let at-start = at-if1 .before .before .before .before .before in
+    let given = at-start .args in
     let taken = at-if1 .if1 .taken in
     rw (to-insert (given .k) (given .points .now) taken, put-insert (given .k) (given .points .now) taken) (at-insert .insert .ensures)
 
@@ -17,20 +17,12 @@ returns-2 : tie.Need-returns-2
 returns-2 c =
     let at-delete = c .before .before .before .before in
     let at-if1 = at-delete .before .before .before .before .before in
-    let entry = at-if1 .before .before .before .before .before in
-    let given = entry .args in
+    let at-start = at-if1 .before .before .before .before .before in
+    let given = at-start .args in
     let left = at-if1 .if1 .left in
     rw (to-delete (given .k) (given .points .now) left, put-delete (given .k) (given .points .now) left) (at-delete .delete .ensures)
 
 pub edited-spec : {M : Type 1} → statement M
-edited-spec =
-    tie.close
-    (tie.spec
-    (λ c κs. search needs)
-    (λ c. search needs)
-    (λ c. search needs)
-    returns
-    (λ c κs. search needs)
-    (λ c. search needs)
+edited-spec = tie.close (tie.spec (λ c κs. search needs) (λ c. search needs) (λ c. search needs) returns (λ c κs. search needs) (λ c. search needs)
     (λ c. search needs)
     returns-2)

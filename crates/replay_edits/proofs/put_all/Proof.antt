@@ -1,10 +1,6 @@
 -- `put_all` meets its contract. The invariant of its loop: the first i numbers are written. The measure is the length less i.
 -- Assumes nothing.
-use Prim.Native.Nat.{_+_, _-_, _≤_}
-use native.Mathlib.Omega.{arith}
-use native.Mathlib.Nat.{add-zero}
-use borrow.Author.Needs.{needs}
-use lib.ListN.{length, take}
+use Rattle.lists.proofs.Kit.{_+_, _-_, _≤_, add-zero, length, take, needs}
 use Rattle.print.specs.Print.{Wrote}
 use Rattle.print.proofs.Laws.{wrote-none, wrote-byte, wrote-bytes}
 use Rattle.replay_edits.proofs.put_all.Statement.{statement}
@@ -16,32 +12,7 @@ Inv-loop out₀ at s i₀ out i = (i ≤ length s) × Wrote out₀ at (take i s)
 abbrev μ-loop : tie.MeasureT-loop
 μ-loop out₀ at s i₀ out i = length s - i
 
-loop-holds : tie.Need-loop-holds Inv-loop μ-loop
-loop-holds c = (omega arith, rw add-zero (wrote-none _ _))
-
-loop-again : tie.Need-loop-again Inv-loop μ-loop
-loop-again c =
-    let at-loop = c .before .before .loop in
-    (omega arith, wrote-byte (c .before .before .before .args .s .now) at-loop.i (at-loop.inv .1) (c .before .loop-test .taken))
-
-returns : tie.Need-returns Inv-loop μ-loop
-returns c = wrote-bytes (c .before .before .args .s .now) (c .before .loop .i) (c .before .loop .inv .1) (c .loop-test .left)
-
 pub put-all-spec : {M : Type 1} → statement M
-put-all-spec =
-    tie.close
-    (tie.spec
-    Inv-loop
-    μ-loop
-    loop-holds
-    (λ c. search needs)
-    (λ c. search needs)
-    (λ c. search needs)
-    (λ c. search needs)
-    (λ c. search needs)
-    (λ c. search needs)
-    (λ c. search needs)
-    loop-again
-    (λ c. search needs)
-    (λ c. search needs)
-    returns)
+put-all-spec = tie.close (tie.spec Inv-loop μ-loop (λ c. search (needs, add-zero, wrote-none)) (λ c. search needs) (λ c. search needs) (λ c. search needs)
+    (λ c. search needs) (λ c. search needs) (λ c. search needs) (λ c. search needs) (λ c. search (needs, wrote-byte)) (λ c. search needs)
+    (λ c. search needs) (λ c. search (needs, wrote-bytes)))

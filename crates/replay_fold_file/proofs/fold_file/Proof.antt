@@ -1,6 +1,5 @@
 -- `fold_file` meets its contract, by the operation. Assumes nothing.
-use borrow.Author.Needs.{needs}
-use borrow.Author.Tests.{eq-eqb, ne-eqb}
+use Rattle.lists.proofs.Kit.{needs, eq-eqb, ne-eqb}
 use Rattle.replay_fold_file.specs.FoldFiles.{fileVerdict}
 use Rattle.replay_fold_file.proofs.fold_file.Statement.{statement}
 use Rattle.replay_fold_file.proofs.fold_file.Tie as tie

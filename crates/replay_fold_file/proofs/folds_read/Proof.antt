@@ -1,10 +1,5 @@
 -- `folds_read` meets its contract: the tests of the definition in their order. Assumes nothing.
-use mathlib.Core.Path.{sym, _∙_}
-use native.Mathlib.Omega.{arith}
-use borrow.Author.Needs.{needs}
-use borrow.Author.Tests.{le-leb, lt-leb, not-true, not-false}
-use lib.ListN.{replicate}
-use lib.Seq.{length-take-le}
+use Rattle.lists.proofs.Kit.{sym, _∙_, arith, replicate, length-take-le, needs, le-leb, lt-leb, not-true, not-false}
 use Rattle.replay_verdicts.specs.Answers.{filler}
 use Rattle.replay_verdicts.proofs.Comparing.{take-replicate}
 use Rattle.replay_fold_file.specs.FoldFiles.{readVerdict}
@@ -51,22 +46,10 @@ returns-4 c =
       le-leb _ 771 (roomy .if2 .left),
       sym (narrowed .narrow .ensures .told) ∙ is-true,
       ← take-replicate (given-k .a) 771 filler (roomy .if2 .left),
-    )
-    (rw (narrowed .narrow .ensures .front is-true) at (c .before .read-into .ensures))
+    ) (rw (narrowed .narrow .ensures .front is-true) at (c .before .read-into .ensures))
 
 pub folds-read-spec : {M : Type 1} → statement M
-folds-read-spec =
-    tie.close
-    (tie.spec
+folds-read-spec = tie.close (tie.spec (λ c. search needs) returns returns-2 (λ c. search needs) (λ c κs. search needs) returns-3 (λ c. search needs) lent
     (λ c. search needs)
-    returns
-    returns-2
-    (λ c. search needs)
-    (λ c κs. search needs)
-    returns-3
-    (λ c. search needs)
-    lent
-    (λ c. search needs)
-    lent-2
-    (λ c κs. search needs)
+    lent-2 (λ c κs. search needs)
     returns-4)

@@ -1,9 +1,5 @@
 -- `folds_write` meets its contract: the test of the definition, and the places that are lent. Assumes nothing.
-use mathlib.Core.Path.{sym, _∙_}
-use borrow.Author.Needs.{needs}
-use borrow.Author.Tests.{le-leb, lt-leb}
-use lib.ListN.{replicate}
-use lib.Seq.{length-take-le}
+use Rattle.lists.proofs.Kit.{sym, _∙_, replicate, length-take-le, needs, le-leb, lt-leb}
 use Rattle.replay_verdicts.proofs.Comparing.{take-replicate}
 use Rattle.replay_fold_file.specs.FoldFiles.{writeVerdict}
 use Rattle.replay_fold_file.proofs.folds_write.Statement.{statement}
@@ -33,14 +29,4 @@ returns-2 c =
     rw (le-leb _ 2560 (roomy .if1 .left), ← take-replicate (given-k .a) 2560 165 (roomy .if1 .left)) (c .before .before .write-into .ensures)
 
 pub folds-write-spec : {M : Type 1} → statement M
-folds-write-spec =
-    tie.close
-    (tie.spec
-    (λ c. search needs)
-    returns
-    (λ c. search needs)
-    lent
-    (λ c. search needs)
-    lent-2
-    write-into-requires
-    returns-2)
+folds-write-spec = tie.close (tie.spec (λ c. search needs) returns (λ c. search needs) lent (λ c. search needs) lent-2 write-into-requires returns-2)

@@ -13,11 +13,4 @@ returns c =
     (rw (folds-read-told .1) at (c .compared-two .ensures))
 
 pub read-into-spec : {M : Type 1} → statement M
-read-into-spec =
-    tie.close
-    (tie.spec
-    (λ c κs. search needs)
-    (λ c. search needs)
-    (λ c κs. search needs)
-    (λ c. search needs)
-    returns)
+read-into-spec = tie.close (tie.spec (λ c κs. search needs) (λ c. search needs) (λ c κs. search needs) (λ c. search needs) returns)

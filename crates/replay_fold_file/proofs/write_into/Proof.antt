@@ -1,6 +1,5 @@
 -- `write_into` meets its contract: what the call answers, and leaves in both lent places, is compared. Assumes nothing.
-use mathlib.Core.Path.{_∙_}
-use borrow.Author.Needs.{needs}
+use Rattle.lists.proofs.Kit.{_∙_, needs}
 use Rattle.replay_fold_file.proofs.Filed.{written-compared}
 use Rattle.replay_fold_file.proofs.write_into.Statement.{statement}
 use Rattle.replay_fold_file.proofs.write_into.Tie as tie
@@ -15,13 +14,6 @@ returns c =
     (rw (widened .widen .ensures ∙ folds-write-told .1) at (c .compared-two .ensures))
 
 pub write-into-spec : {M : Type 1} → statement M
-write-into-spec =
-    tie.close
-    (tie.spec
-    (λ c κs. search needs)
-    (λ c κs. search needs)
-    (λ c. search needs)
-    (λ c κs. search needs)
-    (λ c. search needs)
+write-into-spec = tie.close (tie.spec (λ c κs. search needs) (λ c κs. search needs) (λ c. search needs) (λ c κs. search needs) (λ c. search needs)
     (λ c. search needs)
     returns)

@@ -1,7 +1,5 @@
 -- `jumped` meets its contract: the tests of the definition, and the parts that it names. Assumes nothing.
-use native.Mathlib.Omega.{arith}
-use borrow.Author.Needs.{needs}
-use borrow.Author.Tests.{le-leb, lt-leb}
+use Rattle.lists.proofs.Kit.{arith, needs, le-leb, lt-leb}
 use Rattle.replay_jumps.specs.Jumps.{jumpVerdict}
 use Rattle.replay_jumps.proofs.jumped.Statement.{statement}
 use Rattle.replay_jumps.proofs.jumped.Tie as tie
@@ -35,26 +33,7 @@ returns-3 c =
     rw (le-leb 2 _ (at-if1 .if1 .left), le-leb _ _ (at-if2 .if2 .left)) (c .with-room .ensures)
 
 pub jumped-spec : {M : Type 1} → statement M
-jumped-spec =
-    tie.close
-    (tie.spec
-    returns
-    (λ c. search needs)
-    cast-pairs
-    add-pairs
-    (λ c. search needs)
-    cast-words
-    add-words
-    returns-2
-    (λ c. search needs)
-    (λ c. search needs)
-    (λ c. search needs)
-    (λ c. search needs)
-    (λ c. search needs)
-    (λ c. search needs)
-    (λ c. search needs)
-    (λ c. search needs)
-    (λ c. search needs)
-    (λ c. search needs)
-    (λ c κs. search needs)
+jumped-spec = tie.close (tie.spec returns (λ c. search needs) cast-pairs add-pairs (λ c. search needs) cast-words add-words returns-2 (λ c. search needs)
+    (λ c. search needs) (λ c. search needs) (λ c. search needs) (λ c. search needs) (λ c. search needs) (λ c. search needs) (λ c. search needs)
+    (λ c. search needs) (λ c. search needs) (λ c κs. search needs)
     returns-3)

@@ -1,9 +1,5 @@
 -- `with_room` meets its contract: the test of the definition, and the places that are lent. Assumes nothing.
-use mathlib.Core.Path.{sym}
-use borrow.Author.Needs.{needs}
-use borrow.Author.Tests.{le-leb, lt-leb}
-use lib.ListN.{replicate}
-use lib.Seq.{length-take-le}
+use Rattle.lists.proofs.Kit.{sym, replicate, length-take-le, needs, le-leb, lt-leb}
 use Rattle.replay_verdicts.specs.Answers.{filler}
 use Rattle.replay_verdicts.proofs.Comparing.{take-replicate}
 use Rattle.replay_jumps.specs.Jumps.{roomVerdict}

@@ -15,5 +15,4 @@ returns c =
     rw (← without-plus-told .1) (wrapped-compared (plainTold (given .written .now) (given .list .now)) _ _ (without-plus-told .0) (c .compared-two .ensures))
 
 pub plain-into-spec : {M : Type 1} → statement M
-plain-into-spec =
-    tie.close (tie.spec (λ c κs. search needs) (λ c. search needs) (λ c κs. search needs) (λ c. search needs) returns)
+plain-into-spec = tie.close (tie.spec (λ c κs. search needs) (λ c. search needs) (λ c κs. search needs) (λ c. search needs) returns)

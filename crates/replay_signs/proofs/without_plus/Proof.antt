@@ -1,9 +1,5 @@
 -- `without_plus` meets its contract: the test of the definition, and the places that are lent. Assumes nothing.
-use mathlib.Core.Path.{sym}
-use borrow.Author.Needs.{needs}
-use borrow.Author.Tests.{le-leb, lt-leb}
-use lib.ListN.{replicate}
-use lib.Seq.{length-take-le}
+use Rattle.lists.proofs.Kit.{sym, replicate, length-take-le, needs, le-leb, lt-leb}
 use Rattle.replay_verdicts.specs.Answers.{filler}
 use Rattle.replay_verdicts.proofs.Comparing.{take-replicate}
 use Rattle.replay_signs.specs.Signs.{plainVerdict}
@@ -25,12 +21,4 @@ returns-2 c =
     rw (le-leb _ 64 (at-if1 .if1 .left), ← take-replicate (given-k .a) 64 filler (at-if1 .if1 .left)) (c .before .plain-into .ensures)
 
 pub without-plus-spec : {M : Type 1} → statement M
-without-plus-spec =
-    tie.close
-    (tie.spec
-    (λ c. search needs)
-    returns
-    (λ c. search needs)
-    lent
-    (λ c κs. search needs)
-    returns-2)
+without-plus-spec = tie.close (tie.spec (λ c. search needs) returns (λ c. search needs) lent (λ c κs. search needs) returns-2)

@@ -1,6 +1,5 @@
 -- `vim` meets its contract: the operation decides. Assumes nothing.
-use borrow.Author.Needs.{needs}
-use borrow.Author.Tests.{eq-eqb, ne-eqb}
+use Rattle.lists.proofs.Kit.{needs, eq-eqb, ne-eqb}
 use Rattle.replay_vim.specs.Vim.{vimVerdict}
 use Rattle.replay_vim.proofs.vim.Statement.{statement}
 use Rattle.replay_vim.proofs.vim.Tie as tie

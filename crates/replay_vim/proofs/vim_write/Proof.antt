@@ -1,9 +1,5 @@
 -- `vim_write` meets its contract: the test of the definition, and the places that are lent. Assumes nothing.
-use mathlib.Core.Path.{sym}
-use borrow.Author.Needs.{needs}
-use borrow.Author.Tests.{le-leb, lt-leb}
-use lib.ListN.{replicate}
-use lib.Seq.{length-take-le}
+use Rattle.lists.proofs.Kit.{sym, replicate, length-take-le, needs, le-leb, lt-leb}
 use Rattle.replay_verdicts.specs.Answers.{filler}
 use Rattle.replay_verdicts.proofs.Comparing.{take-replicate}
 use Rattle.replay_vim.specs.Vim.{vimWriteVerdict}
@@ -25,12 +21,4 @@ returns-2 c =
     rw (le-leb _ 64 (at-if1 .if1 .left), ← take-replicate (given-k .a) 64 filler (at-if1 .if1 .left)) (c .before .write-into .ensures)
 
 pub vim-write-spec : {M : Type 1} → statement M
-vim-write-spec =
-    tie.close
-    (tie.spec
-    (λ c. search needs)
-    returns
-    (λ c. search needs)
-    lent
-    (λ c κs. search needs)
-    returns-2)
+vim-write-spec = tie.close (tie.spec (λ c. search needs) returns (λ c. search needs) lent (λ c κs. search needs) returns-2)

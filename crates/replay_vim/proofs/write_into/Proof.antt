@@ -12,13 +12,6 @@ returns c =
     written-compared (given .list .now) (given .written .now) (given .stored .now) (vim-write-told .0) (rw (vim-write-told .1) at (c .compared-three .ensures))
 
 pub write-into-spec : {M : Type 1} → statement M
-write-into-spec =
-    tie.close
-    (tie.spec
-    (λ c κs. search needs)
-    (λ c. search needs)
-    (λ c. search needs)
-    (λ c. search needs)
-    (λ c κs. search needs)
+write-into-spec = tie.close (tie.spec (λ c κs. search needs) (λ c. search needs) (λ c. search needs) (λ c. search needs) (λ c κs. search needs)
     (λ c. search needs)
     returns)

@@ -1,9 +1,6 @@
 -- `row_cells::cells_in` meets its contract. The invariant of its loop: `sum` is the cells of the characters before i.
 -- The measure is the row's length less i. Assumes nothing.
-use borrow.Author.Needs.{needs}
-use Prim.Native.Nat.{_-_}
-use lib.ListN.{length}
-use native.Mathlib.Omega.{arith}
+use Rattle.lists.proofs.Kit.{_-_, arith, length, needs}
 use Rattle.chars.specs.Width.{widthBy}
 use Rattle.row_cells.proofs.Fits.{CellsTo, cells-next, cells-end}
 use Rattle.row_cells.proofs.cells_in.Statement.{statement}
@@ -22,13 +19,11 @@ loop-again : tie.Need-loop-again Inv-loop μ-loop
 loop-again c =
     let at-loop-test = c .before .before in
     let cells-of-told = c .cells-of .ensures in
-    cells-next (at-loop-test .before .loop .inv) (at-loop-test .loop-test .taken) (cells-of-told .0) (cells-of-told .1)
+    cells-next (at-loop-test .before .loop .inv) (at-loop-test .loop-test .taken) (cells-of-told .cells) (cells-of-told .small)
 
 returns : tie.Need-returns Inv-loop μ-loop
 returns c = cells-end (c .before .loop .inv) (c .loop-test .left)
 
 pub cells-in-spec : {M : Type 1} → statement M
-cells-in-spec =
-    tie.close
-    (tie.spec Inv-loop μ-loop loop-holds (λ c. search needs) (λ c. search needs) (λ c κs. search needs)
+cells-in-spec = tie.close (tie.spec Inv-loop μ-loop loop-holds (λ c. search needs) (λ c. search needs) (λ c κs. search needs)
     (λ c. search needs) (λ c. search needs) (λ c. search needs) loop-again returns)

@@ -1,7 +1,5 @@
 -- `row_check::row_refusal` meets its contract: the lower number first. Assumes nothing.
-use mathlib.Core.Path.{sym, _∙_}
-use borrow.Author.Tests.{lt-ltb, le-ltb, not-true, not-false}
-use borrow.Author.Needs.{needs}
+use Rattle.lists.proofs.Kit.{sym, _∙_, needs, lt-ltb, le-ltb, not-true, not-false}
 use Rattle.lists.specs.Lists.{any}
 use Rattle.chars.specs.Scalar.{notScalar}
 use Rattle.row_check.specs.Row.{rowRefusal}

@@ -1,6 +1,4 @@
--- `row_columns::char_col_in` meets its contract. Assumes nothing.
-use borrow.Author.Needs.{needs}
-use borrow.Author.Tests.{eq-eqb, ne-eqb}
+use Rattle.lists.proofs.Kit.{needs, eq-eqb, ne-eqb}
 use Rattle.row_columns.proofs.Accepted.{ready}
 use Rattle.row_columns.proofs.char_col_in.Statement.{statement}
 use Rattle.row_columns.proofs.char_col_in.Tie as tie

@@ -31,6 +31,4 @@ wide c =
     rw (c .before .enum-told2 .given .1) (answer-at (at-if1 .before .refused .ensures) (at-if1 .if1 .left) (c .wide-column .ensures))
 
 pub column-spec : {M : Type 1} → statement M
-column-spec =
-    tie.close
-    (tie.spec (λ c κs. search needs) returns (λ c. search needs) narrow-requires (λ c. search needs) wide-requires narrow wide)
+column-spec = tie.close (tie.spec (λ c κs. search needs) returns (λ c. search needs) narrow-requires (λ c. search needs) wide-requires narrow wide)

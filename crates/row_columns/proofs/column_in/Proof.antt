@@ -13,7 +13,6 @@ returns-3 : tie.Need-returns-3
 returns-3 c = rw (c .before .enum-told3 .given .1) (c .cursor-col-in .ensures)
 
 pub column-in-spec : {M : Type 1} → statement M
-column-in-spec =
-    tie.close
+column-in-spec = tie.close
     (tie.spec (λ c. search needs) (λ c κs. search needs) (λ c. search needs) (λ c κs. search needs) (λ c. search needs) (λ c κs. search needs)
     returns returns-2 returns-3)

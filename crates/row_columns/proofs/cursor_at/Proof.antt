@@ -1,6 +1,5 @@
 -- `row_columns::cursor_at` meets its contract: past the row's end stands no tab, and a tab has a last cell. Assumes nothing.
-use borrow.Author.Needs.{needs}
-use native.Mathlib.Omega.{arith}
+use Rattle.lists.proofs.Kit.{arith, needs}
 use Rattle.chars.specs.Width.{widthBy}
 use Rattle.row_columns.proofs.Cursor.{cursor-past, cursor-tab, cursor-other, tab-ends}
 use Rattle.row_columns.proofs.cursor_at.Statement.{statement}
@@ -30,7 +29,5 @@ returns-3 c =
     cursor-other (widthBy (given .zeros .now) (given .doubles .now)) _ _ _ (c .before .if2 .left) (c .visual-at3 .ensures)
 
 pub cursor-at-spec : {M : Type 1} → statement M
-cursor-at-spec =
-    tie.close
-    (tie.spec (λ c κs. search needs) returns (λ c. search needs) (λ c. search needs) (λ c. search needs)
+cursor-at-spec = tie.close (tie.spec (λ c κs. search needs) returns (λ c. search needs) (λ c. search needs) (λ c. search needs)
     (λ c κs. search needs) sub-result returns-2 (λ c κs. search needs) returns-3)

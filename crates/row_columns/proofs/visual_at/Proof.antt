@@ -1,9 +1,6 @@
 -- `row_columns::visual_at` meets its contract. The invariant of its loop: `visual` is the visual column of character i, and i has not passed `col`.
 -- The measure is the row's length less i. Assumes nothing.
-use borrow.Author.Needs.{needs}
-use Prim.Native.Nat.{_-_, _≤_}
-use lib.ListN.{length}
-use native.Mathlib.Omega.{arith}
+use Rattle.lists.proofs.Kit.{_-_, _≤_, arith, length, needs}
 use Rattle.chars.specs.Width.{widthBy}
 use Rattle.row_columns.proofs.Visual.{VisualTo, visual-start, visual-on, visual-stop, visual-end}
 use Rattle.row_columns.proofs.visual_at.Statement.{statement}
@@ -25,13 +22,11 @@ loop-again : tie.Need-loop-again Inv-loop μ-loop
 loop-again c =
     let at-loop-test = c .before .before .before in
     let cell-width-told = c .cell-width .ensures in
-    (visual-on (at-loop-test .before .loop .inv .0) (at-loop-test .loop-test .taken) (cell-width-told .0) (cell-width-told .1), omega arith)
+    (visual-on (at-loop-test .before .loop .inv .0) (at-loop-test .loop-test .taken) (cell-width-told .cells) (cell-width-told .small), omega arith)
 
 returns-2 : tie.Need-returns-2 Inv-loop μ-loop
 returns-2 c = visual-end (c .before .loop .inv .0) _ (c .loop-test .left) (c .before .loop .inv .1)
 
 pub visual-at-spec : {M : Type 1} → statement M
-visual-at-spec =
-    tie.close
-    (tie.spec Inv-loop μ-loop loop-holds returns (λ c. search needs) (λ c. search needs) (λ c κs. search needs)
+visual-at-spec = tie.close (tie.spec Inv-loop μ-loop loop-holds returns (λ c. search needs) (λ c. search needs) (λ c κs. search needs)
     (λ c. search needs) (λ c. search needs) (λ c. search needs) loop-again returns-2)

@@ -1,4 +1,3 @@
--- `row_columns::visual_col_in` meets its contract. Assumes nothing.
 use borrow.Author.Needs.{needs}
 use Rattle.row_columns.proofs.Accepted.{ready}
 use Rattle.row_columns.proofs.visual_col_in.Statement.{statement}

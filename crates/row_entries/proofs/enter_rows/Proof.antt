@@ -1,8 +1,5 @@
 -- `enter_rows` meets its contract: text, position, table, in that order. Assumes nothing.
-use mathlib.Core.Path.{_≡_, sym, _∙_, ap}
-use Prim.Native.Nat.{ℕ}
-use native.Mathlib.Omega.{arith}
-use borrow.Author.Needs.{needs}
+use Rattle.lists.proofs.Kit.{sym, _∙_, ap, ℕ, needs}
 use Rattle.row_table.specs.Table.{tableRefusal}
 use Rattle.positions.proofs.Checks.{refusal-text, entry-number}
 use Rattle.row_entries.proofs.Rows.{table-held, with-refused, with-entered, with-table, with-other}
@@ -25,8 +22,7 @@ enter-by-requires c κs =
     let number = told .table-refusal .ensures
     ∙ ap (λ (n : ℕ). tableRefusal n (given .t .now) (given .starts .now) (given .content)) (counted .row-count .ensures) in
     table-held (given .t .now) (given .starts .now) (counted .row-count .result) (given .content)
-    (sym (checked .text-refusal .ensures) ∙ counted .before .if1 .left)
-    (counted .row-count .ensures) (sym number ∙ c .if2 .taken)
+    (sym (checked .text-refusal .ensures) ∙ counted .before .if1 .left) (counted .row-count .ensures) (sym number ∙ c .if2 .taken)
 
 returns-2 : tie.Need-returns-2
 returns-2 c =
@@ -56,7 +52,6 @@ returns-4 c =
     (sym (entry-number (given .t .now) (given .p) (entered .enter .result) (entered .enter .ensures)) ∙ c .before .if3 .left) (c .refused2 .ensures)
 
 pub enter-rows-spec : {M : Type 1} → statement M
-enter-rows-spec =
-    tie.close
+enter-rows-spec = tie.close
     (tie.spec (λ c κs. search needs) (λ c κs. search needs) returns (λ c κs. search needs) (λ c κs. search needs) enter-by-requires returns-2
     (λ c κs. search needs) returns-3 (λ c κs. search needs) returns-4)

@@ -1,6 +1,5 @@
 -- `start_of` meets its contract: the table is the text's. Assumes nothing.
-use native.Mathlib.Omega.{arith}
-use borrow.Author.Needs.{needs}
+use Rattle.lists.proofs.Kit.{arith, needs}
 use Rattle.row_entries.proofs.Rows.{start-by}
 use Rattle.row_entries.proofs.start_of.Statement.{statement}
 use Rattle.row_entries.proofs.start_of.Tie as tie

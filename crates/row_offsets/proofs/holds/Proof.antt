@@ -1,4 +1,3 @@
--- `row_offsets::holds` meets its contract. Assumes nothing.
 use borrow.Author.Tests.{le-leb, lt-leb}
 use Rattle.row_offsets.proofs.holds.Statement.{statement}
 use Rattle.row_offsets.proofs.holds.Tie as tie

@@ -1,9 +1,6 @@
 -- `row_offsets::index_of` meets its contract. The invariant of its loop: no pair before k holds the column.
 -- The measure is the number of pairs less k. Assumes nothing.
-use borrow.Author.Needs.{needs}
-use Prim.Native.Nat.{_-_}
-use mathlib.Core.Path.{sym, _∙_}
-use native.Mathlib.Omega.{arith}
+use Rattle.lists.proofs.Kit.{sym, _∙_, _-_, arith, needs}
 use Rattle.row_cells.proofs.Pairs.{PairsTo, pairs-next, pairs-stop, pairs-end}
 use Rattle.row_offsets.proofs.index_of.Statement.{statement}
 use Rattle.row_offsets.proofs.index_of.Tie as tie
@@ -34,8 +31,6 @@ returns-3 : tie.Need-returns-3 Inv-loop μ-loop
 returns-3 c = sym (pairs-end (c .before .before .loop .inv) (c .before .loop-test .left))
 
 pub index-of-spec : {M : Type 1} → statement M
-index-of-spec =
-    tie.close
-    (tie.spec Inv-loop μ-loop loop-holds (λ c. search needs) (λ c. search needs) (λ c. search needs)
+index-of-spec = tie.close (tie.spec Inv-loop μ-loop loop-holds (λ c. search needs) (λ c. search needs) (λ c. search needs)
     (λ c. search needs) (λ c. search needs) (λ c. search needs) (λ c. search needs) (λ c κs. search needs)
     returns (λ c. search needs) (λ c. search needs) loop-again returns-2 (λ c. search needs) returns-3)

@@ -1,6 +1,5 @@
 -- `row_offsets::offset_of` meets its contract: a refusal is handed on, and what is not refused is walked, setting by setting. Assumes nothing.
-use borrow.Author.Needs.{needs}
-use mathlib.Core.Path.{sym, _∙_}
+use Rattle.lists.proofs.Kit.{sym, _∙_, needs}
 use Rattle.row_check.proofs.Answers.{answer-refused, answer-at, accepted-brief}
 use Rattle.row_offsets.proofs.offset_of.Statement.{statement}
 use Rattle.row_offsets.proofs.offset_of.Tie as tie
@@ -25,6 +24,4 @@ wide c =
     rw (c .before .enum-told2 .given .1) (answer-at (at-if1 .before .row-refusal .ensures) (at-if1 .if1 .left) (c .wide-offset .ensures))
 
 pub offset-of-spec : {M : Type 1} → statement M
-offset-of-spec =
-    tie.close
-    (tie.spec (λ c κs. search needs) returns (λ c. search needs) narrow-requires (λ c. search needs) wide-requires narrow wide)
+offset-of-spec = tie.close (tie.spec (λ c κs. search needs) returns (λ c. search needs) narrow-requires (λ c. search needs) wide-requires narrow wide)

@@ -8,7 +8,5 @@ returns : tie.Need-returns
 returns c = part-is _ _ _ (c .before .before .least .ensures) (c .before .least2 .ensures)
 
 pub part-of-spec : {M : Type 1} → statement M
-part-of-spec =
-    tie.close
-    (tie.spec (λ c κs. search needs) (λ c κs. search needs) (λ c. search needs) (λ c. search needs)
+part-of-spec = tie.close (tie.spec (λ c κs. search needs) (λ c κs. search needs) (λ c. search needs) (λ c. search needs)
     (λ c. search needs) (λ c. search needs) returns)

@@ -1,7 +1,4 @@
--- `row_offsets::segment_for_col` meets its contract. Assumes nothing.
-use borrow.Author.Needs.{needs}
-use borrow.Author.Tests.{eq-eqb, ne-eqb}
-use mathlib.Core.Path.{ap}
+use Rattle.lists.proofs.Kit.{ap, needs, eq-eqb, ne-eqb}
 use Rattle.row_offsets.specs.declared.Segment.the-variants.{At}
 use Rattle.row_offsets.proofs.segment_for_col.Statement.{statement}
 use Rattle.row_offsets.proofs.segment_for_col.Tie as tie

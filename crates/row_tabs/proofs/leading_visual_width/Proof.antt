@@ -1,7 +1,5 @@
 -- `row_tabs::leading_visual_width` meets its contract: a refusal is handed on, and what is not refused is ready for the walk. Assumes nothing.
-use borrow.Author.Needs.{needs}
-use Prim.Native.Nat.{ℕ}
-use mathlib.Core.Path.{ap, _∙_}
+use Rattle.lists.proofs.Kit.{ap, _∙_, ℕ, needs}
 use Rattle.row_tabs.proofs.Accepted.{brief, stops}
 use Rattle.row_tabs.specs.Indents.{leadingFrom}
 use Rattle.row_check.proofs.Answers.{answer-refused, answer-at}
@@ -24,6 +22,4 @@ returns-2 c =
     (c .leading-at .ensures ∙ ap (λ (t : ℕ). leadingFrom t 0 (at-stop-of .before .before .before .before .args .row .now)) (at-stop-of .stop-of .ensures))
 
 pub leading-visual-width-spec : {M : Type 1} → statement M
-leading-visual-width-spec =
-    tie.close
-    (tie.spec (λ c κs. search needs) returns (λ c κs. search needs) leading-at-requires returns-2)
+leading-visual-width-spec = tie.close (tie.spec (λ c κs. search needs) returns (λ c κs. search needs) leading-at-requires returns-2)

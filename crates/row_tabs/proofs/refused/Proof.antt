@@ -1,6 +1,5 @@
 -- `row_tabs::refused` meets its contract: the numbers in the order of document 01. Assumes nothing.
-use borrow.Author.Needs.{needs}
-use borrow.Author.Tests.{eq-eqb, ne-eqb, lt-ltb, le-ltb}
+use Rattle.lists.proofs.Kit.{needs, eq-eqb, ne-eqb, lt-ltb, le-ltb}
 use Rattle.row_tabs.specs.Cells.{columnRefusal}
 use Rattle.row_tabs.proofs.refused.Statement.{statement}
 use Rattle.row_tabs.proofs.refused.Tie as tie

@@ -1,4 +1,3 @@
--- `row_tabs::stop_of` meets its contract. Assumes nothing.
 use borrow.Author.Tests.{eq-eqb, ne-eqb}
 use Rattle.row_tabs.specs.Cells.{stopOf}
 use Rattle.row_tabs.proofs.stop_of.Statement.{statement}

@@ -1,7 +1,5 @@
 -- `row_tabs::tab_width` meets its contract: a remainder is below the tabstop. Assumes nothing.
-use borrow.Author.Needs.{needs}
-use native.Mathlib.Nat.{mod-lt}
-use native.Mathlib.Omega.{arith}
+use Rattle.lists.proofs.Kit.{mod-lt, arith, needs}
 use Rattle.row_tabs.proofs.tab_width.Statement.{statement}
 use Rattle.row_tabs.proofs.tab_width.Tie as tie
 

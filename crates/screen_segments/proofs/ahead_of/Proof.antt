@@ -1,4 +1,3 @@
--- `screen_segments::ahead_of` meets its contract. Assumes nothing.
 use borrow.Author.Needs.{needs}
 use Rattle.screen_segments.proofs.ahead_of.Statement.{statement}
 use Rattle.screen_segments.proofs.ahead_of.Tie as tie

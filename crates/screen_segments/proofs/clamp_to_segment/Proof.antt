@@ -1,4 +1,3 @@
--- `screen_segments::clamp_to_segment` meets its contract. Assumes nothing.
 use borrow.Author.Needs.{needs}
 use Rattle.screen_segments.proofs.clamp_to_segment.Statement.{statement}
 use Rattle.screen_segments.proofs.clamp_to_segment.Tie as tie
@@ -18,7 +17,6 @@ returns c =
     ) (c .most .ensures)
 
 pub clamp-to-segment-spec : {M : Type 1} → statement M
-clamp-to-segment-spec =
-    tie.close
+clamp-to-segment-spec = tie.close
     (tie.spec (λ c κs. search needs) (λ c κs. search needs) (λ c. search needs) (λ c κs. search needs) (λ c κs. search needs) (λ c κs. search needs)
     (λ c κs. search needs) returns)

@@ -1,7 +1,4 @@
--- `screen_segments::last_of` meets its contract. Assumes nothing.
-use native.Mathlib.Omega.{arith}
-use borrow.Author.Needs.{needs}
-use borrow.Author.Tests.{lt-ltb, le-ltb}
+use Rattle.lists.proofs.Kit.{arith, needs, lt-ltb, le-ltb}
 use Rattle.screen_segments.proofs.last_of.Statement.{statement}
 use Rattle.screen_segments.proofs.last_of.Tie as tie
 

@@ -1,10 +1,6 @@
 -- `session::lines` meets its contract. The invariant of its loop: what was printed so far, and that the rest is still to come. The measure is
 -- the rest of the input. Assumes nothing.
-use Prim.Native.Nat.{_+_, _-_}
-use mathlib.Core.Path.{sym, _∙_}
-use native.Mathlib.Omega.{arith}
-use borrow.Author.Needs.{needs}
-use lib.ListN.{length}
+use Rattle.lists.proofs.Kit.{sym, _∙_, _+_, _-_, arith, length, needs}
 use Rattle.session.proofs.Progress.{Progress, progress-start, progress-end, progress-room, progress-on, commands-stop, commands-end}
 use Rattle.session.proofs.lines.Statement.{statement}
 use Rattle.session.proofs.lines.Tie as tie
@@ -51,26 +47,9 @@ returns-2 : tie.Need-returns-2 Inv-loop μ-loop
 returns-2 c = progress-end (c .before .loop .inv) (commands-end _ _ (c .loop-test .left))
 
 pub lines-spec : {M : Type 1} → statement M
-lines-spec =
-    tie.close
-    (tie.spec
-    Inv-loop
-    μ-loop
-    (λ c κs. search needs)
-    loop-holds
-    (λ c κs. search needs)
-    (λ c. search needs)
-    (λ c. search needs)
-    (λ c. search needs)
-    (λ c κs. search needs)
-    (λ c. search needs)
-    returns
-    (λ c κs. search needs)
-    (λ c κs. search needs)
-    (λ c κs. search needs)
-    put-line-requires
-    (λ c. search needs)
-    (λ c. search needs)
-    loop-again
-    (λ c. search needs)
+lines-spec = tie.close (tie.spec Inv-loop μ-loop (λ c κs. search needs) loop-holds (λ c κs. search needs) (λ c. search needs) (λ c. search needs)
+    (λ c. search needs) (λ c κs. search needs) (λ c. search needs)
+    returns (λ c κs. search needs) (λ c κs. search needs) (λ c κs. search needs)
+    put-line-requires (λ c. search needs) (λ c. search needs)
+    loop-again (λ c. search needs)
     returns-2)

@@ -1,6 +1,5 @@
 -- `session::put_line` meets its contract: the line's pieces, one after another. Assumes nothing.
-use native.Mathlib.Omega.{arith}
-use borrow.Author.Needs.{needs}
+use Rattle.lists.proofs.Kit.{arith, needs}
 use Rattle.session.specs.Session.{shownOf}
 use Rattle.session.proofs.Lengths.{length-line, wrote-line}
 use Rattle.session.proofs.put_line.Statement.{statement}
@@ -52,18 +51,9 @@ returns c =
     let at-put-shown = at-put .before .before .before .before in
     let given = at-put-shown .before .before .before .before .args in
     wrote-line (shownOf (given .key .now) (given .m)) (given .k) (at-put-shown .put-shown .ensures) (at-put .put .ensures)
-    (at-put-decimal .put-decimal .ensures)
-    (at-put2 .put2 .ensures) (at-put-decimal2 .put-decimal2 .ensures) (at-put3 .put3 .ensures)
+    (at-put-decimal .put-decimal .ensures) (at-put2 .put2 .ensures) (at-put-decimal2 .put-decimal2 .ensures) (at-put3 .put3 .ensures)
 
 pub put-line-spec : {M : Type 1} → statement M
-put-line-spec =
-    tie.close
-    (tie.spec
-    put-shown-requires
-    put-requires
-    put-decimal-requires
-    put-requires-2
-    put-decimal-requires-2
-    put-requires-3
+put-line-spec = tie.close (tie.spec put-shown-requires put-requires put-decimal-requires put-requires-2 put-decimal-requires-2 put-requires-3
     (λ c. search needs)
     returns)

@@ -1,8 +1,5 @@
 -- `session::put_shown` meets its contract, by the cases of the answer. Assumes nothing.
-use mathlib.Core.Path.{ap}
-use native.Mathlib.Omega.{arith}
-use borrow.Author.Needs.{needs}
-use lib.ListN.{length}
+use Rattle.lists.proofs.Kit.{ap, arith, length, needs}
 use Rattle.print.proofs.Laws.{wrote-then}
 use Rattle.session.proofs.Lengths.{shown-to, shown-unknown, shown-refused}
 use Rattle.session.proofs.put_shown.Statement.{statement}
@@ -52,18 +49,7 @@ returns-3 c =
     (wrote-then (at-put2 .put2 .ensures) (c .before .before .put-decimal .ensures))
 
 pub put-shown-spec : {M : Type 1} → statement M
-put-shown-spec =
-    tie.close
-    (tie.spec
-    (λ c. search needs)
-    put-bytes-requires
-    (λ c. search needs)
-    put-requires
-    (λ c. search needs)
-    returns
-    put-requires-2
-    put-decimal-requires
-    (λ c. search needs)
-    returns-2
-    (λ c. search needs)
+put-shown-spec = tie.close (tie.spec (λ c. search needs) put-bytes-requires (λ c. search needs) put-requires (λ c. search needs) returns put-requires-2
+    put-decimal-requires (λ c. search needs)
+    returns-2 (λ c. search needs)
     returns-3)

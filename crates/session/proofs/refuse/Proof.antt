@@ -1,4 +1,3 @@
--- `session::refuse` meets its contract. Assumes nothing.
 use borrow.Author.Needs.{needs}
 use Rattle.lists.specs.Codes.{codes}
 use Rattle.session.proofs.refuse.Statement.{statement}

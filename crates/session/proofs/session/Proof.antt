@@ -1,7 +1,5 @@
 -- `session::session` meets its contract: an input is refused, or run. Assumes nothing.
-use mathlib.Core.Path.{sym, _∙_}
-use native.Mathlib.Omega.{arith}
-use borrow.Author.Needs.{needs}
+use Rattle.lists.proofs.Kit.{sym, _∙_, arith, needs}
 use Rattle.session.proofs.Printing.{session-refused, session-runs, session-short, session-fits, printed}
 use Rattle.session.proofs.session.Statement.{statement}
 use Rattle.session.proofs.session.Tie as tie
@@ -23,17 +21,7 @@ returns-2 c =
     let at-enum-told = c .before .before in
     let input = at-enum-told .before .before .before .before .args .input .now in
     printed (session-refused input (sym (at-enum-told .enum-told .given .1) ∙ at-enum-told .before .before .begins .ensures))
-    (omega (arith, session-fits input))
-    (c .refuse .ensures)
+    (omega (arith, session-fits input)) (c .refuse .ensures)
 
 pub session-spec : {M : Type 1} → statement M
-session-spec =
-    tie.close
-    (tie.spec
-    (λ c κs. search needs)
-    (λ c. search needs)
-    run-requires
-    (λ c. search needs)
-    (λ c κs. search needs)
-    returns
-    returns-2)
+session-spec = tie.close (tie.spec (λ c κs. search needs) (λ c. search needs) run-requires (λ c. search needs) (λ c κs. search needs) returns returns-2)

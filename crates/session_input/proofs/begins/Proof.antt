@@ -1,6 +1,5 @@
 -- `session_input::begins` meets its contract: each way that an input is refused, and where its text begins. Assumes nothing.
-use mathlib.Core.Path.{sym, _∙_}
-use borrow.Author.Needs.{needs}
+use Rattle.lists.proofs.Kit.{sym, _∙_, needs}
 use Rattle.session_input.proofs.Inputs.{begin-long, begin-bad, begin-stop}
 use Rattle.session_input.proofs.TextRead.{check-good, check-bad}
 use Rattle.session_input.proofs.begins.Statement.{statement}
@@ -23,13 +22,4 @@ returns-3 c =
     begin-bad _ (checked .before .if1 .left) (check-bad _ (sym (c .enum-told2 .given .1) ∙ checked .check .ensures))
 
 pub begins-spec : {M : Type 1} → statement M
-begins-spec =
-    tie.close
-    (tie.spec
-    returns
-    (λ c κs. search needs)
-    (λ c. search needs)
-    (λ c κs. search needs)
-    (λ c. search needs)
-    returns-2
-    returns-3)
+begins-spec = tie.close (tie.spec returns (λ c κs. search needs) (λ c. search needs) (λ c κs. search needs) (λ c. search needs) returns-2 returns-3)

@@ -1,9 +1,6 @@
 -- `session_input::find_stop` meets its contract. The invariant of its loop: no row before i is a full stop. The measure is the rest of the input.
 -- Assumes nothing.
-use Prim.Native.Nat.{_+_, _-_}
-use mathlib.Core.Path.{sym, _∙_}
-use borrow.Author.Needs.{needs}
-use lib.ListN.{length}
+use Rattle.lists.proofs.Kit.{sym, _∙_, _+_, _-_, length, needs}
 use Rattle.session_input.proofs.Rows.{Sought, sought-start, sought-on, sought-here, sought-end}
 use Rattle.session_input.proofs.find_stop.Statement.{statement}
 use Rattle.session_input.proofs.find_stop.Tie as tie
@@ -33,19 +30,8 @@ returns-2 : tie.Need-returns-2 Inv-loop μ-loop
 returns-2 c = sought-end (c .before .loop .inv) (c .loop-test .left)
 
 pub find-stop-spec : {M : Type 1} → statement M
-find-stop-spec =
-    tie.close
-    (tie.spec
-    Inv-loop
-    μ-loop
-    loop-holds
-    (λ c κs. search needs)
-    (λ c. search needs)
-    (λ c. search needs)
-    (λ c. search needs)
-    (λ c. search needs)
-    (λ c κs. search needs)
-    returns
-    (λ c. search needs)
+find-stop-spec = tie.close (tie.spec Inv-loop μ-loop loop-holds (λ c κs. search needs) (λ c. search needs) (λ c. search needs) (λ c. search needs)
+    (λ c. search needs) (λ c κs. search needs)
+    returns (λ c. search needs)
     loop-again
     returns-2)

@@ -1,4 +1,3 @@
--- `session_input::is_stop` meets its contract. Assumes nothing.
 use borrow.Author.Needs.{needs}
 use Rattle.lists.specs.Codes.{codes}
 use Rattle.session_input.proofs.is_stop.Statement.{statement}

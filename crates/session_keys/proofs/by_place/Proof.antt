@@ -1,7 +1,6 @@
 -- `session_keys::by_place` meets its contract: a name that is equal to fixed bytes is their key in the table; any other is like none of them.
 -- Assumes nothing.
-use mathlib.Core.Path.{ap, sym, _∙_}
-use borrow.Author.Needs.{needs}
+use Rattle.lists.proofs.Kit.{ap, sym, _∙_, needs}
 use Rattle.lists.specs.Codes.{codes}
 use Rattle.lists.specs.Lists.{isSame}
 use Rattle.session_keys.specs.Keys.{placeKeys, found}
@@ -27,9 +26,7 @@ none c =
 
 pub by-place-spec : {M : Type 1} → statement M
 unfolding placeKeys found isSame codes
-by-place-spec =
-    tie.close
-    (tie.spec
+by-place-spec = tie.close (tie.spec
     (λ c. search needs) (λ c κs. search needs) (λ c. sym (ap (found placeKeys) (c .before .same .ensures .equal (c .if1 .taken))))
     (λ c. search needs) (λ c κs. search needs) (λ c. sym (ap (found placeKeys) (c .before .same2 .ensures .equal (c .if2 .taken))))
     (λ c. search needs) (λ c κs. search needs) (λ c. sym (ap (found placeKeys) (c .before .same3 .ensures .equal (c .if3 .taken))))

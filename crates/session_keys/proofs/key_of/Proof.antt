@@ -1,7 +1,6 @@
 -- `session_keys::key_of` meets its contract: a name that is equal to fixed bytes is their key in the table; any other is like none of them.
 -- Assumes nothing.
-use mathlib.Core.Path.{ap, sym, _∙_}
-use borrow.Author.Needs.{needs}
+use Rattle.lists.proofs.Kit.{ap, sym, _∙_, needs}
 use Rattle.lists.specs.Codes.{codes}
 use Rattle.lists.specs.Lists.{isSame}
 use Rattle.session_keys.specs.Keys.{twoBytes, found, keyOf}
@@ -33,15 +32,11 @@ none c =
 
 pub key-of-spec : {M : Type 1} → statement M
 unfolding twoBytes found isSame codes
-key-of-spec =
-    tie.close
-    (tie.spec
-    (λ c. search needs) (λ c κs. search needs) (λ c. sym (ap keyOf (c .before .same .ensures .equal (c .if1 .taken))))
+key-of-spec = tie.close (tie.spec (λ c. search needs) (λ c κs. search needs) (λ c. sym (ap keyOf (c .before .same .ensures .equal (c .if1 .taken))))
     (λ c. search needs) (λ c κs. search needs) (λ c. sym (ap keyOf (c .before .same2 .ensures .equal (c .if2 .taken))))
     (λ c. search needs) (λ c κs. search needs) (λ c. sym (ap keyOf (c .before .same3 .ensures .equal (c .if3 .taken))))
     (λ c. search needs) (λ c κs. search needs) (λ c. sym (ap keyOf (c .before .same4 .ensures .equal (c .if4 .taken))))
     (λ c. search needs) (λ c κs. search needs) (λ c. sym (ap keyOf (c .before .same5 .ensures .equal (c .if5 .taken))))
     (λ c. search needs) (λ c κs. search needs) (λ c. sym (ap keyOf (c .before .same6 .ensures .equal (c .if6 .taken))))
     (λ c. search needs) (λ c κs. search needs) (λ c. sym (ap keyOf (c .before .same7 .ensures .equal (c .if7 .taken))))
-    (λ c. search needs) (λ c κs. search needs) (λ c. sym (ap keyOf (c .before .same8 .ensures .equal (c .if8 .taken))))
-    (λ c κs. search needs) none)
+    (λ c. search needs) (λ c κs. search needs) (λ c. sym (ap keyOf (c .before .same8 .ensures .equal (c .if8 .taken)))) (λ c κs. search needs) none)

@@ -4,12 +4,5 @@ use Rattle.session_presses.proofs.sticky_after.Statement.{statement}
 use Rattle.session_presses.proofs.sticky_after.Tie as tie
 
 pub sticky-after-spec : {M : Type 1} → statement M
-sticky-after-spec =
-    tie.close
-    (tie.spec
-    (λ c. search needs)
-    (λ c. search needs)
-    (λ c. search needs)
-    (λ c. rw (c .enum-told .given .1))
-    (λ c. rw (c .enum-told2 .given .1))
-    (λ c. rw (c .enum-told3 .given .1)))
+sticky-after-spec = tie.close (tie.spec (λ c. search needs) (λ c. search needs) (λ c. search needs) (λ c. rw (c .enum-told .given .1))
+    (λ c. rw (c .enum-told2 .given .1)) (λ c. rw (c .enum-told3 .given .1)))

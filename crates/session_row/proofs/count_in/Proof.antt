@@ -1,6 +1,4 @@
--- `session_row::count_in` meets its contract. Assumes nothing.
-use mathlib.Core.Path.{sym, _∙_}
-use borrow.Author.Needs.{needs}
+use Rattle.lists.proofs.Kit.{sym, _∙_, needs}
 use Rattle.session_row.proofs.Laws.{count-none, count-some}
 use Rattle.session_row.proofs.count_in.Statement.{statement}
 use Rattle.session_row.proofs.count_in.Tie as tie
@@ -14,14 +12,6 @@ returns-2 c =
     c .digits .ensures ∙ sym (count-some _ _ (find-told .at) (find-told .within) (c .before .before .if1 .left))
 
 pub count-in-spec : {M : Type 1} → statement M
-count-in-spec =
-    tie.close
-    (tie.spec
-    (λ c κs. search needs)
-    returns
-    (λ c. search needs)
-    (λ c. search needs)
-    (λ c. search needs)
-    (λ c. search needs)
+count-in-spec = tie.close (tie.spec (λ c κs. search needs) returns (λ c. search needs) (λ c. search needs) (λ c. search needs) (λ c. search needs)
     (λ c κs. search needs)
     returns-2)

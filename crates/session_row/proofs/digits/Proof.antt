@@ -1,10 +1,6 @@
 -- `session_row::digits` meets its contract. The invariant of its loop: n is the value of the first i digits, below ten to the i. The measure is
 -- the length less i. Assumes nothing.
-use Prim.Native.Nat.{_-_, _≤_, _<_, _^_}
-use mathlib.Core.Path.{_≡_, refl, sym, _∙_}
-use native.Mathlib.Omega.{arith}
-use borrow.Author.Needs.{needs}
-use lib.ListN.{length, drop}
+use Rattle.lists.proofs.Kit.{_≡_, refl, sym, _∙_, _-_, _≤_, _<_, _^_, arith, length, drop, needs}
 use Rattle.session_row.specs.Commands.{digitsFrom}
 use Rattle.session_row.proofs.Laws.{digits-on, digits-low, digits-high, digits-end, digits-most, digits-fit, digits-of, digits-none, digits-many}
 use Rattle.session_row.proofs.digits.Statement.{statement}
@@ -29,17 +25,12 @@ loop-holds c = (omega arith, omega arith, refl)
 returns-3 : tie.Need-returns-3 Inv-loop μ-loop
 returns-3 c =
     let at-loop = c .before .before .before .loop in
-    sym
-    (digits-of _ (omega arith) (omega arith)
-    ∙ at-loop.inv .2
-    ∙ digits-low _ at-loop.n at-loop.i (c .before .before .loop-test .taken) (c .if3 .taken))
+    sym (digits-of _ (omega arith) (omega arith) ∙ at-loop.inv .2 ∙ digits-low _ at-loop.n at-loop.i (c .before .before .loop-test .taken) (c .if3 .taken))
 
 returns-4 : tie.Need-returns-4 Inv-loop μ-loop
 returns-4 c =
     let at-loop = c .before .before .before .before .loop in
-    sym
-    (digits-of _ (omega arith) (omega arith)
-    ∙ at-loop.inv .2
+    sym (digits-of _ (omega arith) (omega arith) ∙ at-loop.inv .2
     ∙ digits-high _ at-loop.n at-loop.i (c .before .before .before .loop-test .taken) (c .before .if3 .left) (c .if4 .taken))
 
 -- nine digits fit
@@ -65,22 +56,8 @@ returns-5 c =
     sym (digits-of _ (omega arith) (omega arith) ∙ at-loop.inv .2 ∙ digits-end _ at-loop.n at-loop.i (c .loop-test .left))
 
 pub digits-spec : {M : Type 1} → statement M
-digits-spec =
-    tie.close
-    (tie.spec
-    Inv-loop
-    μ-loop
-    returns
-    returns-2
-    loop-holds
+digits-spec = tie.close (tie.spec Inv-loop μ-loop returns returns-2 loop-holds (λ c. search needs) returns-3 returns-4 mul-n (λ c. search needs)
     (λ c. search needs)
-    returns-3
-    returns-4
-    mul-n
-    (λ c. search needs)
-    (λ c. search needs)
-    add-n
-    (λ c. search needs)
-    (λ c. search needs)
+    add-n (λ c. search needs) (λ c. search needs)
     loop-again
     returns-5)

@@ -1,10 +1,6 @@
 -- `session_row::find` meets its contract. The invariant of its loop: the first x stands at or after i. The measure is the length less i.
 -- Assumes nothing.
-use Prim.Native.Nat.{_+_, _-_, _≤_}
-use mathlib.Core.Path.{_≡_}
-use native.Mathlib.Omega.{arith}
-use borrow.Author.Needs.{needs}
-use lib.ListN.{length, drop}
+use Rattle.lists.proofs.Kit.{_≡_, _+_, _-_, _≤_, arith, length, drop, needs}
 use Rattle.lists.specs.Lists.{upTo}
 use Rattle.lists.proofs.Finding.{up-to-stop, up-to-on, up-to-end}
 use Rattle.session_row.proofs.find.Statement.{statement}
@@ -36,15 +32,4 @@ returns-2 c =
     record { at = omega arith; after = omega arith; within = omega arith }
 
 pub find-spec : {M : Type 1} → statement M
-find-spec =
-    tie.close
-    (tie.spec
-    Inv-loop
-    μ-loop
-    (λ c. search needs)
-    (λ c. search needs)
-    returns
-    (λ c. search needs)
-    (λ c. search needs)
-    loop-again
-    returns-2)
+find-spec = tie.close (tie.spec Inv-loop μ-loop (λ c. search needs) (λ c. search needs) returns (λ c. search needs) (λ c. search needs) loop-again returns-2)

@@ -1,9 +1,5 @@
 -- `session_row::same` meets its contract. The invariant of its loop: what is left decides. The measure is the length less i. Assumes nothing.
-use Prim.Native.Nat.{_-_, _≤_}
-use mathlib.Core.Path.{_≡_, refl, _∙_}
-use native.Mathlib.Omega.{arith}
-use borrow.Author.Needs.{needs}
-use lib.ListN.{length, drop}
+use Rattle.lists.proofs.Kit.{_≡_, refl, _∙_, _-_, _≤_, arith, length, drop, needs}
 use Rattle.lists.specs.Lists.{isSame}
 use Rattle.lists.proofs.Same.{same-on, same-stop, same-end, same-long}
 use Rattle.session_row.proofs.Laws.{same-told}
@@ -37,17 +33,6 @@ returns-3 : tie.Need-returns-3 Inv-loop μ-loop
 returns-3 c = same-told _ _ (c .before .loop .inv .1 ∙ same-end _ _ (c .before .loop .i) (omega arith) (omega arith))
 
 pub same-spec : {M : Type 1} → statement M
-same-spec =
-    tie.close
-    (tie.spec
-    Inv-loop
-    μ-loop
-    returns
-    loop-holds
-    (λ c. search needs)
-    (λ c. search needs)
-    returns-2
-    (λ c. search needs)
-    (λ c. search needs)
+same-spec = tie.close (tie.spec Inv-loop μ-loop returns loop-holds (λ c. search needs) (λ c. search needs) returns-2 (λ c. search needs) (λ c. search needs)
     loop-again
     returns-3)

@@ -1,8 +1,6 @@
 -- `text::content_of` meets its contract: the rows with content go by the last code point.
 -- Assumes nothing.
-use mathlib.Core.Path.{sym, _∙_}
-use native.Mathlib.Omega.{arith}
-use borrow.Author.Needs.{needs}
+use Rattle.lists.proofs.Kit.{sym, _∙_, arith, needs}
 use Rattle.text.proofs.Rows.{rows-pos}
 use Rattle.text.proofs.Content.{content-void, content-nl, content-char}
 use Rattle.text.proofs.content_of.Statement.{statement}
@@ -25,6 +23,4 @@ returns-3 c =
     omega (arith, content-char (at-start .args .t .now) (omega (arith, c .before .before .if1 .left)) (c .if2 .left))
 
 pub content-of-spec : {M : Type 1} → statement M
-content-of-spec =
-    tie.close
-    (tie.spec returns (λ c. search needs) (λ c. search needs) (λ c. search needs) sub-result returns-2 returns-3)
+content-of-spec = tie.close (tie.spec returns (λ c. search needs) (λ c. search needs) (λ c. search needs) sub-result returns-2 returns-3)

@@ -1,9 +1,6 @@
 -- `text::content_row_count` meets its contract: an accepted text is short, so that its rows fit a u32.
 -- Assumes nothing.
-use mathlib.Core.Path.{sym, ap, _∙_}
-use native.Mathlib.Omega.{arith}
-use borrow.Author.Needs.{needs}
-use borrow.Author.Tests.{eq-eqb, ne-eqb}
+use Rattle.lists.proofs.Kit.{sym, ap, _∙_, arith, needs, eq-eqb, ne-eqb}
 use Rattle.text.specs.declared.Counted.the-variants.{Rows}
 use Rattle.text_check.proofs.Accepted.{accepted-short}
 use Rattle.text.proofs.Parts.{count-le}
@@ -30,5 +27,4 @@ returns-2 : tie.Need-returns-2
 returns-2 c = rw (← c .before .before .text-refusal .ensures, eq-eqb _ _ (c .before .if1 .left)) (ap Rows (c .content-rows .ensures))
 
 pub content-row-count-spec : {M : Type 1} → statement M
-content-row-count-spec =
-    tie.close (tie.spec (λ c κs. search needs) returns (λ c κs. search needs) cast-rows returns-2)
+content-row-count-spec = tie.close (tie.spec (λ c κs. search needs) returns (λ c κs. search needs) cast-rows returns-2)

@@ -1,10 +1,6 @@
 -- `text::few` meets its contract. The invariant of its loop: n counts the separators before i. The measure is the part's length less i.
 -- Assumes nothing.
-use Prim.Native.Nat.{_+_, _≤_, _-_}
-use mathlib.Core.Path.{_≡_}
-use native.Mathlib.Omega.{arith}
-use lib.ListN.{length, drop}
-use borrow.Author.Needs.{needs}
+use Rattle.lists.proofs.Kit.{_≡_, _+_, _≤_, _-_, arith, length, drop, needs}
 use Rattle.text.specs.Text.{rowCount}
 use Rattle.text.proofs.Rows.{count-nl, count-on, count-end}
 use Rattle.text.proofs.few.Statement.{statement}
@@ -30,7 +26,6 @@ returns : tie.Need-returns Inv-loop μ-loop
 returns c = omega (arith, count-end (c .before .before .args .part .now) (c .before .loop .i) (c .loop-test .left))
 
 pub few-spec : {M : Type 1} → statement M
-few-spec =
-    tie.close
+few-spec = tie.close
     (tie.spec Inv-loop μ-loop (λ c. search needs) (λ c. search needs) (λ c. search needs) (λ c. search needs) (λ c. search needs) (λ c. search needs) loop-again
     (λ c. search needs) (λ c. search needs) loop-again-2 returns)

@@ -1,9 +1,6 @@
 -- `text::separators` meets its contract. The invariant of its loop: i stands in row n of the part. The measure is the part's length less i.
 -- Assumes nothing.
-use Prim.Native.Nat.{_-_}
-use native.Mathlib.Omega.{arith}
-use lib.ListN.{length}
-use borrow.Author.Needs.{needs}
+use Rattle.lists.proofs.Kit.{_-_, arith, length, needs}
 use Rattle.text.specs.Offsets.{Stands, rowStart}
 use Rattle.text.proofs.At.{on-last}
 use Rattle.text.proofs.Stands.{stands-at, stands-own, first-line}
@@ -23,18 +20,17 @@ loop-holds c = stands-own (first-line (c .before .args .part .now))
 loop-again : tie.Need-loop-again Inv-loop μ-loop
 loop-again c =
     let at-loop = c .before .before .before in
-    pass-on (at-loop .before .before .args .part .now) (at-loop .loop .inv) (c .few .result) _ (omega arith) (omega arith) (c .few .ensures .0)
+    pass-on (at-loop .before .before .args .part .now) (at-loop .loop .inv) (c .few .result) _ (omega arith) (omega arith) (c .few .ensures .count)
 
 returns : tie.Need-returns Inv-loop μ-loop
 returns c =
     let at-loop = c .before .before .before in
     let part = at-loop .before .before .args .part .now in
-    let at-end = pass-on part (at-loop .loop .inv) (c .few2 .result) (length part) (at-loop .loop .inv .within) (omega arith) (c .few2 .ensures .0) in
-    (on-last (stands-at at-end) (omega arith), at-end .below)
+    let at-end = pass-on part (at-loop .loop .inv) (c .few2 .result) (length part) (at-loop .loop .inv .within) (omega arith) (c .few2 .ensures .count) in
+    record { count = on-last (stands-at at-end) (omega arith); inside = at-end .below }
 
 pub separators-spec : {M : Type 1} → statement M
-separators-spec =
-    tie.close
+separators-spec = tie.close
     (tie.spec Inv-loop μ-loop loop-holds (λ c. search needs) (λ c. search needs) (λ c. search needs) (λ c. search needs) (λ c. search needs) (λ c. search needs)
     (λ c κs. search needs) (λ c. search needs) (λ c. search needs) (λ c. search needs) loop-again (λ c. search needs) (λ c. search needs) (λ c. search needs)
     (λ c. search needs) (λ c κs. search needs) (λ c. search needs) (λ c. search needs) returns)

@@ -1,11 +1,6 @@
 -- `text_check::high_refusal` meets its contract. The invariant of its loop: what was found so far, or is still to be found, is what the text holds.
 -- The measure is the text's length less i. Assumes nothing.
-use Prim.Native.Nat.{_≤_, _-_}
-use mathlib.Core.Path.{_≡_}
-use mathlib.Core.Bool.{_||_}
-use lib.ListN.{length, drop}
-use borrow.Author.Needs.{needs}
-use borrow.Author.Tests.{not-true, not-false}
+use Rattle.lists.proofs.Kit.{_≡_, _||_, _≤_, _-_, length, drop, needs, not-true, not-false}
 use Rattle.lists.specs.Lists.{any}
 use Rattle.chars.specs.Scalar.{notScalar}
 use Rattle.lists.proofs.Any.{any-on, any-end}
@@ -73,16 +68,7 @@ returns-4 c =
     )
 
 pub high-refusal-spec : {M : Type 1} → statement M
-high-refusal-spec =
-    tie.close
-    (tie.spec
-    Inv-loop
-    μ-loop
-    returns
-    (λ c. search needs)
-    (λ c. search needs)
-    (λ c. search needs)
-    (λ c. search needs)
+high-refusal-spec = tie.close (tie.spec Inv-loop μ-loop returns (λ c. search needs) (λ c. search needs) (λ c. search needs) (λ c. search needs)
     (λ c. search needs)
     loop-again
     returns-2

@@ -1,11 +1,6 @@
 -- `text_check::text_refusal` meets its contract. The invariant of its loop: what was found so far, or is still to be found, is what the text holds.
 -- The measure is the text's length less i. Assumes nothing.
-use Prim.Native.Nat.{_+_, _≤_, _-_}
-use mathlib.Core.Path.{_≡_, ap, _∙_}
-use mathlib.Core.Bool.{_||_}
-use lib.ListN.{length, drop}
-use borrow.Author.Needs.{needs}
-use borrow.Author.Tests.{lt-ltb, eq-eqb, ne-eqb}
+use Rattle.lists.proofs.Kit.{_≡_, ap, _∙_, _||_, _+_, _≤_, _-_, length, drop, needs, lt-ltb, eq-eqb, ne-eqb}
 use Rattle.lists.specs.Lists.{any}
 use Rattle.lists.proofs.Any.{any-on, any-end}
 use Rattle.text_check.specs.Accept.{isHigh, isLow, textRefusal}
@@ -71,19 +66,9 @@ returns-4 c =
     )
 
 pub text-refusal-spec : {M : Type 1} → statement M
-text-refusal-spec =
-    tie.close
-    (tie.spec
-    Inv-loop
-    μ-loop
-    returns
+text-refusal-spec = tie.close (tie.spec Inv-loop μ-loop returns (λ c. search needs) (λ c. search needs) (λ c. search needs) (λ c. search needs)
     (λ c. search needs)
-    (λ c. search needs)
-    (λ c. search needs)
-    (λ c. search needs)
-    (λ c. search needs)
-    loop-again
-    (λ c κs. search needs)
+    loop-again (λ c κs. search needs)
     returns-2
     returns-3
     returns-4)

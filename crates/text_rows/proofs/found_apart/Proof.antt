@@ -1,7 +1,5 @@
 -- `text_rows::found_apart` meets its contract: each answer by its own call. Assumes nothing.
-use mathlib.Core.Path.{_≡_, ap, _∙_}
-use Prim.Native.Nat.{ℕ}
-use borrow.Author.Needs.{needs}
+use Rattle.lists.proofs.Kit.{ap, _∙_, ℕ, needs}
 use Rattle.row_table.specs.Table.{tableRefusal}
 use Rattle.text_rows.proofs.found_apart.Statement.{statement}
 use Rattle.text_rows.proofs.found_apart.Tie as tie

@@ -1,4 +1,3 @@
--- `text_rows::is_mark` meets its contract. Assumes nothing.
 use borrow.Author.Needs.{needs}
 use Rattle.text_rows.proofs.is_mark.Statement.{statement}
 use Rattle.text_rows.proofs.is_mark.Tie as tie

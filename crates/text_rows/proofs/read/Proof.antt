@@ -1,11 +1,6 @@
 -- `text_rows::read` meets its contract. The invariant of its loop: the marks found so far and those still to come are all, and so are the bits.
 -- The measure is the text's length less i. Assumes nothing.
-use Prim.Native.Nat.{_+_, _≤_, _-_}
-use mathlib.Core.Path.{_≡_, ap, sym, _∙_}
-use native.Mathlib.Omega.{arith}
-use lib.Dec.{leb}
-use lib.ListN.{length, drop}
-use borrow.Author.Needs.{needs}
+use Rattle.lists.proofs.Kit.{_≡_, ap, sym, _∙_, _+_, _≤_, _-_, arith, length, drop, leb, needs}
 use Rattle.text_rows.specs.Pass.{marksIn, allBits}
 use Rattle.text_rows.proofs.Bits.{bits-on, bits-end}
 use Rattle.text_rows.proofs.Marks.{marks-on, marks-over, marks-end}
@@ -13,8 +8,7 @@ use Rattle.text_rows.proofs.read.Statement.{statement}
 use Rattle.text_rows.proofs.read.Tie as tie
 
 abbrev Inv-loop : tie.InvT-loop
-Inv-loop t bits₀ n₀ i₀ bits n i =
-    (i ≤ length t) × (n ≤ i) × (marksIn t ≡ n + marksIn (drop i t)) × (allBits 0 t ≡ allBits bits (drop i t))
+Inv-loop t bits₀ n₀ i₀ bits n i = (i ≤ length t) × (n ≤ i) × (marksIn t ≡ n + marksIn (drop i t)) × (allBits 0 t ≡ allBits bits (drop i t))
 
 abbrev μ-loop : tie.MeasureT-loop
 μ-loop t bits₀ n₀ i₀ bits n i = length t - i
@@ -57,7 +51,6 @@ returns c =
     }
 
 pub read-spec : {M : Type 1} → statement M
-read-spec =
-    tie.close
+read-spec = tie.close
     (tie.spec Inv-loop μ-loop (λ c. search needs) (λ c. search needs) (λ c. search needs) (λ c κs. search needs) (λ c. search needs) (λ c. search needs)
     (λ c. search needs) loop-again (λ c. search needs) (λ c. search needs) loop-again-2 returns)

@@ -1,7 +1,5 @@
 -- `widths::high_width` meets its contract: the consts are the lists of the tables. Assumes nothing.
-use Prim.Native.Nat.{ℕ}
-use mathlib.Core.Path.{refl}
-use borrow.Author.Needs.{needs}
+use Rattle.lists.proofs.Kit.{refl, ℕ, needs}
 use Rattle.chars.specs.Width.{zeroWidths}
 use Rattle.widths.specs.declared.Ambiguous.the-variants.{Wide}
 use Rattle.widths.proofs.WideTable.{wideDoubles}

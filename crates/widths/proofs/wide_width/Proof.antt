@@ -1,6 +1,5 @@
 -- `widths::wide_width` meets its contract: before U+00A1 no character is of the class, and so the width is the same. Assumes nothing.
-use mathlib.Core.Path.{_∙_}
-use borrow.Author.Needs.{needs}
+use Rattle.lists.proofs.Kit.{_∙_, needs}
 use Rattle.widths.specs.Widths.{widthAs}
 use Rattle.widths.proofs.Lent.{class-low}
 use Rattle.widths.proofs.Laws.{wide-same}

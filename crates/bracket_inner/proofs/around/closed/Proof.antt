@@ -1,6 +1,5 @@
 -- `closed` meets its contract: the close that the walk on finds is that of the open. Assumes nothing.
-use mathlib.Core.Path.{sym, _∙_}
-use borrow.Author.Needs.{needs}
+use Rattle.lists.proofs.Kit.{sym, _∙_, needs}
 use Rattle.bracket_inner.proofs.Closed.{closed-pair, closed-none, closed-refused, close-brief}
 use Rattle.bracket_inner.proofs.around.closed.Statement.{statement}
 use Rattle.bracket_inner.proofs.around.closed.Tie as tie
@@ -8,10 +7,10 @@ use Rattle.bracket_inner.proofs.around.closed.Tie as tie
 ranges-of-requires : tie.Need-ranges-of-requires
 ranges-of-requires c κs =
     let walk = c .before .before .before in
-    let start = walk .before .before in
-    let args = start .args in
+    let at-start = walk .before .before in
+    let given = at-start .args in
     let there = sym (walk .match-forward .ensures) ∙ c .before .q .given .1 in
-    (start .pre .2, close-brief (args .t .now) (start .pre .0 .short) (args .opening) (args .closing) (args .at) there)
+    (at-start .pre .2, close-brief (given .t .now) (at-start .pre .0 .short) (given .opening) (given .closing) (given .at) there)
 
 returns : tie.Need-returns
 returns c =
@@ -29,6 +28,5 @@ returns-3 c =
     closed-refused (walk .before .before .args .p) (walk .match-forward .ensures) (c .before .f .given .1)
 
 pub closed-spec : {M : Type 1} → statement M
-closed-spec =
-    tie.close
+closed-spec = tie.close
     (tie.spec (λ c κs. search needs) (λ c. search needs) ranges-of-requires (λ c. search needs) (λ c. search needs) returns returns-2 returns-3)

@@ -6,9 +6,9 @@ use Rattle.bracket_inner.proofs.around.pair_around.Statement.{statement
 use Rattle.bracket_inner.proofs.around.pair_around.Tie as tie
 
 -- what is known before the first test
-asked : (c : tie.After-stands-at) → let start = c .before .before .before .before in
-    let args = start .args in
-    Asked (args .t .now) (args .l) (args .at) (args .x) (args .k) (c .before .before .open-code .result) (c .before .close-code .result)
+asked : (c : tie.After-stands-at) → let at-start = c .before .before .before .before in
+    let given = at-start .args in
+    Asked (given .t .now) (given .l) (given .at) (given .x) (given .k) (c .before .before .open-code .result) (c .before .close-code .result)
     (c .stands-at .result)
 asked c = record {
   stays = c .before .before .before .before .pre;
@@ -36,8 +36,7 @@ closed-requires-2 c κs =
 returns-2 : tie.Need-returns-2
 returns-2 c =
     let back = c .before .before .before .before in
-    close-answer (asked (back .before .before)) (back .before .if1 .left) (back .match-backward .ensures) (c .before .before .p .given .1)
-    (c .closed2 .ensures)
+    close-answer (asked (back .before .before)) (back .before .if1 .left) (back .match-backward .ensures) (c .before .before .p .given .1) (c .closed2 .ensures)
 
 returns-3 : tie.Need-returns-3
 returns-3 c =
@@ -50,7 +49,6 @@ returns-4 c =
     refused-answer (asked (back .before .before)) (back .before .if1 .left) (back .match-backward .ensures) (c .before .f .given .1)
 
 pub pair-around-spec : {M : Type 1} → statement M
-pair-around-spec =
-    tie.close
+pair-around-spec = tie.close
     (tie.spec (λ c κs. search needs) (λ c κs. search needs) (λ c κs. search needs) (λ c. search needs) closed-requires returns match-backward-requires
     (λ c. search needs) closed-requires-2 (λ c. search needs) (λ c. search needs) returns-2 returns-3 returns-4)

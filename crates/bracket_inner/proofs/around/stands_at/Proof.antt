@@ -1,6 +1,5 @@
 -- `stands_at` meets its contract: past the text nothing stands. Assumes nothing.
-use borrow.Author.Needs.{needs}
-use borrow.Author.Tests.{lt-ltb, le-ltb}
+use Rattle.lists.proofs.Kit.{needs, lt-ltb, le-ltb}
 use Rattle.bracket_inner.proofs.around.stands_at.Statement.{statement}
 use Rattle.bracket_inner.proofs.around.stands_at.Tie as tie
 

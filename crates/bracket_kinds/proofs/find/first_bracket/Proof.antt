@@ -1,11 +1,6 @@
 -- `bracket_kinds::find::first_bracket` meets its contract. The invariant of its loop: the first bracket from the column on is the first from i on.
 -- The measure is the row's length less i. Assumes nothing.
-use Prim.Native.Nat.{ℕ, _-_}
-use mathlib.Core.Bool.{Bool}
-use mathlib.Core.List.{List}
-use mathlib.Core.Path.{_≡_, refl, sym, _∙_}
-use lib.ListN.{length, getD}
-use borrow.Author.Needs.{needs}
+use Rattle.lists.proofs.Kit.{_≡_, refl, sym, _∙_, List, Bool, ℕ, _-_, length, getD, needs}
 use Rattle.bracket_kinds.specs.Kinds.{keyBracket}
 use Rattle.row_search.specs.Nearest.{firstIn}
 use Rattle.bracket_kinds.specs.Find.{firstBracket}
@@ -42,7 +37,6 @@ returns-2 : tie.Need-returns-2 Inv-loop μ-loop
 returns-2 c = sym (c .before .loop .inv ∙ first-end (test (c .before .before .before .args .row .now)) _ _ (c .loop-test .left))
 
 pub first-bracket-spec : {M : Type 1} → statement M
-first-bracket-spec =
-    tie.close
+first-bracket-spec = tie.close
     (tie.spec Inv-loop μ-loop loop-holds (λ c. search needs) (λ c. search needs) (λ c κs. search needs) returns (λ c. search needs) (λ c. search needs)
     loop-again returns-2)

@@ -1,7 +1,6 @@
 -- `bracket_walks::walks::partner` meets its contract: it hands each side to its walk.
 -- Assumes nothing.
-use mathlib.Core.Path.{sym, _∙_}
-use borrow.Author.Needs.{needs}
+use Rattle.lists.proofs.Kit.{sym, _∙_, needs}
 use Rattle.bracket_walks.proofs.Sides.{open-asked, open-answer, close-asked, close-answer, no-answer}
 use Rattle.bracket_walks.proofs.walks.partner.Statement.{statement}
 use Rattle.bracket_walks.proofs.walks.partner.Tie as tie
@@ -51,8 +50,6 @@ returns-3 c =
     no-answer (given .t .now) (given .at) (sym (c .before .before .side-of .ensures) ∙ c .enum-told .given .1)
 
 pub partner-spec : {M : Type 1} → statement M
-partner-spec =
-    tie.close
-    (tie.spec (λ c. search needs) (λ c. search needs) (λ c κs. search needs) (λ c. search needs) (λ c. search needs) (λ c κs. search needs)
+partner-spec = tie.close (tie.spec (λ c. search needs) (λ c. search needs) (λ c κs. search needs) (λ c. search needs) (λ c. search needs) (λ c κs. search needs)
     (λ c κs. search needs) match-forward-requires (λ c. search needs) (λ c κs. search needs) (λ c κs. search needs) match-backward-requires
     (λ c. search needs) returns returns-2 returns-3)

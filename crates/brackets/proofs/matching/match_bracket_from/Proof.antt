@@ -1,8 +1,6 @@
 -- `brackets::matching::match_bracket_from` meets its contract: it hands the first bracket of the row to `partner`.
 -- Assumes nothing.
-use Prim.Native.Nat.{_+_}
-use native.Mathlib.Omega.{arith}
-use borrow.Author.Needs.{needs}
+use Rattle.lists.proofs.Kit.{_+_, arith, needs}
 use Rattle.bracket_walks.specs.Walk.{Starts}
 use Rattle.brackets.proofs.Call.{jump-starts, jump-answer, jump-none}
 use Rattle.brackets.proofs.matching.match_bracket_from.Statement.{statement}
@@ -38,6 +36,5 @@ returns-2 c =
     (at-first-bracket .first-bracket .ensures) (c .enum-told .given .1)
 
 pub match-bracket-from-spec : {M : Type 1} → statement M
-match-bracket-from-spec =
-    tie.close
+match-bracket-from-spec = tie.close
     (tie.spec (λ c κs. search needs) (λ c κs. search needs) (λ c. search needs) add-partner (λ c κs. starts c) (λ c. search needs) returns returns-2)

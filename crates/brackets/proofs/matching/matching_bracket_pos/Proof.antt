@@ -1,9 +1,6 @@
 -- `brackets::matching::matching_bracket_pos` meets its contract: the text is refused, the place is outside it, or the answer is that of `partner`.
 -- Assumes nothing.
-use mathlib.Core.Path.{sym, _∙_, ap}
-use Prim.Native.Nat.{_<_}
-use native.Mathlib.Omega.{arith}
-use borrow.Author.Needs.{needs}
+use Rattle.lists.proofs.Kit.{sym, _∙_, ap, _<_, arith, needs}
 use Rattle.text.specs.Text.{rowCount}
 use Rattle.bracket_walks.specs.declared.Partner.the-variants.{Refused}
 use Rattle.brackets.proofs.Call.{call-refused, call-outside, no-row, row-there, no-col, place-starts, place-answer}
@@ -73,7 +70,6 @@ returns-4 c =
     sym (call-outside (given .t .now) (given .row) (given .col) ok out)
 
 pub matching-bracket-pos-spec : {M : Type 1} → statement M
-matching-bracket-pos-spec =
-    tie.close
+matching-bracket-pos-spec = tie.close
     (tie.spec (λ c κs. search needs) returns (λ c κs. search needs) returns-2 row-line-requires offset-of-requires (λ c. search needs) partner-requires
     (λ c. search needs) returns-3 returns-4)

@@ -1,10 +1,6 @@
 -- `brackets::matching::offset_of` meets its contract. The invariant of its loop: i stands in the row, `left` columns before the one sought.
 -- The measure is the text's length less i. Assumes nothing.
-use Prim.Native.Nat.{_+_, _-_}
-use mathlib.Core.Path.{_≡_}
-use native.Mathlib.Omega.{arith}
-use lib.ListN.{length}
-use borrow.Author.Needs.{needs}
+use Rattle.lists.proofs.Kit.{_≡_, _+_, _-_, arith, length, needs}
 use Rattle.text.specs.Offsets.{Stands}
 use Rattle.text.proofs.Stands.{step-char}
 use Rattle.brackets.proofs.Columns.{column-at, column-nl, column-end}
@@ -42,7 +38,6 @@ returns-3 : tie.Need-returns-3 Inv-loop μ-loop
 returns-3 c = let invariant = c .before .loop .inv in column-end (invariant .0) _ _ (invariant .1) (c .loop-test .left)
 
 pub offset-of-spec : {M : Type 1} → statement M
-offset-of-spec =
-    tie.close
+offset-of-spec = tie.close
     (tie.spec Inv-loop μ-loop (λ c. search needs) (λ c. search needs) (λ c. search needs) returns returns-2 (λ c. search needs) (λ c. search needs)
     (λ c. search needs) loop-again returns-3)

@@ -1,6 +1,5 @@
 -- `joined::fill_three` meets its contract: the check shows that the room is enough for `decode_three`. Assumes nothing.
-use mathlib.Core.Path.{refl, sym, _∙_}
-use borrow.Author.Needs.{needs}
+use Rattle.lists.proofs.Kit.{refl, sym, _∙_, needs}
 use Rattle.call_bytes.proofs.Replies.{fit-room}
 use Rattle.call_bytes.proofs.Joins.{unfit-three}
 use Rattle.call_bytes.proofs.joined.fill_three.Statement.{statement}
@@ -25,14 +24,12 @@ returns-2 c =
     let at-if1 = c .before .before .before .before in
     let given = at-if1 .before .before .before .before .before .before .args in
     record {
-      numbered =
-          sym (at-if1 .if1 .left) ∙ at-if1 .before .unfit .ensures
+      numbered = sym (at-if1 .if1 .left) ∙ at-if1 .before .unfit .ensures
           ∙ unfit-three (given .first .now) (given .second .now) (given .third .now) (given .room .now);
       fit = λ _. c .before .before .decode-three .ensures;
       kept = λ n. absurd (n refl);
     }
 
 pub fill-three-spec : {M : Type 1} → statement M
-fill-three-spec =
-    tie.close
+fill-three-spec = tie.close
     (tie.spec (λ c. search needs) (λ c. search needs) (λ c κs. search needs) returns decode-three-requires (λ c. search needs) returns-2)

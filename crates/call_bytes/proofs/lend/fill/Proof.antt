@@ -1,6 +1,5 @@
 -- `lend::fill` meets its contract: the check shows that the room is enough for `decode`. Assumes nothing.
-use mathlib.Core.Path.{refl, sym, _∙_}
-use borrow.Author.Needs.{needs}
+use Rattle.lists.proofs.Kit.{refl, sym, _∙_, needs}
 use Rattle.call_bytes.proofs.Replies.{fit-room}
 use Rattle.call_bytes.proofs.lend.fill.Statement.{statement}
 use Rattle.call_bytes.proofs.lend.fill.Tie as tie
@@ -23,6 +22,4 @@ returns-2 c =
     }
 
 pub fill-spec : {M : Type 1} → statement M
-fill-spec =
-    tie.close
-    (tie.spec (λ c κs. search needs) returns decode-requires (λ c. search needs) returns-2)
+fill-spec = tie.close (tie.spec (λ c κs. search needs) returns decode-requires (λ c. search needs) returns-2)

@@ -7,6 +7,4 @@ returns : tie.Need-returns
 returns c = record { numbered = rw (c .before .before .m .given .1); out-left = rw (c .before .before .m .given .1) }
 
 pub reply-spec : {M : Type 1} → statement M
-reply-spec =
-    tie.close
-    (tie.spec (λ c. search needs) (λ c. search needs) returns (λ c. search needs))
+reply-spec = tie.close (tie.spec (λ c. search needs) (λ c. search needs) returns (λ c. search needs))

@@ -1,6 +1,5 @@
 -- `terms::by_term` meets its contract, by the cases of what is asked for. Assumes nothing.
-use mathlib.Core.Path.{refl}
-use borrow.Author.Needs.{needs}
+use Rattle.lists.proofs.Kit.{refl, needs}
 use Rattle.call_classes.specs.ByTerm.{byTerm, leftBy}
 use Rattle.call_classes.proofs.terms.by_term.Statement.{statement}
 use Rattle.call_classes.proofs.terms.by_term.Tie as tie
@@ -17,6 +16,4 @@ unfolding byTerm leftBy
 returns-2 c = rw (c .enum-told .given .1) (refl, refl)
 
 pub by-term-spec : {M : Type 1} → statement M
-by-term-spec =
-    tie.close
-    (tie.spec (λ c. search needs) (λ c κs. search needs) (λ c. search needs) (λ c. search needs) returns returns-2)
+by-term-spec = tie.close (tie.spec (λ c. search needs) (λ c κs. search needs) (λ c. search needs) (λ c. search needs) returns returns-2)

@@ -19,7 +19,5 @@ none c =
 
 pub term-of-spec : {M : Type 1} → statement M
 unfolding termOf
-term-of-spec =
-    tie.close
-    (tie.spec (λ c. rw (c .match .keys1)) (λ c. rw (c .match .keys2)) (λ c. rw (c .match .keys3)) (λ c. rw (c .match .keys4)) (λ c. rw (c .match .keys5))
-    none)
+term-of-spec = tie.close
+    (tie.spec (λ c. rw (c .match .keys1)) (λ c. rw (c .match .keys2)) (λ c. rw (c .match .keys3)) (λ c. rw (c .match .keys4)) (λ c. rw (c .match .keys5)) none)

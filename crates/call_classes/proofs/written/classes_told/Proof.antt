@@ -1,7 +1,5 @@
 -- `written::classes_told` meets its contract, by the cases of the answer. Assumes nothing.
-use mathlib.Core.Path.{ap, sym, _∙_}
-use native.Mathlib.Omega.{arith}
-use borrow.Author.Needs.{needs}
+use Rattle.lists.proofs.Kit.{ap, sym, _∙_, arith, needs}
 use Rattle.call_classes.specs.Classed.{toldWritten}
 use Rattle.call_classes.proofs.Sizes.{written-size}
 use Rattle.call_classes.proofs.written.classes_told.Statement.{statement}
@@ -26,14 +24,5 @@ returns-2 c =
     (ap toldWritten (sym (c .before .f .given .1) ∙ word-classes-told .0), word-classes-told .1)
 
 pub classes-told-spec : {M : Type 1} → statement M
-classes-told-spec =
-    tie.close
-    (tie.spec
-    (λ c κs. search needs)
-    (λ c. search needs)
-    cast-t10
-    (λ c. search needs)
-    (λ c. search needs)
-    returns
-    (λ c. search needs)
+classes-told-spec = tie.close (tie.spec (λ c κs. search needs) (λ c. search needs) cast-t10 (λ c. search needs) (λ c. search needs) returns (λ c. search needs)
     returns-2)

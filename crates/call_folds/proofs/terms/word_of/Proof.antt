@@ -1,6 +1,5 @@
 -- `terms::word_of` meets its contract, number by number. Assumes nothing.
-use borrow.Author.Needs.{needs}
-use borrow.Author.Tests.{ne-eqb}
+use Rattle.lists.proofs.Kit.{needs, ne-eqb}
 use Rattle.call_folds.specs.Terms.{wordOf}
 use Rattle.call_folds.proofs.terms.word_of.Statement.{statement}
 use Rattle.call_folds.proofs.terms.word_of.Tie as tie
@@ -20,12 +19,7 @@ none c =
 
 pub word-of-spec : {M : Type 1} → statement M
 unfolding wordOf
-word-of-spec =
-    tie.close
-    (tie.spec
-    (λ c κs. search needs) (λ c κs. search needs) (λ c κs. search needs) (λ c κs. search needs) (λ c κs. search needs)
-    (λ c. rw (c .before .match .keys1) (c .by .ensures))
-    (λ c. rw (c .before .match .keys2) (c .by2 .ensures))
-    (λ c. rw (c .before .match .keys3) (c .by3 .ensures))
-    (λ c. rw (c .before .match .keys4) (c .by4 .ensures))
+word-of-spec = tie.close (tie.spec (λ c κs. search needs) (λ c κs. search needs) (λ c κs. search needs) (λ c κs. search needs) (λ c κs. search needs)
+    (λ c. rw (c .before .match .keys1) (c .by .ensures)) (λ c. rw (c .before .match .keys2) (c .by2 .ensures))
+    (λ c. rw (c .before .match .keys3) (c .by3 .ensures)) (λ c. rw (c .before .match .keys4) (c .by4 .ensures))
     (λ c. rw (c .before .match .keys5) (c .by5 .ensures)) none)

@@ -1,6 +1,5 @@
 -- `upright::upright_of` meets its contract, number by number. Assumes nothing.
-use borrow.Author.Needs.{needs}
-use borrow.Author.Tests.{ne-eqb}
+use Rattle.lists.proofs.Kit.{needs, ne-eqb}
 use Rattle.call_folds.specs.Upright.{uprightOf}
 use Rattle.call_folds.proofs.upright.upright_of.Statement.{statement}
 use Rattle.call_folds.proofs.upright.upright_of.Tie as tie
@@ -14,11 +13,6 @@ none c =
 
 pub upright-of-spec : {M : Type 1} → statement M
 unfolding uprightOf
-upright-of-spec =
-    tie.close
-    (tie.spec
-    (λ c κs. search needs) (λ c κs. search needs) (λ c κs. search needs) (λ c κs. search needs)
-    (λ c. rw (c .before .match .keys1) (c .rows .ensures))
-    (λ c. rw (c .before .match .keys2) (c .rows2 .ensures))
-    (λ c. rw (c .before .match .keys3) (c .screen .ensures))
-    (λ c. rw (c .before .match .keys4) (c .screen2 .ensures)) none)
+upright-of-spec = tie.close (tie.spec (λ c κs. search needs) (λ c κs. search needs) (λ c κs. search needs) (λ c κs. search needs)
+    (λ c. rw (c .before .match .keys1) (c .rows .ensures)) (λ c. rw (c .before .match .keys2) (c .rows2 .ensures))
+    (λ c. rw (c .before .match .keys3) (c .screen .ensures)) (λ c. rw (c .before .match .keys4) (c .screen2 .ensures)) none)

@@ -1,6 +1,5 @@
 -- `vertical` meets its contract: it hands on what the motion answers. Assumes nothing.
-use mathlib.Core.Path.{ap, _∙_}
-use borrow.Author.Needs.{needs}
+use Rattle.lists.proofs.Kit.{ap, _∙_, needs}
 use Rattle.motions.specs.declared.Caret.{Caret}
 use Rattle.call_folds.specs.Upright.{vertical}
 use Rattle.call_texts.specs.Carets.{moved}
@@ -12,12 +11,9 @@ returns : tie.Need-returns
 returns c =
     let at-vertical-by = c .before .before in
     let given = at-vertical-by .before .before .before .before .args in
-    replied-of moved
-    (at-vertical-by .vertical-by .ensures
+    replied-of moved (at-vertical-by .vertical-by .ensures
     ∙ ap (λ (k : Caret). vertical (given .op) (given .mode) (given .width) (given .count) (given .tabstop) k (given .text .now) (given .folds .now))
-    (at-vertical-by .before .caret-of .ensures))
-    (c .place .ensures)
+    (at-vertical-by .before .caret-of .ensures)) (c .place .ensures)
 
 pub vertical-spec : {M : Type 1} → statement M
-vertical-spec =
-    tie.close (tie.spec (λ c κs. search needs) (λ c κs. search needs) (λ c κs. search needs) returns)
+vertical-spec = tie.close (tie.spec (λ c κs. search needs) (λ c κs. search needs) (λ c κs. search needs) returns)

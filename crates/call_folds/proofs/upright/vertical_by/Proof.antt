@@ -1,9 +1,5 @@
 -- `upright::vertical_by` meets its contract: the mode's number, then the move. Assumes nothing.
-use mathlib.Core.Path.{ap, _∙_}
-use mathlib.Core.List.{[]}
-use borrow.Author.Needs.{needs}
-use borrow.Author.Tests.{lt-leb, le-leb}
-use Prim.Native.Nat.{ℕ}
+use Rattle.lists.proofs.Kit.{ap, _∙_, [], ℕ, needs, lt-leb, le-leb}
 use Rattle.widths.specs.declared.Ambiguous.{Ambiguous}
 use Rattle.row_wrap.specs.declared.Wrap.{Wrap}
 use Rattle.motions.specs.declared.Moved.{Moved}
@@ -30,14 +26,13 @@ returns-2 c =
     let given = at-test .before .before .before .args in
     let asked : Ambiguous → ℕ → Wrap → Moved =
     λ a op w. moveAs (uprightOf a op w (given .width)) (given .count) (given .k) (given .t .now) (given .folds .now) [] (given .tabstop) in
-    rw (le-leb _ 2 (at-test .if1 .left))
-    (c .move-as .ensures
+    rw (le-leb _ 2 (at-test .if1 .left)) (c .move-as .ensures
     ∙ ap (λ (a : Asked). moveAs a (given .count) (given .k) (given .t .now) (given .folds .now) [] (given .tabstop)) (at-number .upright-of .ensures)
     ∙ ap (λ (w : Wrap). asked (at-setting .setting-of .result) (at-plain .plain-of .result) w) (at-mode .mode-of .ensures)
     ∙ ap (λ (a : Ambiguous). asked a (at-plain .plain-of .result) (modeOf (given .mode))) (at-setting .setting-of .ensures)
     ∙ ap (λ (op : ℕ). asked (settingOf (given .op)) op (modeOf (given .mode))) (at-plain .plain-of .ensures))
 
 pub vertical-by-spec : {M : Type 1} → statement M
-vertical-by-spec =
-    tie.close
-    (tie.spec returns (λ c κs. search needs) (λ c κs. search needs) (λ c κs. search needs) (λ c κs. search needs) (λ c. search needs) (λ c κs. search needs) returns-2)
+vertical-by-spec = tie.close
+    (tie.spec returns (λ c κs. search needs) (λ c κs. search needs) (λ c κs. search needs) (λ c κs. search needs) (λ c. search needs)
+    (λ c κs. search needs) returns-2)

@@ -15,10 +15,9 @@ returns c =
     let at-caret = at-number .before .before in
     let given = at-caret .before .before .before .args in
     replied-of (λ (m : Reply). m)
-    (seeks-by-table (given .text .now) (given .starts .now) (given .content) (at-number .seek-of .ensures) (at-caret .caret-of .ensures) (at-go .go-as .ensures))
+    (seeks-by-table (given .text .now) (given .starts .now) (given .content) (at-number .seek-of .ensures) (at-caret .caret-of .ensures)
+    (at-go .go-as .ensures))
     (c .tell .ensures)
 
 pub seek-rows-spec : {M : Type 1} → statement M
-seek-rows-spec =
-    tie.close
-    (tie.spec (λ c κs. search needs) (λ c. search needs) (λ c κs. search needs) (λ c κs. search needs) (λ c κs. search needs) returns)
+seek-rows-spec = tie.close (tie.spec (λ c κs. search needs) (λ c. search needs) (λ c κs. search needs) (λ c κs. search needs) (λ c κs. search needs) returns)

@@ -1,6 +1,5 @@
 -- `moves::viewport_rows` meets its contract: it hands on what the move answers beside the table. Assumes nothing.
-use borrow.Author.Needs.{needs}
-use mathlib.Core.List.{[]}
+use Rattle.lists.proofs.Kit.{[], needs}
 use Rattle.call_bytes.specs.Reply.{Reply}
 use Rattle.call_bytes.proofs.Replies.{replied-of}
 use Rattle.call_texts.specs.Viewports.{viewport}
@@ -18,10 +17,8 @@ returns c =
     let given = at-caret .before .before .before .args in
     replied-of (λ (m : Reply). m)
     (moves-by-table (given .text .now) (given .starts .now) (given .content) [] [] 0 1 (at-number .edge-of .ensures) (at-caret .caret-of .ensures)
-    (at-go .go-as .ensures) (at-landed .landed .ensures))
-    (c .place .ensures)
+    (at-go .go-as .ensures) (at-landed .landed .ensures)) (c .place .ensures)
 
 pub viewport-rows-spec : {M : Type 1} → statement M
-viewport-rows-spec =
-    tie.close
+viewport-rows-spec = tie.close
     (tie.spec (λ c κs. search needs) (λ c. search needs) (λ c κs. search needs) (λ c κs. search needs) (λ c κs. search needs) (λ c κs. search needs) returns)

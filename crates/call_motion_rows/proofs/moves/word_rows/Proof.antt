@@ -17,10 +17,7 @@ returns c =
     let given = at-caret .before .before .before .before .before .args in
     replied-of (λ (m : Reply). m)
     (moves-by-table (given .text .now) (given .starts .now) (given .content) (given .folds .now) (given .list .now) 0 (given .count)
-    (at-number .word-of .ensures) (at-caret .caret-of .ensures) (at-go .go-as .ensures) (at-landed .landed .ensures))
-    (c .place .ensures)
+    (at-number .word-of .ensures) (at-caret .caret-of .ensures) (at-go .go-as .ensures) (at-landed .landed .ensures)) (c .place .ensures)
 
 pub word-rows-spec : {M : Type 1} → statement M
-word-rows-spec =
-    tie.close
-    (tie.spec (λ c κs. search needs) (λ c κs. search needs) (λ c κs. search needs) (λ c κs. search needs) (λ c κs. search needs) returns)
+word-rows-spec = tie.close (tie.spec (λ c κs. search needs) (λ c κs. search needs) (λ c κs. search needs) (λ c κs. search needs) (λ c κs. search needs) returns)

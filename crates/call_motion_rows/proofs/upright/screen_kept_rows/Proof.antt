@@ -1,7 +1,5 @@
 -- `upright::screen_kept_rows` meets its contract: it hands on what the move answers beside the table. Assumes nothing.
-use mathlib.Core.Path.{ap, _∙_}
-use borrow.Author.Needs.{needs}
-use mathlib.Core.List.{[]}
+use Rattle.lists.proofs.Kit.{ap, _∙_, [], needs}
 use Rattle.motions.specs.declared.Moved.{Moved}
 use Rattle.call_bytes.specs.Reply.{Reply}
 use Rattle.call_bytes.proofs.Replies.{replied-of}
@@ -22,10 +20,8 @@ returns c =
     (six-by-table (given .text .now) (given .starts .now) (given .content) (given .folds .now) [] (given .tabstop) (given .count) (at-number .kept-by .ensures)
     (at-caret .caret-six .ensures) (at-go .go-as .ensures) (at-landed .landed .ensures)
     ∙ ap (λ (x : Moved). byTable (given .text .now) (given .starts .now) (given .content) (movedSix x))
-    (kept-asked (given .op) (given .mode) (given .width) (given .count) (given .tabstop) _ (given .text .now) (given .folds .now)))
-    (c .place-six .ensures)
+    (kept-asked (given .op) (given .mode) (given .width) (given .count) (given .tabstop) _ (given .text .now) (given .folds .now))) (c .place-six .ensures)
 
 pub screen-kept-rows-spec : {M : Type 1} → statement M
-screen-kept-rows-spec =
-    tie.close
+screen-kept-rows-spec = tie.close
     (tie.spec (λ c κs. search needs) (λ c. search needs) (λ c κs. search needs) (λ c κs. search needs) (λ c κs. search needs) (λ c κs. search needs) returns)

@@ -1,7 +1,5 @@
 -- `upright::vertical_rows` meets its contract: it hands on what the move answers beside the table. Assumes nothing.
-use mathlib.Core.Path.{ap, _∙_}
-use borrow.Author.Needs.{needs}
-use mathlib.Core.List.{[]}
+use Rattle.lists.proofs.Kit.{ap, _∙_, [], needs}
 use Rattle.motions.specs.declared.Moved.{Moved}
 use Rattle.call_bytes.specs.Reply.{Reply}
 use Rattle.call_bytes.proofs.Replies.{replied-of}
@@ -19,13 +17,12 @@ returns c =
     let at-caret = at-number .before .before in
     let given = at-caret .before .before .before .before .args in
     replied-of (λ (m : Reply). m)
-    (moves-by-table (given .text .now) (given .starts .now) (given .content) (given .folds .now) [] (given .tabstop) (given .count) (at-number .upright-by .ensures)
+    (moves-by-table (given .text .now) (given .starts .now) (given .content) (given .folds .now) [] (given .tabstop) (given .count)
+    (at-number .upright-by .ensures)
     (at-caret .caret-of .ensures) (at-go .go-as .ensures) (at-landed .landed .ensures)
     ∙ ap (λ (x : Moved). byTable (given .text .now) (given .starts .now) (given .content) (moved x))
-    (vertical-asked (given .op) (given .mode) (given .width) (given .count) (given .tabstop) _ (given .text .now) (given .folds .now)))
-    (c .place .ensures)
+    (vertical-asked (given .op) (given .mode) (given .width) (given .count) (given .tabstop) _ (given .text .now) (given .folds .now))) (c .place .ensures)
 
 pub vertical-rows-spec : {M : Type 1} → statement M
-vertical-rows-spec =
-    tie.close
+vertical-rows-spec = tie.close
     (tie.spec (λ c κs. search needs) (λ c. search needs) (λ c κs. search needs) (λ c κs. search needs) (λ c κs. search needs) (λ c κs. search needs) returns)

@@ -8,5 +8,4 @@ returns : tie.Need-returns
 returns c = replied-as (c .before .before .fact-of .ensures) (c .reply .ensures)
 
 pub character-spec : {M : Type 1} → statement M
-character-spec =
-    tie.close (tie.spec (λ c κs. search needs) (λ c κs. search needs) returns)
+character-spec = tie.close (tie.spec (λ c κs. search needs) (λ c κs. search needs) returns)

@@ -45,20 +45,8 @@ returns-6 c =
     rw (ne-eqb _ 0 (other .0 .0 .0 .0 .1), ne-eqb _ 1 (other .0 .0 .0 .1), ne-eqb _ 2 (other .0 .0 .1), ne-eqb _ 3 (other .0 .1), ne-eqb _ 259 (other .1))
 
 pub fact-of-spec : {M : Type 1} → statement M
-fact-of-spec =
-    tie.close
-    (tie.spec
-    (λ c κs. search needs)
-    (λ c κs. search needs)
-    (λ c κs. search needs)
-    (λ c κs. search needs)
-    (λ c κs. search needs)
-    (λ c κs. search needs)
-    (λ c κs. search needs)
-    (λ c κs. search needs)
-    (λ c κs. search needs)
-    (λ c κs. search needs)
-    (λ c κs. search needs)
+fact-of-spec = tie.close (tie.spec (λ c κs. search needs) (λ c κs. search needs) (λ c κs. search needs) (λ c κs. search needs) (λ c κs. search needs)
+    (λ c κs. search needs) (λ c κs. search needs) (λ c κs. search needs) (λ c κs. search needs) (λ c κs. search needs) (λ c κs. search needs)
     (λ c κs. search needs)
     returns
     returns-2

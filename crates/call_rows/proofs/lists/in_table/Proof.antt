@@ -19,6 +19,4 @@ returns-2 c =
     (c .by-table .ensures ∙ ap (λ (p : Parsed). byTable p (at-if1 .before .before .before .args .x)) (c .before .parse .ensures))
 
 pub in-table-spec : {M : Type 1} → statement M
-in-table-spec =
-    tie.close
-    (tie.spec (λ c κs. search needs) returns (λ c κs. search needs) (λ c κs. search needs) returns-2)
+in-table-spec = tie.close (tie.spec (λ c κs. search needs) returns (λ c κs. search needs) (λ c κs. search needs) returns-2)

@@ -25,14 +25,5 @@ returns-4 c =
     rw (ne-eqb _ 0 (other .0 .0 .1), ne-eqb _ 1 (other .0 .1), ne-eqb _ 2 (other .1))
 
 pub keyword-by-spec : {M : Type 1} → statement M
-keyword-by-spec =
-    tie.close
-    (tie.spec
-    (λ c κs. search needs)
-    (λ c κs. search needs)
-    (λ c κs. search needs)
-    (λ c κs. search needs)
-    returns
-    returns-2
-    returns-3
+keyword-by-spec = tie.close (tie.spec (λ c κs. search needs) (λ c κs. search needs) (λ c κs. search needs) (λ c κs. search needs) returns returns-2 returns-3
     returns-4)

@@ -8,5 +8,4 @@ returns : tie.Need-returns
 returns c = replied-as (c .before .before .keyword-by .ensures) (c .reply .ensures)
 
 pub keywords-spec : {M : Type 1} → statement M
-keywords-spec =
-    tie.close (tie.spec (λ c κs. search needs) (λ c κs. search needs) returns)
+keywords-spec = tie.close (tie.spec (λ c κs. search needs) (λ c κs. search needs) returns)

@@ -12,6 +12,4 @@ returns-2 : tie.Need-returns-2
 returns-2 c = rw (c .before .m2 .given .1)
 
 pub told-matched-spec : {M : Type 1} → statement M
-told-matched-spec =
-    tie.close
-    (tie.spec (λ c. search needs) (λ c κs. search needs) (λ c. search needs) returns returns-2)
+told-matched-spec = tie.close (tie.spec (λ c. search needs) (λ c κs. search needs) (λ c. search needs) returns returns-2)

@@ -29,17 +29,8 @@ returns-5 c =
     rw (ne-eqb _ 0 (other .0 .0 .0 .1), ne-eqb _ 1 (other .0 .0 .1), ne-eqb _ 2 (other .0 .1), ne-eqb _ 3 (other .1))
 
 pub column-by-spec : {M : Type 1} → statement M
-column-by-spec =
-    tie.close
-    (tie.spec
-    (λ c κs. search needs)
-    (λ c κs. search needs)
-    (λ c κs. search needs)
-    (λ c κs. search needs)
-    (λ c κs. search needs)
-    (λ c κs. search needs)
-    (λ c κs. search needs)
-    (λ c κs. search needs)
+column-by-spec = tie.close (tie.spec (λ c κs. search needs) (λ c κs. search needs) (λ c κs. search needs) (λ c κs. search needs) (λ c κs. search needs)
+    (λ c κs. search needs) (λ c κs. search needs) (λ c κs. search needs)
     returns
     returns-2
     returns-3

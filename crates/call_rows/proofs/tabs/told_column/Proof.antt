@@ -13,6 +13,4 @@ unfolding toldColumn
 returns-2 c = rw (c .before .m2 .given .1)
 
 pub told-column-spec : {M : Type 1} → statement M
-told-column-spec =
-    tie.close
-    (tie.spec (λ c. search needs) (λ c. search needs) returns returns-2)
+told-column-spec = tie.close (tie.spec (λ c. search needs) (λ c. search needs) returns returns-2)

@@ -10,10 +10,4 @@ returns : tie.Need-returns
 returns c = replied-as (c .before .before .told-segment .ensures ∙ ap toldSegment (c .before .before .before .segment-for-col .ensures)) (c .reply .ensures)
 
 pub segment-for-col-spec : {M : Type 1} → statement M
-segment-for-col-spec =
-    tie.close
-    (tie.spec
-    (λ c κs. search needs)
-    (λ c κs. search needs)
-    (λ c κs. search needs)
-    returns)
+segment-for-col-spec = tie.close (tie.spec (λ c κs. search needs) (λ c κs. search needs) (λ c κs. search needs) returns)

@@ -18,16 +18,14 @@ unfolding modeOf
 returns-2 c =
     let at-wrap-segments2 = c .before .before .before in
     segmented-by (rw (at-wrap-segments2 .before .before .match .keys2)) (omega (arith, at-wrap-segments2 .before .before .match .keys2))
-    (at-wrap-segments2 .wrap-segments2 .ensures)
-    (c .told-segments2 .ensures)
+    (at-wrap-segments2 .wrap-segments2 .ensures) (c .told-segments2 .ensures)
 
 returns-3 : tie.Need-returns-3
 unfolding modeOf
 returns-3 c =
     let at-wrap-segments3 = c .before .before .before in
     segmented-by (rw (at-wrap-segments3 .before .before .match .keys3)) (omega (arith, at-wrap-segments3 .before .before .match .keys3))
-    (at-wrap-segments3 .wrap-segments3 .ensures)
-    (c .told-segments3 .ensures)
+    (at-wrap-segments3 .wrap-segments3 .ensures) (c .told-segments3 .ensures)
 
 returns-4 : tie.Need-returns-4
 returns-4 c =
@@ -35,19 +33,9 @@ returns-4 c =
     segmented-none (omega (arith, other .0 .0 .1, other .0 .1, other .1))
 
 pub segments-by-spec : {M : Type 1} → statement M
-segments-by-spec =
-    tie.close
-    (tie.spec
-    (λ c κs. search needs)
-    (λ c κs. search needs)
-    (λ c κs. search needs)
-    (λ c κs. search needs)
-    (λ c κs. search needs)
-    (λ c κs. search needs)
-    (λ c. search needs)
-    returns
-    (λ c. search needs)
-    returns-2
-    (λ c. search needs)
+segments-by-spec = tie.close (tie.spec (λ c κs. search needs) (λ c κs. search needs) (λ c κs. search needs) (λ c κs. search needs) (λ c κs. search needs)
+    (λ c κs. search needs) (λ c. search needs)
+    returns (λ c. search needs)
+    returns-2 (λ c. search needs)
     returns-3
     returns-4)

@@ -18,6 +18,4 @@ unfolding toldSegment
 returns-3 c = rw (c .before .m2 .given .1)
 
 pub told-segment-spec : {M : Type 1} → statement M
-told-segment-spec =
-    tie.close
-    (tie.spec (λ c. search needs) returns (λ c. search needs) (λ c. search needs) returns-2 returns-3)
+told-segment-spec = tie.close (tie.spec (λ c. search needs) returns (λ c. search needs) (λ c. search needs) returns-2 returns-3)

@@ -1,7 +1,5 @@
 -- `entry::by_entry` meets its contract: a refusal is handed on with its place, else the table answers. Assumes nothing.
-use mathlib.Core.Path.{ap, _∙_}
-use borrow.Author.Needs.{needs}
-use borrow.Author.Tests.{eq-eqb, ne-eqb}
+use Rattle.lists.proofs.Kit.{ap, _∙_, needs, eq-eqb, ne-eqb}
 use Rattle.call_signs.specs.declared.Placed.the-variants.{Refused}
 use Rattle.call_signs.specs.Entry.{byEntry, placedMatched}
 use Rattle.call_signs.proofs.entry.by_entry.Statement.{statement}
@@ -16,6 +14,4 @@ unfolding byEntry
 returns-2 c = rw (eq-eqb _ 0 (c .before .before .before .if1 .left)) (c .placed-matched .ensures ∙ ap placedMatched (c .before .matches .ensures))
 
 pub by-entry-spec : {M : Type 1} → statement M
-by-entry-spec =
-    tie.close
-    (tie.spec (λ c κs. search needs) returns (λ c κs. search needs) (λ c κs. search needs) returns-2)
+by-entry-spec = tie.close (tie.spec (λ c κs. search needs) returns (λ c κs. search needs) (λ c κs. search needs) returns-2)

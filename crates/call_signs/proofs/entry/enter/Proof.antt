@@ -1,6 +1,5 @@
 -- `entry::enter` meets its contract: it hands on what the operation answers. Assumes nothing.
 use borrow.Author.Needs.{needs}
-use Rattle.call_signs.specs.Entry.{placedReply}
 use Rattle.call_signs.proofs.entry.enter.Statement.{statement}
 use Rattle.call_signs.proofs.entry.enter.Tie as tie
 

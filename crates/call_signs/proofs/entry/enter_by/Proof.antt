@@ -1,6 +1,5 @@
 -- `entry::enter_by` meets its contract, arm by arm. Assumes nothing.
-use borrow.Author.Needs.{needs}
-use borrow.Author.Tests.{ne-eqb}
+use Rattle.lists.proofs.Kit.{needs, ne-eqb}
 use Rattle.call_signs.specs.Entry.{entering}
 use Rattle.call_signs.proofs.entry.enter_by.Statement.{statement}
 use Rattle.call_signs.proofs.entry.enter_by.Tie as tie

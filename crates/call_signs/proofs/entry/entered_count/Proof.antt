@@ -1,8 +1,5 @@
 -- `entry::entered_count` meets its contract: a refusal is handed on with its place, and a table has few tokens. Assumes nothing.
-use mathlib.Core.Path.{ap, sym, _∙_}
-use native.Mathlib.Omega.{arith}
-use borrow.Author.Needs.{needs}
-use borrow.Author.Tests.{eq-eqb, ne-eqb}
+use Rattle.lists.proofs.Kit.{ap, sym, _∙_, arith, needs, eq-eqb, ne-eqb}
 use Rattle.list_signs.specs.declared.Entered.{Entered}
 use Rattle.call_signs.specs.declared.Placed.the-variants.{Refused}
 use Rattle.call_signs.specs.Entry.{enteredCount}

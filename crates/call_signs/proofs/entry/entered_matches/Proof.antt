@@ -1,7 +1,5 @@
 -- `entry::entered_matches` meets its contract: the character, then the list. Assumes nothing.
-use mathlib.Core.Path.{ap, sym, _∙_}
-use borrow.Author.Needs.{needs}
-use borrow.Author.Tests.{not-true, not-false}
+use Rattle.lists.proofs.Kit.{ap, sym, _∙_, needs, not-true, not-false}
 use Rattle.list_signs.specs.declared.Entered.{Entered}
 use Rattle.call_signs.specs.Entry.{enteredMatches, byEntry}
 use Rattle.call_signs.proofs.Bounds.{entry-place}
@@ -23,6 +21,4 @@ returns-2 c =
     (c .by-entry .ensures ∙ ap (λ (e : Entered). byEntry e (at-if1 .before .before .before .args .x)) (c .before .enter .ensures))
 
 pub entered-matches-spec : {M : Type 1} → statement M
-entered-matches-spec =
-    tie.close
-    (tie.spec (λ c κs. search needs) returns (λ c κs. search needs) by-entry-requires returns-2)
+entered-matches-spec = tie.close (tie.spec (λ c κs. search needs) returns (λ c κs. search needs) by-entry-requires returns-2)

@@ -1,7 +1,5 @@
 -- `plain::plain_told` meets its contract, by the cases of the answer. Assumes nothing.
-use mathlib.Core.Path.{ap, sym}
-use native.Mathlib.Omega.{arith}
-use borrow.Author.Needs.{needs}
+use Rattle.lists.proofs.Kit.{ap, sym, arith, needs}
 use Rattle.call_signs.proofs.Bounds.{toldOf, plain-told, plain-size}
 use Rattle.call_signs.proofs.plain.plain_told.Statement.{statement}
 use Rattle.call_signs.proofs.plain.plain_told.Tie as tie
@@ -31,14 +29,5 @@ returns-2 c =
     (at-call .without-plus .ensures) _ (sym (ap toldOf (c .before .f .given .1)))
 
 pub plain-told-spec : {M : Type 1} → statement M
-plain-told-spec =
-    tie.close
-    (tie.spec
-    (λ c κs. search needs)
-    (λ c. search needs)
-    cast-t9
-    (λ c. search needs)
-    (λ c. search needs)
-    returns
-    (λ c. search needs)
+plain-told-spec = tie.close (tie.spec (λ c κs. search needs) (λ c. search needs) cast-t9 (λ c. search needs) (λ c. search needs) returns (λ c. search needs)
     returns-2)

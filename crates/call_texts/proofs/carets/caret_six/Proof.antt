@@ -1,4 +1,3 @@
--- `carets::caret_six` meets its contract. Assumes nothing.
 use borrow.Author.Needs.{needs}
 use Rattle.call_texts.proofs.carets.caret_six.Statement.{statement}
 use Rattle.call_texts.proofs.carets.caret_six.Tie as tie

@@ -22,14 +22,7 @@ unfolding movedSix
 returns-2 c = let m2-is = c .before .m2 .given .1 in record { numbered = rw m2-is; out-left = rw m2-is }
 
 pub place-six-spec : {M : Type 1} → statement M
-place-six-spec =
-    tie.close
-    (tie.spec
-    (λ c. search needs)
-    (λ c κs. search needs)
-    (λ c κs. search needs)
-    (λ c κs. search needs)
-    (λ c κs. search needs)
+place-six-spec = tie.close (tie.spec (λ c. search needs) (λ c κs. search needs) (λ c κs. search needs) (λ c κs. search needs) (λ c κs. search needs)
     (λ c. search needs)
     returns
     returns-2)

@@ -1,6 +1,5 @@
 -- `inners::inner_by` meets its contract, arm by arm. Assumes nothing.
-use borrow.Author.Needs.{needs}
-use borrow.Author.Tests.{ne-eqb}
+use Rattle.lists.proofs.Kit.{needs, ne-eqb}
 use Rattle.call_texts.specs.Inners.{innerBy}
 use Rattle.call_texts.proofs.inners.inner_by.Statement.{statement}
 use Rattle.call_texts.proofs.inners.inner_by.Tie as tie
@@ -28,6 +27,5 @@ returns-5 c =
     rw (ne-eqb _ 0 (other .0 .0 .0 .1), ne-eqb _ 1 (other .0 .0 .1), ne-eqb _ 2 (other .0 .1), ne-eqb _ 3 (other .1))
 
 pub inner-by-spec : {M : Type 1} → statement M
-inner-by-spec =
-    tie.close
+inner-by-spec = tie.close
     (tie.spec (λ c κs. search needs) (λ c κs. search needs) (λ c κs. search needs) (λ c κs. search needs) returns returns-2 returns-3 returns-4 returns-5)

@@ -1,5 +1,4 @@
 -- `inner_pair` meets its contract: it hands on what the call answers. Assumes nothing.
-use mathlib.Core.Path.{sym}
 use borrow.Author.Needs.{needs}
 use Rattle.call_bytes.proofs.Replies.{replied-of}
 use Rattle.call_texts.specs.Inners.{surrounded}

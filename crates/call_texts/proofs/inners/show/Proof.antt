@@ -1,6 +1,5 @@
 -- `inners::show` meets its contract, by the cases of the answer. Assumes nothing.
-use native.Mathlib.Omega.{arith}
-use borrow.Author.Needs.{needs}
+use Rattle.lists.proofs.Kit.{arith, needs}
 use Rattle.call_texts.specs.Inners.{surrounded}
 use Rattle.call_texts.proofs.inners.show.Statement.{statement}
 use Rattle.call_texts.proofs.inners.show.Tie as tie
@@ -70,19 +69,7 @@ unfolding surrounded
 returns-3 c = let m2-is = c .before .m2 .given .1 in record { numbered = rw m2-is; out-left = rw m2-is }
 
 pub show-spec : {M : Type 1} → statement M
-show-spec =
-    tie.close
-    (tie.spec
-    (λ c. search needs)
-    from-row
-    from-col
-    to-row
-    to-col
-    opening-row
-    opening-col
-    past-row
-    past-col
-    (λ c. search needs)
+show-spec = tie.close (tie.spec (λ c. search needs) from-row from-col to-row to-col opening-row opening-col past-row past-col (λ c. search needs)
     (λ c. search needs)
     returns
     returns-2

@@ -1,4 +1,3 @@
--- `moves::caret_of` meets its contract. Assumes nothing.
 use borrow.Author.Needs.{needs}
 use Rattle.call_texts.proofs.moves.caret_of.Statement.{statement}
 use Rattle.call_texts.proofs.moves.caret_of.Tie as tie

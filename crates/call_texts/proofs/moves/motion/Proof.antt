@@ -1,7 +1,5 @@
 -- `moves::motion` meets its contract: it hands on what the move answers. Assumes nothing.
-use mathlib.Core.Path.{ap, _∙_}
-use mathlib.Core.List.{[]}
-use borrow.Author.Needs.{needs}
+use Rattle.lists.proofs.Kit.{ap, _∙_, [], needs}
 use Rattle.motions.specs.declared.Caret.{Caret}
 use Rattle.call_bytes.proofs.Replies.{replied-of}
 use Rattle.call_texts.specs.declared.Asked.{Asked}
@@ -18,13 +16,9 @@ returns c =
     let at-number = at-move .before in
     let at-caret = at-number .before .before in
     let given = at-caret .before .before .args in
-    replied-of moved
-    (at-move .move-as .ensures
+    replied-of moved (at-move .move-as .ensures
     ∙ ap (λ (a : Asked). moveAs a (given .count) (at-caret .caret-of .result) (given .text .now) [] [] 0) (at-number .way-of .ensures)
-    ∙ ap (λ (k : Caret). moveAs (wayOf (given .op)) (given .count) k (given .text .now) [] [] 0) (at-caret .caret-of .ensures))
-    (c .place .ensures)
+    ∙ ap (λ (k : Caret). moveAs (wayOf (given .op)) (given .count) k (given .text .now) [] [] 0) (at-caret .caret-of .ensures)) (c .place .ensures)
 
 pub motion-spec : {M : Type 1} → statement M
-motion-spec =
-    tie.close
-    (tie.spec (λ c κs. search needs) (λ c. search needs) (λ c κs. search needs) (λ c κs. search needs) (λ c κs. search needs) returns)
+motion-spec = tie.close (tie.spec (λ c κs. search needs) (λ c. search needs) (λ c κs. search needs) (λ c κs. search needs) (λ c κs. search needs) returns)

@@ -1,6 +1,5 @@
 -- `pairs::show` meets its contract, by the cases of the answer. Assumes nothing.
-use native.Mathlib.Omega.{arith}
-use borrow.Author.Needs.{needs}
+use Rattle.lists.proofs.Kit.{arith, needs}
 use Rattle.call_texts.specs.Partners.{partnered}
 use Rattle.call_texts.proofs.pairs.show.Statement.{statement}
 use Rattle.call_texts.proofs.pairs.show.Tie as tie
@@ -30,6 +29,4 @@ unfolding partnered
 returns-3 c = let m2-is = c .before .m2 .given .1 in record { numbered = rw m2-is; out-left = rw m2-is }
 
 pub show-spec : {M : Type 1} → statement M
-show-spec =
-    tie.close
-    (tie.spec (λ c. search needs) row-fits col-fits (λ c. search needs) (λ c. search needs) returns returns-2 returns-3)
+show-spec = tie.close (tie.spec (λ c. search needs) row-fits col-fits (λ c. search needs) (λ c. search needs) returns returns-2 returns-3)

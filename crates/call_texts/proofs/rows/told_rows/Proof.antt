@@ -10,6 +10,4 @@ returns-2 : tie.Need-returns-2
 returns-2 c = rw (c .before .m2 .given .1)
 
 pub told-rows-spec : {M : Type 1} → statement M
-told-rows-spec =
-    tie.close
-    (tie.spec (λ c. search needs) (λ c. search needs) returns returns-2)
+told-rows-spec = tie.close (tie.spec (λ c. search needs) (λ c. search needs) returns returns-2)

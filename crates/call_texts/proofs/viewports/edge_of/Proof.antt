@@ -1,6 +1,5 @@
 -- `viewports::edge_of` meets its contract, number by number. Assumes nothing.
-use borrow.Author.Needs.{needs}
-use borrow.Author.Tests.{ne-eqb}
+use Rattle.lists.proofs.Kit.{needs, ne-eqb}
 use Rattle.call_texts.specs.Viewports.{edgeOf}
 use Rattle.call_texts.proofs.viewports.edge_of.Statement.{statement}
 use Rattle.call_texts.proofs.viewports.edge_of.Tie as tie
@@ -14,10 +13,5 @@ none c =
 
 pub edge-of-spec : {M : Type 1} → statement M
 unfolding edgeOf
-edge-of-spec =
-    tie.close
-    (tie.spec
-    (λ c κs. search needs) (λ c κs. search needs) (λ c κs. search needs)
-    (λ c. rw (c .before .match .keys1) (c .to .ensures))
-    (λ c. rw (c .before .match .keys2) (c .to2 .ensures))
-    (λ c. rw (c .before .match .keys3) (c .to3 .ensures)) none)
+edge-of-spec = tie.close (tie.spec (λ c κs. search needs) (λ c κs. search needs) (λ c κs. search needs) (λ c. rw (c .before .match .keys1) (c .to .ensures))
+    (λ c. rw (c .before .match .keys2) (c .to2 .ensures)) (λ c. rw (c .before .match .keys3) (c .to3 .ensures)) none)

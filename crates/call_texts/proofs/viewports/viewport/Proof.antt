@@ -1,7 +1,5 @@
 -- `viewports::viewport` meets its contract: it hands on what the move answers. Assumes nothing.
-use mathlib.Core.Path.{ap, _∙_}
-use mathlib.Core.List.{[]}
-use borrow.Author.Needs.{needs}
+use Rattle.lists.proofs.Kit.{ap, _∙_, [], needs}
 use Rattle.motions.specs.declared.Caret.{Caret}
 use Rattle.call_bytes.proofs.Replies.{replied-of}
 use Rattle.call_texts.specs.declared.Asked.{Asked}
@@ -18,13 +16,10 @@ returns c =
     let at-number = at-move .before in
     let at-caret = at-number .before .before in
     let given = at-caret .before .before .args in
-    replied-of moved
-    (at-move .move-as .ensures
+    replied-of moved (at-move .move-as .ensures
     ∙ ap (λ (a : Asked). moveAs a 1 (at-caret .caret-of .result) (given .text .now) [] [] 0) (at-number .edge-of .ensures)
     ∙ ap (λ (k : Caret). moveAs (edgeOf (given .op) (given .top) (given .height) (given .offset)) 1 k (given .text .now) [] [] 0) (at-caret .caret-of .ensures))
     (c .place .ensures)
 
 pub viewport-spec : {M : Type 1} → statement M
-viewport-spec =
-    tie.close
-    (tie.spec (λ c κs. search needs) (λ c. search needs) (λ c κs. search needs) (λ c κs. search needs) (λ c κs. search needs) returns)
+viewport-spec = tie.close (tie.spec (λ c κs. search needs) (λ c. search needs) (λ c κs. search needs) (λ c κs. search needs) (λ c κs. search needs) returns)

@@ -1,6 +1,5 @@
 -- `list::vim_by` meets its contract: arm by arm. Assumes nothing.
-use borrow.Author.Needs.{needs}
-use borrow.Author.Tests.{ne-eqb}
+use Rattle.lists.proofs.Kit.{needs, ne-eqb}
 use Rattle.call_vim.specs.Vim.{vimBy}
 use Rattle.call_vim.proofs.list.vim_by.Statement.{statement}
 use Rattle.call_vim.proofs.list.vim_by.Tie as tie

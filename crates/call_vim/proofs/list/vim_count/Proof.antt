@@ -1,8 +1,5 @@
 -- `list::vim_count` meets its contract: a refusal is handed on with its place, and a table has few tokens. Assumes nothing.
-use mathlib.Core.Path.{ap, sym, _∙_}
-use native.Mathlib.Omega.{arith}
-use borrow.Author.Needs.{needs}
-use borrow.Author.Tests.{eq-eqb, ne-eqb}
+use Rattle.lists.proofs.Kit.{ap, arith, needs, eq-eqb, ne-eqb}
 use Rattle.vim_reader.specs.declared.VimRead.{VimRead}
 use Rattle.vim_reader.proofs.Answers.{read-few}
 use Rattle.call_signs.specs.declared.Placed.the-variants.{Refused}

@@ -1,6 +1,5 @@
 -- `list::vim_list` meets its contract: it hands on what the operation answers. Assumes nothing.
 use borrow.Author.Needs.{needs}
-use Rattle.call_signs.specs.Entry.{placedReply}
 use Rattle.call_vim.proofs.list.vim_list.Statement.{statement}
 use Rattle.call_vim.proofs.list.vim_list.Tie as tie
 

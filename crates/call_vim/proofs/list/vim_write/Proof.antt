@@ -1,6 +1,5 @@
 -- `list::vim_write` meets its contract: it hands on what the call answers. Assumes nothing.
 use borrow.Author.Needs.{needs}
-use Rattle.call_signs.specs.Entry.{placedReply}
 use Rattle.call_vim.proofs.list.vim_write.Statement.{statement}
 use Rattle.call_vim.proofs.list.vim_write.Tie as tie
 

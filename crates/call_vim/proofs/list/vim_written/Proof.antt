@@ -1,10 +1,7 @@
 -- `list::vim_written` meets its contract: a refusal is handed on with its place, else what writing answers. Assumes nothing.
-use mathlib.Core.Path.{ap, sym, _∙_}
-use native.Mathlib.Omega.{arith}
-use borrow.Author.Needs.{needs}
+use Rattle.lists.proofs.Kit.{ap, sym, _∙_, arith, needs}
 use Rattle.vim_reader.specs.declared.VimRead.{VimRead}
 use Rattle.vim_writer.specs.Written.{writtenOf}
-use Rattle.call_signs.specs.declared.Placed.the-variants.{Value, Refused}
 use Rattle.call_vim.specs.Vim.{writtenPlaced}
 use Rattle.call_vim.proofs.Bounds.{read-place, written-size, writing-refused, writing-told}
 use Rattle.call_vim.proofs.list.vim_written.Statement.{statement}
@@ -52,7 +49,5 @@ returns-3 c =
     (sym (ap writtenPlaced (c .before .f .given .1)) ∙ by-writing-told .0, by-writing-told .1)
 
 pub vim-written-spec : {M : Type 1} → statement M
-vim-written-spec =
-    tie.close
-    (tie.spec (λ c κs. search needs) placed-at-requires returns (λ c κs. search needs) (λ c. search needs) cast-t13 (λ c. search needs)
+vim-written-spec = tie.close (tie.spec (λ c κs. search needs) placed-at-requires returns (λ c κs. search needs) (λ c. search needs) cast-t13 (λ c. search needs)
     (λ c. search needs) (λ c. search needs) returns-2 (λ c. search needs) returns-3)

@@ -1,6 +1,5 @@
 -- `terms::place_vim` meets its contract, by the cases of the answer. Assumes nothing.
-use mathlib.Core.Path.{refl}
-use borrow.Author.Needs.{needs}
+use Rattle.lists.proofs.Kit.{refl, needs}
 use Rattle.call_vim_words.specs.ByTerm.{vimMoved}
 use Rattle.call_vim_words.proofs.terms.place_vim.Statement.{statement}
 use Rattle.call_vim_words.proofs.terms.place_vim.Tie as tie
@@ -23,7 +22,6 @@ unfolding vimMoved
 returns-3 c = rw (c .before .r3 .given .1) (record { numbered = refl; out-left = refl })
 
 pub place-vim-spec : {M : Type 1} → statement M
-place-vim-spec =
-    tie.close
+place-vim-spec = tie.close
     (tie.spec (λ c. search needs) (λ c κs. search needs) (λ c. search needs) (λ c. search needs) placed-at-requires (λ c. search needs) (λ c. search needs)
     returns returns-2 returns-3)

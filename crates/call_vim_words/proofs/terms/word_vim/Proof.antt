@@ -1,6 +1,5 @@
 -- `terms::word_vim` meets its contract: it hands on what the motion answers. Assumes nothing.
-use mathlib.Core.Path.{sym, ap, subst, _∙_}
-use borrow.Author.Needs.{needs}
+use Rattle.lists.proofs.Kit.{sym, ap, subst, _∙_, needs}
 use Rattle.motions.specs.declared.Caret.{Caret}
 use Rattle.call_bytes.proofs.Replies.{replied-of}
 use Rattle.call_folds.specs.Terms.{isBig}
@@ -28,13 +27,11 @@ returns c =
     let at-caret = at-number .before in
     let given = at-caret .before .before .before .before .args in
     let caret-of-result = at-caret .caret-of .result in
-    replied-of vimMoved
-    (at-term .by-term .ensures
+    replied-of vimMoved (at-term .by-term .ensures
     ∙ ap (λ (a : Term). byVimTerm a (isBig (given .big)) (given .count) caret-of-result (given .text .now) (given .folds .now) (given .list .now))
     (at-number .term-of .ensures)
     ∙ ap (λ (x : Caret). byVimTerm (termOf (given .op)) (isBig (given .big)) (given .count) x (given .text .now) (given .folds .now) (given .list .now))
-    (at-caret .caret-of .ensures))
-    (c .place-vim .ensures)
+    (at-caret .caret-of .ensures)) (c .place-vim .ensures)
 
 pub word-vim-spec : {M : Type 1} → statement M
 word-vim-spec = tie.close (tie.spec (λ c κs. search needs) (λ c κs. search needs) (λ c κs. search needs) place-vim-requires returns)

@@ -1,10 +1,5 @@
 -- `caret_by_class::by_class::word_by_class` meets its contract: each refusal in its turn, and else the motion by the classes. Assumes nothing.
-use mathlib.Core.Path.{_≡_, refl, ap, sym, _∙_}
-use mathlib.Core.List.{List}
-use Prim.Native.Nat.{ℕ}
-use native.Mathlib.Omega.{arith}
-use lib.ListN.{take}
-use borrow.Author.Needs.{needs}
+use Rattle.lists.proofs.Kit.{refl, ap, sym, _∙_, List, ℕ, take, needs}
 use Rattle.list_tokens.specs.declared.Token.{Token}
 use Rattle.list_tokens.specs.Tokens.{anyToken, inList}
 use Rattle.keywords.specs.declared.Parsed.{Parsed}
@@ -20,7 +15,7 @@ use Rattle.caret_by_class.proofs.by_class.word_by_class.Tie as tie
 slice-aggregate-own : tie.Need-slice-aggregate-own
 slice-aggregate-own c =
     let at-start = c .before .before .before .before .before .before in
-    part-count (at-start .args .folds .now) (c .before .taken .ensures .0)
+    part-count (at-start .args .folds .now) (c .before .taken .ensures .inside)
 
 -- text, caret or folds
 returns : tie.Need-returns
@@ -30,8 +25,7 @@ returns c =
     let at-own = at-entry .before .before in
     let given = at-own .before .before .before .before .before .args in
     let by-entered-three = entered-three (given .t .now) _ (foldsOf (given .m) (given .folds .now)) (given .k) _ (at-entry .enter .ensures)
-    (at-own .taken .ensures .1)
-    (at-folds .or-folds .ensures) in
+    (at-own .taken .ensures .part) (at-folds .or-folds .ensures) in
     let three-told = sym (by-three (given .t .now) (foldsOf (given .m) (given .folds .now)) (given .list .now) (given .k)
     (given .classes .now) _ by-entered-three (c .if1 .taken)) in
     (answer-refused three-told _ (c .if1 .taken), slice-kept three-told (given .t .now) (given .list .now) (given .classes .now) (c .if1 .taken))
@@ -46,8 +40,7 @@ returns-2 c =
     let at-own = at-entry .before .before in
     let given = at-own .before .before .before .before .before .args in
     let by-entered-three = entered-three (given .t .now) _ (foldsOf (given .m) (given .folds .now)) (given .k) _ (at-entry .enter .ensures)
-    (at-own .taken .ensures .1)
-    (at-folds .or-folds .ensures) in
+    (at-own .taken .ensures .part) (at-folds .or-folds .ensures) in
     let same-refusal = ap (λ (x : Parsed). x .refusal) (at-parse .parse .ensures) in
     let list-told = same-refusal ∙ sym (by-list (given .t .now) (foldsOf (given .m) (given .folds .now)) (given .list .now) (given .k) (given .classes .now)
     (sym by-entered-three ∙ at-test .if1 .left) (λ z. c .if2 .taken (same-refusal ∙ z))) in
@@ -65,8 +58,7 @@ returns-3 c =
     let at-own = at-entry .before .before in
     let given = at-own .before .before .before .before .before .args in
     let by-entered-three = entered-three (given .t .now) _ (foldsOf (given .m) (given .folds .now)) (given .k) _ (at-entry .enter .ensures)
-    (at-own .taken .ensures .1)
-    (at-folds .or-folds .ensures) in
+    (at-own .taken .ensures .part) (at-folds .or-folds .ensures) in
     let same-refusal = ap (λ (x : Parsed). x .refusal) (at-parse .parse .ensures) in
     let places-refusal-is = at-places .places-refusal .ensures
     ∙ sym (by-places (given .t .now) (foldsOf (given .m) (given .folds .now)) (given .list .now) (given .k)
@@ -107,25 +99,23 @@ returns-4 c =
     let at-own = at-entry .before .before in
     let given = at-own .before .before .before .before .before .args in
     let by-entered-three = entered-three (given .t .now) _ (foldsOf (given .m) (given .folds .now)) (given .k) _ (at-entry .enter .ensures)
-    (at-own .taken .ensures .1)
-    (at-folds .or-folds .ensures) in
+    (at-own .taken .ensures .part) (at-folds .or-folds .ensures) in
     let same-refusal = ap (λ (x : Parsed). x .refusal) (at-parse .parse .ensures) in
     let places-refusal-is = at-places .places-refusal .ensures
     ∙ sym (by-places (given .t .now) (foldsOf (given .m) (given .folds .now)) (given .list .now) (given .k)
     (given .classes .now) (sym by-entered-three ∙ at-test .if1 .left) (sym same-refusal ∙ at-list .if2 .left)) in
     let kept-is = parse-kept (given .list .now) (at-parse .parse .result) (at-parse .parse .ensures) (at-list .if2 .left) in
-    let by-classes-is = at-call .by-classes .ensures .0
+    let by-classes-is = at-call .by-classes .ensures .answer
     ∙ ap (λ (ts : List Token). wordCaret (given .t .now) (take (at-own .taken .result) (given .folds .now)) (anyToken ts)
     (given .big) (given .m) (given .stop) (given .count) (given .k)) kept-is
     ∙ ap (λ (own : List ℕ). wordCaret (given .t .now) own (inList (given .list .now)) (given .big) (given .m) (given .stop)
-    (given .count) (given .k)) (at-own .taken .ensures .1) in (
+    (given .count) (given .k)) (at-own .taken .ensures .part) in (
       answer-given places-refusal-is _ _ (at-last .if3 .left) by-classes-is,
       slice-written places-refusal-is (given .t .now) (given .list .now) (given .classes .now) _ (at-last .if3 .left)
-          (at-call .by-classes .ensures .1 ∙ ap (λ (ts : List Token). holding (classesOf (anyToken ts) (given .t .now)) (given .classes .now)) kept-is),
+          (at-call .by-classes .ensures .left ∙ ap (λ (ts : List Token). holding (classesOf (anyToken ts) (given .t .now)) (given .classes .now)) kept-is),
     )
 
 pub word-by-class-spec : {M : Type 1} → statement M
-word-by-class-spec =
-    tie.close
+word-by-class-spec = tie.close
     (tie.spec (λ c κs. search needs) slice-aggregate-own (λ c κs. search needs) (λ c κs. search needs) returns (λ c κs. search needs) returns-2
     (λ c κs. search needs) (λ c. search needs) returns-3 by-classes-requires (λ c. search needs) returns-4)

@@ -1,7 +1,5 @@
 -- `chars::cell_widths::high_width` meets its contract: the consts are the lists of the definition. Assumes nothing.
-use Prim.Native.Nat.{ℕ}
-use mathlib.Core.Path.{refl}
-use borrow.Author.Needs.{needs}
+use Rattle.lists.proofs.Kit.{refl, ℕ, needs}
 use Rattle.chars.specs.Width.{zeroWidths, doubleWidths}
 use Rattle.chars.proofs.Lent.{by-width, widths-lent}
 use Rattle.chars.proofs.cell_widths.high_width.Statement.{statement}

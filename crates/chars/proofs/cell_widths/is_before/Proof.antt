@@ -1,4 +1,3 @@
--- `chars::cell_widths::is_before` meets its contract. Assumes nothing.
 use borrow.Author.Needs.{needs}
 use Rattle.chars.proofs.Before.{before-none, before-first}
 use Rattle.chars.proofs.cell_widths.is_before.Statement.{statement}

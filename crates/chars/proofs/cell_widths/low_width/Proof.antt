@@ -1,4 +1,3 @@
--- `chars::cell_widths::low_width` meets its contract. Assumes nothing.
 use borrow.Author.Tests.{eq-eqb, ne-eqb}
 use Rattle.chars.proofs.cell_widths.low_width.Statement.{statement}
 use Rattle.chars.proofs.cell_widths.low_width.Tie as tie

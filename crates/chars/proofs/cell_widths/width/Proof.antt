@@ -1,6 +1,5 @@
 -- `chars::width` meets its contract: below U+0300 the tables hold U+0000 alone. Assumes nothing.
-use mathlib.Core.Path.{sym, _∙_}
-use borrow.Author.Needs.{needs}
+use Rattle.lists.proofs.Kit.{sym, _∙_, needs}
 use Rattle.chars.proofs.Lent.{width-low}
 use Rattle.chars.proofs.cell_widths.width.Statement.{statement}
 use Rattle.chars.proofs.cell_widths.width.Tie as tie

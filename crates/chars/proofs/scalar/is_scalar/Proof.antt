@@ -1,7 +1,5 @@
 -- `chars::is_scalar` meets its contract: the tests of the definition, by the branches. Assumes nothing.
-use native.Mathlib.Omega.{arith}
-use mathlib.Core.Bool.{and-true, and-false}
-use borrow.Author.Tests.{le-leb, lt-ltb, le-ltb}
+use Rattle.lists.proofs.Kit.{and-true, and-false, arith, le-leb, lt-ltb, le-ltb}
 use Rattle.chars.proofs.scalar.is_scalar.Statement.{statement}
 use Rattle.chars.proofs.scalar.is_scalar.Tie as tie
 

@@ -1,6 +1,5 @@
 -- `chars::white::high_white` meets its contract: the const is the list of the definition. Assumes nothing.
-use mathlib.Core.Path.{refl}
-use borrow.Author.Needs.{needs}
+use Rattle.lists.proofs.Kit.{refl, needs}
 use Rattle.chars.specs.White.{whites}
 use Rattle.chars.proofs.white.high_white.Statement.{statement}
 use Rattle.chars.proofs.white.high_white.Tie as tie

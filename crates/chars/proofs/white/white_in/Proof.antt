@@ -1,6 +1,5 @@
 -- `chars::white_in` meets its contract: the lent table is the list of the definition, and ascends. Assumes nothing.
-use mathlib.Core.Path.{_∙_}
-use borrow.Author.Needs.{needs}
+use Rattle.lists.proofs.Kit.{_∙_, needs}
 use Rattle.chars.specs.White.{isWhite}
 use Rattle.chars.proofs.Tables.{whites-ascend}
 use Rattle.chars.proofs.white.white_in.Statement.{statement}

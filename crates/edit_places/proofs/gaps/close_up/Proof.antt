@@ -1,12 +1,7 @@
 -- `gaps::close_up` meets its contract. The invariant of its loop: the first k of the part are moved. The measure is the part's length less k.
 -- A read stands behind what is written, since a + k ≤ b + k. Assumes nothing.
-use Prim.Native.Nat.{_+_, _-_, _≤_}
-use mathlib.Core.Path.{sym, _∙_}
-use native.Mathlib.Omega.{arith}
-use lib.ListN.{take, drop}
-use lib.Seq.{length-slice}
+use Rattle.lists.proofs.Kit.{sym, _∙_, _+_, _-_, _≤_, arith, take, drop, length-slice, needs}
 use Rattle.edit_places.proofs.Puts.{Up, up-none, up-next, up-all, up-read, part-read}
-use borrow.Author.Needs.{needs}
 use Rattle.edit_places.proofs.gaps.close_up.Statement.{statement}
 use Rattle.edit_places.proofs.gaps.close_up.Tie as tie
 
@@ -37,21 +32,7 @@ returns c =
     up-all (c .before .loop .inv .1) (omega arith)
 
 pub close-up-spec : {M : Type 1} → statement M
-close-up-spec =
-    tie.close
-    (tie.spec
-    Inv-loop
-    μ-loop
-    (λ c. search needs)
-    loop-holds
-    (λ c. search needs)
-    (λ c. search needs)
-    (λ c. search needs)
-    (λ c. search needs)
-    (λ c. search needs)
-    (λ c. search needs)
-    (λ c. search needs)
-    (λ c. search needs)
-    loop-again
-    (λ c. search needs)
+close-up-spec = tie.close (tie.spec Inv-loop μ-loop (λ c. search needs) loop-holds (λ c. search needs) (λ c. search needs) (λ c. search needs)
+    (λ c. search needs) (λ c. search needs) (λ c. search needs) (λ c. search needs) (λ c. search needs)
+    loop-again (λ c. search needs)
     returns)

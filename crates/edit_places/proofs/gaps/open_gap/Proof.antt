@@ -1,12 +1,7 @@
 -- `gaps::open_gap` meets its contract. The invariant of its loop: all but the first k of the part are moved. The measure is k.
 -- A read stands before what is written: with k the new one, a + k < a + m + (k + 1). Assumes nothing.
-use Prim.Native.Nat.{_+_, _-_, _≤_}
-use mathlib.Core.Path.{sym, _∙_}
-use native.Mathlib.Omega.{arith}
-use lib.ListN.{take, drop}
-use lib.Seq.{length-slice}
+use Rattle.lists.proofs.Kit.{sym, _∙_, _+_, _-_, _≤_, arith, take, drop, length-slice, needs}
 use Rattle.edit_places.proofs.Puts.{Down, down-none, down-next, down-all, down-read, part-read}
-use borrow.Author.Needs.{needs}
 use Rattle.edit_places.proofs.gaps.open_gap.Statement.{statement}
 use Rattle.edit_places.proofs.gaps.open_gap.Tie as tie
 
@@ -33,22 +28,7 @@ returns : tie.Need-returns Inv-loop μ-loop
 returns c = down-all (c .before .loop .inv .1) (c .loop-test .left)
 
 pub open-gap-spec : {M : Type 1} → statement M
-open-gap-spec =
-    tie.close
-    (tie.spec
-    Inv-loop
-    μ-loop
-    (λ c. search needs)
-    loop-holds
-    (λ c. search needs)
-    (λ c. search needs)
-    (λ c. search needs)
-    (λ c. search needs)
-    (λ c. search needs)
-    (λ c. search needs)
-    (λ c. search needs)
-    (λ c. search needs)
-    (λ c. search needs)
-    loop-again
-    (λ c. search needs)
+open-gap-spec = tie.close (tie.spec Inv-loop μ-loop (λ c. search needs) loop-holds (λ c. search needs) (λ c. search needs) (λ c. search needs)
+    (λ c. search needs) (λ c. search needs) (λ c. search needs) (λ c. search needs) (λ c. search needs) (λ c. search needs)
+    loop-again (λ c. search needs)
     returns)

@@ -1,7 +1,6 @@
 -- `gaps::replace_at` meets its contract: a shorter text is written first and the rest closed up, a longer one is written into a gap.
 -- Assumes nothing.
-use native.Mathlib.Omega.{arith}
-use borrow.Author.Needs.{needs}
+use Rattle.lists.proofs.Kit.{arith, needs}
 use Rattle.edit_places.proofs.Replaces.{refilled-shorter, refilled-longer}
 use Rattle.edit_places.proofs.gaps.replace_at.Statement.{statement}
 use Rattle.edit_places.proofs.gaps.replace_at.Tie as tie
@@ -12,9 +11,7 @@ returns c =
     let put = shut .before .before .before .before in
     let given = put .before .before .before .before .before .args in
     refilled-shorter (given.buf .now) given.len given.a given.b (given.points .now) (omega arith) (omega arith) (omega arith) (put .put-at .ensures)
-    (shut .close-gap .ensures)
-    (omega arith)
-    (omega arith)
+    (shut .close-gap .ensures) (omega arith) (omega arith)
 
 returns-2 : tie.Need-returns-2
 returns-2 c =
@@ -22,24 +19,9 @@ returns-2 c =
     let up = put .before .before .before .before in
     let given = up .before .before .before .before .before .args in
     refilled-longer (given.buf .now) given.len given.a given.b (given.points .now) (omega arith) (omega arith) (omega arith) (up .open-gap .ensures)
-    (put .put-at2 .ensures)
-    (omega arith)
-    (omega arith)
-    (omega arith)
+    (put .put-at2 .ensures) (omega arith) (omega arith) (omega arith)
 
 pub replace-at-spec : {M : Type 1} → statement M
-replace-at-spec =
-    tie.close
-    (tie.spec
-    (λ c. search needs)
-    (λ c κs. search needs)
-    (λ c. search needs)
-    (λ c κs. search needs)
-    (λ c. search needs)
-    returns
-    (λ c. search needs)
-    (λ c. search needs)
-    (λ c κs. search needs)
-    (λ c κs. search needs)
-    (λ c. search needs)
+replace-at-spec = tie.close (tie.spec (λ c. search needs) (λ c κs. search needs) (λ c. search needs) (λ c κs. search needs) (λ c. search needs) returns
+    (λ c. search needs) (λ c. search needs) (λ c κs. search needs) (λ c κs. search needs) (λ c. search needs)
     returns-2)

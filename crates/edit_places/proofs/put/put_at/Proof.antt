@@ -1,10 +1,7 @@
 -- `put::put_at` meets its contract. The invariant of its loop: the first k points are written. The measure is their number less k.
 -- Assumes nothing.
-use Prim.Native.Nat.{_-_}
-use mathlib.Core.Path.{refl}
-use lib.ListN.{length}
+use Rattle.lists.proofs.Kit.{refl, _-_, length, needs}
 use Rattle.edit_places.proofs.Puts.{Up, up-none, up-next, up-all}
-use borrow.Author.Needs.{needs}
 use Rattle.edit_places.proofs.put.put_at.Statement.{statement}
 use Rattle.edit_places.proofs.put.put_at.Tie as tie
 
@@ -24,19 +21,7 @@ returns : tie.Need-returns Inv-loop μ-loop
 returns c = up-all (c .before .loop .inv) (c .loop-test .left)
 
 pub put-at-spec : {M : Type 1} → statement M
-put-at-spec =
-    tie.close
-    (tie.spec
-    Inv-loop
-    μ-loop
-    loop-holds
-    (λ c. search needs)
-    (λ c. search needs)
-    (λ c. search needs)
-    (λ c. search needs)
-    (λ c. search needs)
-    (λ c. search needs)
-    (λ c. search needs)
-    loop-again
-    (λ c. search needs)
+put-at-spec = tie.close (tie.spec Inv-loop μ-loop loop-holds (λ c. search needs) (λ c. search needs) (λ c. search needs) (λ c. search needs) (λ c. search needs)
+    (λ c. search needs) (λ c. search needs)
+    loop-again (λ c. search needs)
     returns)

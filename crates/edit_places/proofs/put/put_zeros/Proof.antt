@@ -1,10 +1,8 @@
 -- `put::put_zeros` meets its contract. The invariant of its loop: the first k zeros are written. The measure is their number less k.
 -- Assumes nothing.
-use Prim.Native.Nat.{_-_, _≤_}
-use native.Mathlib.Omega.{arith}
+use Rattle.lists.proofs.Kit.{_-_, _≤_, arith, needs}
 use Rattle.edit_places.specs.Replaced.{zeros}
 use Rattle.edit_places.proofs.Puts.{Up, up-none, up-next, up-all, length-zeros, zeros-read}
-use borrow.Author.Needs.{needs}
 use Rattle.edit_places.proofs.put.put_zeros.Statement.{statement}
 use Rattle.edit_places.proofs.put.put_zeros.Tie as tie
 
@@ -27,17 +25,7 @@ returns : tie.Need-returns Inv-loop μ-loop
 returns c = up-all (c .before .loop .inv .1) (simp length-zeros (c .loop-test .left))
 
 pub put-zeros-spec : {M : Type 1} → statement M
-put-zeros-spec =
-    tie.close
-    (tie.spec
-    Inv-loop
-    μ-loop
-    loop-holds
+put-zeros-spec = tie.close (tie.spec Inv-loop μ-loop loop-holds (λ c. search needs) (λ c. search needs) (λ c. search needs) (λ c. search needs)
     (λ c. search needs)
-    (λ c. search needs)
-    (λ c. search needs)
-    (λ c. search needs)
-    (λ c. search needs)
-    loop-again
-    (λ c. search needs)
+    loop-again (λ c. search needs)
     returns)

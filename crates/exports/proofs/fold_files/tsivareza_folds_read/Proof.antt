@@ -4,15 +4,10 @@ use Prim.Native.Nat.{ℕ}
 use borrow.Author.Needs.{needs}
 use Rattle.fold_reader.specs.Reading.{loadedIn}
 use Rattle.call_fold_file.specs.FoldFiles.{reads}
-use Rattle.call_bytes.proofs.Replies.{answered-unfit, front-count, answered-one, kept-unfit, left-fit}
+use Rattle.call_bytes.proofs.Replies.{answered-one, left-fit}
+use Rattle.exports.proofs.Parts.{parts}
 use Rattle.exports.proofs.fold_files.tsivareza_folds_read.Statement.{statement}
 use Rattle.exports.proofs.fold_files.tsivareza_folds_read.Tie as tie
-
--- what was lent is unfit
-returns : tie.Need-returns
-returns c =
-    let fill-told = c .before .before .before .fill .ensures in
-    (answered-unfit fill-told (c .if1 .taken), kept-unfit fill-told (c .if1 .taken) _ _)
 
 -- the call on code points answers
 returns-2 : tie.Need-returns-2
@@ -26,15 +21,6 @@ returns-2 c =
     )
 
 pub tsivareza-folds-read-spec : {M : Type 1} → statement M
-tsivareza-folds-read-spec =
-    tie.close
-    (tie.spec
-    (λ c κs. search needs)
-    (λ c. search needs)
-    returns
-    (λ c. c .before .before .before .fill .ensures .fit (c .if1 .left) .within)
-    (λ c. front-count (c .before .before .before .before .fill .ensures) (c .before .if1 .left))
-    (λ c κs. search needs)
-    (λ c. search needs)
-    (λ c. search needs)
-    returns-2)
+tsivareza-folds-read-spec = tie.close
+    (tie.spec (λ c κs. search needs) (λ c. search needs) (λ c. search parts) (λ c. search parts) (λ c. search parts) (λ c κs. search needs)
+    (λ c. search needs) (λ c. search needs) returns-2)

@@ -1,34 +1,14 @@
--- `tsivareza_folds_write` meets its contract: the room is filled, and the call on code points answers. What is left of the file is told as a reply that
--- is always an answer. Assumes nothing.
+-- `tsivareza_folds_write` meets its contract: the room is filled, and the call on code points answers. Assumes nothing.
 use mathlib.Core.Path.{refl}
 use mathlib.Core.List.{List}
 use Prim.Native.Nat.{ℕ}
-use native.Mathlib.Omega.{arith}
 use borrow.Author.Needs.{needs}
 use Rattle.fold_writer.specs.Writing.{writtenIn}
 use Rattle.call_fold_file.specs.FoldFiles.{writes}
-use Rattle.call_bytes.specs.Reply.{answer}
-use Rattle.call_bytes.proofs.Joins.{first-length}
-use Rattle.call_bytes.proofs.Twos.{two-unfit, joined-two}
+use Rattle.call_bytes.proofs.Twos.{joined-two}
+use Rattle.exports.proofs.Parts.{parts, two-left}
 use Rattle.exports.proofs.fold_files.tsivareza_folds_write.Statement.{statement}
 use Rattle.exports.proofs.fold_files.tsivareza_folds_write.Tie as tie
-
--- what was lent is unfit
-returns : tie.Need-returns
-returns c =
-    let fill-two-told = c .before .before .before .fill-two .ensures in
-    (two-unfit fill-two-told (c .if1 .taken), two-unfit fill-two-told (c .if1 .taken) {m = answer _} .out-left)
-
--- the parts of the room
-text-length : tie.Need-slice-aggregate-folds-write
-text-length c =
-    let at-if1 = c .before .before in
-    first-length (at-if1 .before .before .before .fill-two .ensures) (at-if1 .if1 .left)
-
-folds-end : tie.Need-part-folds-write-end
-folds-end c =
-    let at-if1 = c .before .before in
-    omega (arith, at-if1 .before .before .before .fill-two .ensures .fit (at-if1 .if1 .left) .within)
 
 -- the call on code points answers
 returns-2 : tie.Need-returns-2
@@ -38,14 +18,11 @@ returns-2 c =
     let filled = fit .before .before .before .fill-two .ensures in
     let given = fit .before .before .before .before .before .before .before .before .before .args in
     let folds-write-told = called .folds-write .ensures in (
-      joined-two filled (λ (t : List ℕ) (v : List ℕ). writes t v (given .file .now)) (fit .if1 .left) _ refl (folds-write-told .0),
-      joined-two filled (λ (t : List ℕ) (v : List ℕ). answer (writtenIn t v (given .file .now))) (fit .if1 .left) {out = given .file .now} {r = 0} _ refl
-          (record { numbered = refl; out-left = folds-write-told .1 })
-          .out-left,
+      joined-two filled (λ (t v : List ℕ). writes t v (given .file .now)) (fit .if1 .left) _ refl (folds-write-told .0),
+      two-left filled (λ (t v : List ℕ). writtenIn t v (given .file .now)) (fit .if1 .left) (given .file .now) _ refl (folds-write-told .1),
     )
 
 pub tsivareza-folds-write-spec : {M : Type 1} → statement M
-tsivareza-folds-write-spec =
-    tie.close
-    (tie.spec (λ c κs. search needs) (λ c. search needs) returns (λ c. search needs) text-length (λ c. search needs) (λ c. search needs)
-    (λ c. search needs) folds-end (λ c κs. search needs) (λ c. search needs) (λ c. search needs) returns-2)
+tsivareza-folds-write-spec = tie.close
+    (tie.spec (λ c κs. search needs) (λ c. search needs) (λ c. search parts) (λ c. search needs) (λ c. search parts) (λ c. search needs)
+    (λ c. search needs) (λ c. search needs) (λ c. search parts) (λ c κs. search needs) (λ c. search needs) (λ c. search needs) returns-2)

@@ -2,34 +2,14 @@
 use mathlib.Core.Path.{refl}
 use mathlib.Core.List.{List}
 use Prim.Native.Nat.{ℕ}
-use native.Mathlib.Omega.{arith}
 use borrow.Author.Needs.{needs}
 use Rattle.call_texts.specs.Carets.{caretOf}
 use Rattle.call_folds.specs.Terms.{isBig, words}
 use Rattle.call_motion_rows.specs.Asks.{byTable}
-use Rattle.call_bytes.proofs.Joins.{joined-unfit, first-length, joined-three}
+use Rattle.call_bytes.proofs.Joins.{joined-three}
+use Rattle.exports.proofs.Parts.{parts}
 use Rattle.exports.proofs.fold_rows.tsivareza_word_rows.Statement.{statement}
 use Rattle.exports.proofs.fold_rows.tsivareza_word_rows.Tie as tie
-
--- what was lent is unfit
-returns : tie.Need-returns
-returns c = joined-unfit (c .before .before .before .fill-three .ensures) (c .if1 .taken)
-
--- the parts of the room
-text-length : tie.Need-slice-aggregate-word-rows
-text-length c =
-    let at-if1 = c .before .before in
-    first-length (at-if1 .before .before .before .fill-three .ensures) (at-if1 .if1 .left)
-
-folds-end : tie.Need-part-word-rows-end
-folds-end c =
-    let at-if1 = c .before .before in
-    omega (arith, at-if1 .before .before .before .fill-three .ensures .fit (at-if1 .if1 .left) .within)
-
-list-end : tie.Need-part-word-rows-end-2
-list-end c =
-    let at-if1 = c .before .before .before in
-    omega (arith, at-if1 .before .before .before .fill-three .ensures .fit (at-if1 .if1 .left) .within)
 
 -- the call on code points answers
 returns-2 : tie.Need-returns-2
@@ -37,15 +17,12 @@ returns-2 c =
     let at-if1 = c .before .before .before .before .before .before in
     let at-fill-three = at-if1 .before .before .before in
     let given = at-fill-three .before .before .before .before .before .before .before .args in
-    joined-three (at-fill-three .fill-three .ensures)
-    (λ (t folds list : List ℕ). byTable t (given .starts .now) (given .content)
-    (words (given .op) (isBig (given .big)) (given .count) (caretOf (given .row) (given .col) (given .held) (given .sticky)) t folds list))
-    (at-if1 .if1 .left)
+    joined-three (at-fill-three .fill-three .ensures) (λ (t folds list : List ℕ). byTable t (given .starts .now) (given .content)
+    (words (given .op) (isBig (given .big)) (given .count) (caretOf (given .row) (given .col) (given .held) (given .sticky)) t folds list)) (at-if1 .if1 .left)
     _ _ refl refl (c .word-rows .ensures)
 
 pub tsivareza-word-rows-spec : {M : Type 1} → statement M
-tsivareza-word-rows-spec =
-    tie.close
-    (tie.spec (λ c κs. search needs) (λ c. search needs) returns (λ c. search needs) (λ c. search needs) text-length (λ c. search needs)
-    (λ c. search needs) (λ c. search needs) folds-end (λ c. search needs) (λ c. search needs) (λ c. search needs) list-end (λ c κs. search needs)
-    (λ c. search needs) returns-2)
+tsivareza-word-rows-spec = tie.close
+    (tie.spec (λ c κs. search needs) (λ c. search needs) (λ c. search parts) (λ c. search needs) (λ c. search needs) (λ c. search parts)
+    (λ c. search needs) (λ c. search needs) (λ c. search needs) (λ c. search parts) (λ c. search needs) (λ c. search needs) (λ c. search needs)
+    (λ c. search parts) (λ c κs. search needs) (λ c. search needs) returns-2)

@@ -3,19 +3,10 @@ use borrow.Author.Needs.{needs}
 use mathlib.Core.List.{List}
 use Prim.Native.Nat.{ℕ}
 use Rattle.call_signs.specs.Entry.{placedReply, entering}
-use Rattle.call_bytes.proofs.Replies.{answered-unfit, front-count, answered-one}
+use Rattle.call_bytes.proofs.Replies.{answered-one}
+use Rattle.exports.proofs.Parts.{parts}
 use Rattle.exports.proofs.signs.tsivareza_enter.Statement.{statement}
 use Rattle.exports.proofs.signs.tsivareza_enter.Tie as tie
-
--- what was lent is unfit
-returns : tie.Need-returns
-returns c = answered-unfit (c .before .before .before .fill .ensures) (c .if1 .taken)
-
-part : tie.Need-slice-reshare-prefix-enter
-part c = c .before .before .before .fill .ensures .fit (c .if1 .left) .within
-
-part-length : tie.Need-slice-aggregate-enter
-part-length c = front-count (c .before .before .before .before .fill .ensures) (c .before .if1 .left)
 
 -- the call on code points answers
 returns-2 : tie.Need-returns-2
@@ -26,15 +17,6 @@ returns-2 c =
     (c .enter .ensures)
 
 pub tsivareza-enter-spec : {M : Type 1} → statement M
-tsivareza-enter-spec =
-    tie.close
-    (tie.spec
-    (λ c κs. search needs)
-    (λ c. search needs)
-    (λ c. search needs)
-    returns
-    part
-    part-length
-    (λ c κs. search needs)
-    (λ c. search needs)
-    returns-2)
+tsivareza-enter-spec = tie.close
+    (tie.spec (λ c κs. search needs) (λ c. search needs) (λ c. search needs) (λ c. search parts) (λ c. search parts) (λ c. search parts)
+    (λ c κs. search needs) (λ c. search needs) returns-2)

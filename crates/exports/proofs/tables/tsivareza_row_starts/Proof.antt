@@ -1,19 +1,9 @@
 -- `tsivareza_row_starts` meets its contract: the room is filled, and the call on code points fills the table. Assumes nothing.
 use borrow.Author.Needs.{needs}
-use Rattle.call_bytes.proofs.Replies.{front-count}
 use Rattle.call_row_table.proofs.Filling.{fills-unfit, fills-done}
+use Rattle.exports.proofs.Parts.{parts}
 use Rattle.exports.proofs.tables.tsivareza_row_starts.Statement.{statement}
 use Rattle.exports.proofs.tables.tsivareza_row_starts.Tie as tie
-
--- what was lent is unfit
-returns : tie.Need-returns
-returns c = fills-unfit (c .before .before .before .fill .ensures) (c .if1 .taken)
-
-part : tie.Need-slice-reshare-prefix-row-starts
-part c = c .before .before .before .fill .ensures .fit (c .if1 .left) .within
-
-part-length : tie.Need-slice-aggregate-row-starts
-part-length c = front-count (c .before .before .before .before .fill .ensures) (c .before .if1 .left)
 
 -- the call on code points fills
 returns-2 : tie.Need-returns-2
@@ -23,15 +13,6 @@ returns-2 c =
     fills-done (fit .before .before .before .fill .ensures) (fit .if1 .left) (done .row-starts .ensures)
 
 pub tsivareza-row-starts-spec : {M : Type 1} → statement M
-tsivareza-row-starts-spec =
-    tie.close
-    (tie.spec
-    (λ c κs. search needs)
-    (λ c. search needs)
-    returns
-    part
-    part-length
-    (λ c κs. search needs)
-    (λ c. search needs)
-    (λ c. search needs)
-    returns-2)
+tsivareza-row-starts-spec = tie.close
+    (tie.spec (λ c κs. search needs) (λ c. search needs) (λ c. search fills-unfit) (λ c. search parts) (λ c. search parts) (λ c κs. search needs)
+    (λ c. search needs) (λ c. search needs) returns-2)

@@ -1,32 +1,12 @@
 -- `tsivareza_word` meets its contract: the room is filled, and the call on code points answers. Assumes nothing.
 use mathlib.Core.Path.{refl}
-use native.Mathlib.Omega.{arith}
 use borrow.Author.Needs.{needs}
 use Rattle.call_texts.specs.Carets.{caretOf}
 use Rattle.call_folds.specs.Terms.{isBig, words}
-use Rattle.call_bytes.proofs.Joins.{joined-unfit, first-length, joined-three}
+use Rattle.call_bytes.proofs.Joins.{joined-three}
+use Rattle.exports.proofs.Parts.{parts}
 use Rattle.exports.proofs.terms.tsivareza_word.Statement.{statement}
 use Rattle.exports.proofs.terms.tsivareza_word.Tie as tie
-
--- what was lent is unfit
-returns : tie.Need-returns
-returns c = joined-unfit (c .before .before .before .fill-three .ensures) (c .if1 .taken)
-
--- the parts of the room
-text-length : tie.Need-slice-aggregate-word
-text-length c =
-    let at-if1 = c .before .before in
-    first-length (at-if1 .before .before .before .fill-three .ensures) (at-if1 .if1 .left)
-
-folds-end : tie.Need-part-word-end
-folds-end c =
-    let at-if1 = c .before .before in
-    omega (arith, at-if1 .before .before .before .fill-three .ensures .fit (at-if1 .if1 .left) .within)
-
-list-end : tie.Need-part-word-end-2
-list-end c =
-    let at-if1 = c .before .before .before in
-    omega (arith, at-if1 .before .before .before .fill-three .ensures .fit (at-if1 .if1 .left) .within)
 
 -- the call on code points answers
 returns-2 : tie.Need-returns-2
@@ -39,8 +19,7 @@ returns-2 c =
     _ _ refl refl (c .word .ensures)
 
 pub tsivareza-word-spec : {M : Type 1} → statement M
-tsivareza-word-spec =
-    tie.close
-    (tie.spec (λ c κs. search needs) (λ c. search needs) returns (λ c. search needs) (λ c. search needs) text-length (λ c. search needs)
-    (λ c. search needs) (λ c. search needs) folds-end (λ c. search needs) (λ c. search needs) (λ c. search needs) list-end (λ c κs. search needs)
-    (λ c. search needs) returns-2)
+tsivareza-word-spec = tie.close
+    (tie.spec (λ c κs. search needs) (λ c. search needs) (λ c. search parts) (λ c. search needs) (λ c. search needs) (λ c. search parts)
+    (λ c. search needs) (λ c. search needs) (λ c. search needs) (λ c. search parts) (λ c. search needs) (λ c. search needs) (λ c. search needs)
+    (λ c. search parts) (λ c κs. search needs) (λ c. search needs) returns-2)

@@ -2,19 +2,10 @@
 use borrow.Author.Needs.{needs}
 use Rattle.call_texts.specs.Carets.{caretOf}
 use Rattle.call_texts.specs.Viewports.{viewports}
-use Rattle.call_bytes.proofs.Replies.{answered-unfit, front-count, answered-one}
+use Rattle.call_bytes.proofs.Replies.{answered-one}
+use Rattle.exports.proofs.Parts.{parts}
 use Rattle.exports.proofs.upright.tsivareza_viewport.Statement.{statement}
 use Rattle.exports.proofs.upright.tsivareza_viewport.Tie as tie
-
--- what was lent is unfit
-returns : tie.Need-returns
-returns c = answered-unfit (c .before .before .before .fill .ensures) (c .if1 .taken)
-
-part : tie.Need-slice-reshare-prefix-viewport
-part c = c .before .before .before .fill .ensures .fit (c .if1 .left) .within
-
-part-length : tie.Need-slice-aggregate-viewport
-part-length c = front-count (c .before .before .before .before .fill .ensures) (c .before .if1 .left)
 
 -- the call on code points answers
 returns-2 : tie.Need-returns-2
@@ -26,14 +17,6 @@ returns-2 c =
     (at-if1 .if1 .left) (c .viewport .ensures)
 
 pub tsivareza-viewport-spec : {M : Type 1} → statement M
-tsivareza-viewport-spec =
-    tie.close
-    (tie.spec
-    (λ c κs. search needs)
-    (λ c. search needs)
-    returns
-    part
-    part-length
-    (λ c κs. search needs)
-    (λ c. search needs)
-    returns-2)
+tsivareza-viewport-spec = tie.close
+    (tie.spec (λ c κs. search needs) (λ c. search needs) (λ c. search parts) (λ c. search parts) (λ c. search parts) (λ c κs. search needs)
+    (λ c. search needs) returns-2)

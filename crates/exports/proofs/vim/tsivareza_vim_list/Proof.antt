@@ -4,19 +4,10 @@ use mathlib.Core.List.{List}
 use Prim.Native.Nat.{ℕ}
 use Rattle.call_signs.specs.Entry.{placedReply}
 use Rattle.call_vim.specs.Vim.{vimBy}
-use Rattle.call_bytes.proofs.Replies.{answered-unfit, front-count, answered-one}
+use Rattle.call_bytes.proofs.Replies.{answered-one}
+use Rattle.exports.proofs.Parts.{parts}
 use Rattle.exports.proofs.vim.tsivareza_vim_list.Statement.{statement}
 use Rattle.exports.proofs.vim.tsivareza_vim_list.Tie as tie
-
--- what was lent is unfit
-returns : tie.Need-returns
-returns c = answered-unfit (c .before .before .before .fill .ensures) (c .if1 .taken)
-
-part : tie.Need-slice-reshare-prefix-vim-list
-part c = c .before .before .before .fill .ensures .fit (c .if1 .left) .within
-
-part-length : tie.Need-slice-aggregate-vim-list
-part-length c = front-count (c .before .before .before .before .fill .ensures) (c .before .if1 .left)
 
 -- the call on code points answers
 returns-2 : tie.Need-returns-2
@@ -27,15 +18,6 @@ returns-2 c =
     (c .vim-list .ensures)
 
 pub tsivareza-vim-list-spec : {M : Type 1} → statement M
-tsivareza-vim-list-spec =
-    tie.close
-    (tie.spec
-    (λ c κs. search needs)
-    (λ c. search needs)
-    (λ c. search needs)
-    returns
-    part
-    part-length
-    (λ c κs. search needs)
-    (λ c. search needs)
-    returns-2)
+tsivareza-vim-list-spec = tie.close
+    (tie.spec (λ c κs. search needs) (λ c. search needs) (λ c. search needs) (λ c. search parts) (λ c. search parts) (λ c. search parts)
+    (λ c κs. search needs) (λ c. search needs) returns-2)

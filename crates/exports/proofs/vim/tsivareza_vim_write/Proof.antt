@@ -4,21 +4,10 @@ use Prim.Native.Nat.{ℕ}
 use borrow.Author.Needs.{needs}
 use Rattle.call_signs.specs.Entry.{placedReply}
 use Rattle.call_vim.specs.Vim.{vimWriting, vimLeft}
-use Rattle.call_bytes.proofs.Replies.{answered-unfit, front-count, answered-one, kept-unfit, left-fit}
+use Rattle.call_bytes.proofs.Replies.{answered-one, left-fit}
+use Rattle.exports.proofs.Parts.{parts}
 use Rattle.exports.proofs.vim.tsivareza_vim_write.Statement.{statement}
 use Rattle.exports.proofs.vim.tsivareza_vim_write.Tie as tie
-
--- what was lent is unfit
-returns : tie.Need-returns
-returns c =
-    let fill-told = c .before .before .before .fill .ensures in
-    (answered-unfit fill-told (c .if1 .taken), kept-unfit fill-told (c .if1 .taken) _ _)
-
-part : tie.Need-slice-reshare-prefix-vim-write
-part c = c .before .before .before .fill .ensures .fit (c .if1 .left) .within
-
-part-length : tie.Need-slice-aggregate-vim-write
-part-length c = front-count (c .before .before .before .before .fill .ensures) (c .before .if1 .left)
 
 -- the call on code points answers
 returns-2 : tie.Need-returns-2
@@ -32,16 +21,6 @@ returns-2 c =
     )
 
 pub tsivareza-vim-write-spec : {M : Type 1} → statement M
-tsivareza-vim-write-spec =
-    tie.close
-    (tie.spec
-    (λ c κs. search needs)
-    (λ c. search needs)
-    (λ c. search needs)
-    returns
-    part
-    part-length
-    (λ c κs. search needs)
-    (λ c. search needs)
-    (λ c. search needs)
-    returns-2)
+tsivareza-vim-write-spec = tie.close
+    (tie.spec (λ c κs. search needs) (λ c. search needs) (λ c. search needs) (λ c. search parts) (λ c. search parts) (λ c. search parts)
+    (λ c κs. search needs) (λ c. search needs) (λ c. search needs) returns-2)

@@ -1,9 +1,6 @@
 -- `entries::take_entries` meets its contract. The invariant of its loop: what is written, with the entries to come, comes to the whole. The measure is how
 -- many are left. Assumes nothing.
-use Prim.Native.Nat.{_+_, _*_, _-_, _≤_}
-use native.Mathlib.Omega.{arith}
-use borrow.Author.Needs.{needs}
-use lib.ListN.{drop}
+use Rattle.lists.proofs.Kit.{_+_, _*_, _-_, _≤_, arith, drop, needs}
 use Rattle.fold_blocks.specs.Bytes.{entryAt, entriesIn}
 use Rattle.fold_blocks.proofs.Rules.{length-entries-in}
 use Rattle.fold_blocks.proofs.Toward.{Toward, toward-room, toward-on, toward-end}
@@ -12,8 +9,7 @@ use Rattle.fold_reader.proofs.entries.take_entries.Statement.{statement
 use Rattle.fold_reader.proofs.entries.take_entries.Tie as tie
 
 abbrev Inv-loop : tie.InvT-loop
-Inv-loop block count out₀ at next₀ i₀ out next i =
-    (i ≤ count) × Toward out₀ at (entriesIn count (drop 4 block)) out next (entries-from block count i)
+Inv-loop block count out₀ at next₀ i₀ out next i = (i ≤ count) × Toward out₀ at (entriesIn count (drop 4 block)) out next (entries-from block count i)
 
 abbrev μ-loop : tie.MeasureT-loop
 μ-loop block count out₀ at next₀ i₀ out next i = count - i
@@ -24,17 +20,17 @@ loop-holds c = (omega arith, taking-start (c .before .before .args .block .now) 
 take-entry-requires : tie.Need-take-entry-requires Inv-loop μ-loop
 take-entry-requires c κs =
     let at-loop = c .before .before in
-    let entry = at-loop .before .before .before in
-    let given = entry .args in
+    let at-start = at-loop .before .before .before in
+    let given = at-start .args in
     let block-now = given .block .now in
     let index = at-loop .loop .i in
     let here = entries-on block-now (given .count) index (c .before .loop-test .taken) in (
-      omega (arith, entry .pre .0, c .before .loop-test .taken),
+      omega (arith, at-start .pre .0, c .before .loop-test .taken),
       omega (
         arith,
         toward-room (entryAt block-now (4 + 9 * index)) (entries-from block-now (given .count) (index + 1)) (at-loop .loop .inv .1) here,
         length-entries-in (given .count) (drop 4 block-now),
-        entry .pre .1,
+        at-start .pre .1,
       ),
     )
 
@@ -55,7 +51,5 @@ returns c =
     toward-end (c .before .loop .inv .1) (entries-done (given .block .now) (given .count) (c .before .loop .i) (c .loop-test .left))
 
 pub take-entries-spec : {M : Type 1} → statement M
-take-entries-spec =
-    tie.close
-    (tie.spec Inv-loop μ-loop loop-holds (λ c. search needs) (λ c. search needs) take-entry-requires (λ c. search needs)
+take-entries-spec = tie.close (tie.spec Inv-loop μ-loop loop-holds (λ c. search needs) (λ c. search needs) take-entry-requires (λ c. search needs)
     (λ c. search needs) loop-again (λ c. c .before .loop .inv .1 .size) returns)

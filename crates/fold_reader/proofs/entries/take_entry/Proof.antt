@@ -16,6 +16,5 @@ returns c =
     (wrote-then (wrote-then (at-put .put .ensures) (at-put2 .put2 .ensures)) (at-put3 .put3 .ensures))
 
 pub take-entry-spec : {M : Type 1} → statement M
-take-entry-spec =
-    tie.close (tie.spec (λ c κs. search needs) (λ c. search needs) (λ c κs. search needs) (λ c. search needs) (λ c κs. search needs)
+take-entry-spec = tie.close (tie.spec (λ c κs. search needs) (λ c. search needs) (λ c κs. search needs) (λ c. search needs) (λ c κs. search needs)
     (λ c κs. search needs) (λ c κs. search needs) (λ c κs. search needs) (λ c. search needs) returns)

@@ -1,9 +1,6 @@
 -- `layout::count_all` meets its contract. The invariant of its loop: what is counted, with the blocks from k on, comes to the whole. The measure is how
 -- many blocks are left. Assumes nothing.
-use Prim.Native.Nat.{_+_, _*_, _-_, _≤_}
-use mathlib.Core.Path.{_≡_, ap, sym}
-use native.Mathlib.Omega.{arith}
-use borrow.Author.Needs.{needs}
+use Rattle.lists.proofs.Kit.{_≡_, ap, _+_, _*_, _-_, _≤_, arith, needs}
 use Rattle.fold_blocks.specs.Listed.{blocksOf, countAll}
 use Rattle.fold_blocks.proofs.Cuts.{cutFrom, cut-start, count-on, count-end}
 use Rattle.fold_reader.proofs.layout.count_all.Statement.{statement}
@@ -19,19 +16,17 @@ loop-holds : tie.Need-loop-holds Inv-loop μ-loop
 loop-holds c = (omega arith, omega arith, omega (arith, ap countAll (cut-start (c .before .args .file .now))))
 
 add-n : tie.Need-add-n Inv-loop μ-loop
-add-n c = omega (arith, c .two-at .ensures .1)
+add-n c = omega (arith, c .two-at .ensures .small)
 
 loop-again : tie.Need-loop-again Inv-loop μ-loop
 loop-again c =
     let at-loop = c .before .before in
     let here = count-on (at-loop .before .before .args .file .now) _ (at-loop .loop .k) (c .before .loop-test .taken) in
-    (omega (arith, c .before .loop-test .taken), omega (arith, c .two-at .ensures .1), omega (arith, here, c .two-at .ensures .0, at-loop .loop .inv .2))
+    (omega (arith, c .before .loop-test .taken), omega (arith, c .two-at .ensures .small), omega (arith, here, c .two-at .ensures .same, at-loop .loop .inv .2))
 
 returns : tie.Need-returns Inv-loop μ-loop
 returns c = omega (arith, c .before .loop .inv .2, count-end (c .before .before .before .args .file .now) _ (c .before .loop .k) (c .loop-test .left))
 
 pub count-all-spec : {M : Type 1} → statement M
-count-all-spec =
-    tie.close
-    (tie.spec Inv-loop μ-loop loop-holds (λ c. search needs) (λ c. search needs) (λ c κs. search needs) add-n (λ c. search needs)
+count-all-spec = tie.close (tie.spec Inv-loop μ-loop loop-holds (λ c. search needs) (λ c. search needs) (λ c κs. search needs) add-n (λ c. search needs)
     (λ c. search needs) loop-again returns)

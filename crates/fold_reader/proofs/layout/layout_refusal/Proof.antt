@@ -1,6 +1,5 @@
 -- `layout::layout_refusal` meets its contract: each refusal in its order. Assumes nothing.
-use mathlib.Core.Path.{sym, _∙_}
-use borrow.Author.Needs.{needs}
+use Rattle.lists.proofs.Kit.{sym, _∙_, needs}
 use Rattle.fold_blocks.specs.Layout.{layoutRefusal}
 use Rattle.fold_blocks.proofs.Whole.{uncut-false}
 use Rattle.fold_reader.proofs.layout.layout_refusal.Statement.{statement}
@@ -26,29 +25,26 @@ broken-requires c κs =
 -- 20
 returns-3 : tie.Need-returns-3
 unfolding layoutRefusal
-returns-3 c =
-    rw (
-      ← c .before .before .before .before .before .uncut .ensures,
-      c .before .before .before .before .if1 .left,
-      ← c .before .before .before .any-torn .ensures,
-      c .before .before .if2 .left,
-      ← c .before .broken .ensures,
-      c .if3 .taken,
-    )
+returns-3 c = rw (
+  ← c .before .before .before .before .before .uncut .ensures,
+  c .before .before .before .before .if1 .left,
+  ← c .before .before .before .any-torn .ensures,
+  c .before .before .if2 .left,
+  ← c .before .broken .ensures,
+  c .if3 .taken,
+)
 
 -- none
 returns-4 : tie.Need-returns-4
 unfolding layoutRefusal
-returns-4 c =
-    rw (
-      ← c .before .before .before .before .before .uncut .ensures,
-      c .before .before .before .before .if1 .left,
-      ← c .before .before .before .any-torn .ensures,
-      c .before .before .if2 .left,
-      ← c .before .broken .ensures,
-      c .if3 .left,
-    )
+returns-4 c = rw (
+  ← c .before .before .before .before .before .uncut .ensures,
+  c .before .before .before .before .if1 .left,
+  ← c .before .before .before .any-torn .ensures,
+  c .before .before .if2 .left,
+  ← c .before .broken .ensures,
+  c .if3 .left,
+)
 
 pub layout-refusal-spec : {M : Type 1} → statement M
-layout-refusal-spec =
-    tie.close (tie.spec (λ c κs. search needs) returns (λ c κs. search needs) returns-2 broken-requires returns-3 returns-4)
+layout-refusal-spec = tie.close (tie.spec (λ c κs. search needs) returns (λ c κs. search needs) returns-2 broken-requires returns-3 returns-4)

@@ -1,6 +1,5 @@
 -- `fold_stretches::stretches::apart` meets its contract: the fold hides nothing, lies below the stretch, or above it. Assumes nothing.
-use native.Mathlib.Omega.{arith}
-use borrow.Author.Needs.{needs}
+use Rattle.lists.proofs.Kit.{arith, needs}
 use Rattle.fold_stretches.proofs.Asunder.{apart-open, apart-one, apart-low, apart-high}
 use Rattle.fold_stretches.proofs.stretches.apart.Statement.{statement}
 use Rattle.fold_stretches.proofs.stretches.apart.Tie as tie
@@ -24,6 +23,4 @@ returns-6 : tie.Need-returns-6
 returns-6 c = apart-high (omega arith) (omega arith) (omega arith)
 
 pub apart-spec : {M : Type 1} → statement M
-apart-spec =
-    tie.close
-    (tie.spec returns returns-2 returns-3 (λ c. search needs) returns-4 returns-5 returns-6)
+apart-spec = tie.close (tie.spec returns returns-2 returns-3 (λ c. search needs) returns-4 returns-5 returns-6)

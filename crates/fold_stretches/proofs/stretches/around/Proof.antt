@@ -1,10 +1,6 @@
 -- `fold_stretches::stretches::around` meets its contract. The invariant of its loop: the folds before i hide no row of the stretch.
 -- The measure is the folds' length less i. Assumes nothing.
-use Prim.Native.Nat.{_+_, _-_, _≤_}
-use mathlib.Core.Path.{refl}
-use native.Mathlib.Omega.{arith}
-use lib.ListN.{length}
-use borrow.Author.Needs.{needs}
+use Rattle.lists.proofs.Kit.{refl, _+_, _-_, _≤_, arith, length, needs}
 use Rattle.fold_stretches.proofs.Asunder.{NoFoldTo, no-fold-step, no-fold-end}
 use Rattle.fold_stretches.proofs.stretches.around.Statement.{statement}
 use Rattle.fold_stretches.proofs.stretches.around.Tie as tie
@@ -27,8 +23,6 @@ returns : tie.Need-returns Inv-loop μ-loop
 returns c = no-fold-end (c .before .loop .inv .0) (omega arith)
 
 pub around-spec : {M : Type 1} → statement M
-around-spec =
-    tie.close
-    (tie.spec Inv-loop μ-loop loop-holds (λ c. search needs) (λ c. search needs) (λ c. search needs) (λ c. search needs) (λ c. search needs)
+around-spec = tie.close (tie.spec Inv-loop μ-loop loop-holds (λ c. search needs) (λ c. search needs) (λ c. search needs) (λ c. search needs) (λ c. search needs)
     (λ c. search needs) (λ c. search needs) (λ c. search needs) (λ c. search needs) (λ c κs. search needs) (λ c. search needs)
     (λ c. search needs) loop-again returns)

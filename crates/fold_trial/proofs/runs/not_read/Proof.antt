@@ -1,4 +1,3 @@
--- `not_read` meets its contract. Assumes nothing.
 use borrow.Author.Needs.{needs}
 use Rattle.lists.specs.Codes.{codes}
 use Rattle.fold_trial.specs.Runs.{unread}

@@ -1,11 +1,6 @@
 -- `put_folds` meets its contract. The invariant of its loop: what is written, with the numbers to come and the row's end, comes to the row. The measure is
 -- what is left of the folds. Assumes nothing.
-use Prim.Native.Nat.{_+_, _-_, _≤_}
-use mathlib.Core.Path.{refl}
-use mathlib.Core.List.{[], _∷_, _++_}
-use native.Mathlib.Omega.{arith}
-use borrow.Author.Needs.{needs}
-use lib.ListN.{length, getD, drop}
+use Rattle.lists.proofs.Kit.{refl, [], _∷_, _++_, _+_, _-_, _≤_, arith, length, getD, drop, needs}
 use Rattle.print.specs.Print.{decimal}
 use Rattle.print.proofs.Laws.{wrote-then}
 use Rattle.fold_blocks.proofs.Toward.{Toward, toward-start, toward-room, toward-on, toward-end}
@@ -29,17 +24,17 @@ put-requires-2 c κs =
     let tested = c .before in
     let at-loop = tested .before in
     let at-put = at-loop .before .before .before in
-    let entry = at-put .before .before .before .before in
+    let at-start = at-put .before .before .before .before in
     let key = at-put .put .ensures in
-    let folds-now = entry .args .folds .now in
+    let folds-now = at-start .args .folds .now in
     let index = at-loop .loop .i in
     let piece = spaced-at folds-now index (tested .loop-test .taken) in
     omega (
       arith,
       toward-room (32 ∷ decimal (getD folds-now index 0)) (spaced (drop (index + 1) folds-now) ++ (10 ∷ [])) (at-loop .loop .inv .1) piece,
-      fold-row-fits folds-now (entry .pre .0),
+      fold-row-fits folds-now (at-start .pre .0),
       fold-row-length folds-now,
-      entry .pre .1,
+      at-start .pre .1,
       key .next,
       key .size,
     )
@@ -50,18 +45,18 @@ put-decimal-requires c κs =
     let tested = at-put2 .before .before in
     let at-loop = tested .before in
     let at-put = at-loop .before .before .before in
-    let entry = at-put .before .before .before .before in
+    let at-start = at-put .before .before .before .before in
     let key = at-put .put .ensures in
-    let folds-now = entry .args .folds .now in
+    let folds-now = at-start .args .folds .now in
     let index = at-loop .loop .i in
     let piece = spaced-at folds-now index (tested .loop-test .taken) in
     let space = at-put2 .put2 .ensures in
     omega (
       arith,
       toward-room (32 ∷ decimal (getD folds-now index 0)) (spaced (drop (index + 1) folds-now) ++ (10 ∷ [])) (at-loop .loop .inv .1) piece,
-      fold-row-fits folds-now (entry .pre .0),
+      fold-row-fits folds-now (at-start .pre .0),
       fold-row-length folds-now,
-      entry .pre .1,
+      at-start .pre .1,
       key .next,
       key .size,
       space .next,
@@ -74,14 +69,13 @@ loop-again c =
     let at-put2 = at-put-decimal .before .before .before .before .before in
     let tested = at-put2 .before .before in
     let at-loop = tested .before in
-    let entry = at-loop .before .before .before .before .before .before .before in
-    let folds-now = entry .args .folds .now in
+    let at-start = at-loop .before .before .before .before .before .before .before in
+    let folds-now = at-start .args .folds .now in
     let index = at-loop .loop .i in
     let tested-so = tested .loop-test .taken in (
       omega (arith, tested-so),
       toward-on (32 ∷ decimal (getD folds-now index 0)) (spaced (drop (index + 1) folds-now) ++ (10 ∷ [])) (at-loop .loop .inv .1)
-          (spaced-at folds-now index tested-so)
-          (wrote-then (at-put2 .put2 .ensures) (at-put-decimal .put-decimal .ensures)),
+          (spaced-at folds-now index tested-so) (wrote-then (at-put2 .put2 .ensures) (at-put-decimal .put-decimal .ensures)),
     )
 
 put-requires-3 : tie.Need-put-requires-3 Inv-loop μ-loop
@@ -89,16 +83,16 @@ put-requires-3 c κs =
     let tested = c .before in
     let at-loop = tested .before in
     let at-put = at-loop .before .before .before in
-    let entry = at-put .before .before .before .before in
+    let at-start = at-put .before .before .before .before in
     let key = at-put .put .ensures in
-    let folds-now = entry .args .folds .now in
+    let folds-now = at-start .args .folds .now in
     let last = spaced-end folds-now (at-loop .loop .i) (tested .loop-test .left) in
     omega (
       arith,
       toward-room (10 ∷ []) [] (at-loop .loop .inv .1) last,
-      fold-row-fits folds-now (entry .pre .0),
+      fold-row-fits folds-now (at-start .pre .0),
       fold-row-length folds-now,
-      entry .pre .1,
+      at-start .pre .1,
       key .next,
       key .size,
     )
@@ -117,24 +111,13 @@ returns c =
     let tested = at-put3 .before .before in
     let at-loop = tested .before in
     let at-put = at-loop .before .before .before in
-    let entry = at-put .before .before .before .before in
-    let last = spaced-end (entry .args .folds .now) (at-loop .loop .i) (tested .loop-test .left) in
+    let at-start = at-put .before .before .before .before in
+    let last = spaced-end (at-start .args .folds .now) (at-loop .loop .i) (tested .loop-test .left) in
     wrote-then (at-put .put .ensures) (toward-end (toward-on (10 ∷ []) [] (at-loop .loop .inv .1) last (at-put3 .put3 .ensures)) refl)
 
 pub put-folds-spec : {M : Type 1} → statement M
-put-folds-spec =
-    tie.close
-    (tie.spec
-    Inv-loop
-    μ-loop
-    (λ c κs. search needs)
-    loop-holds
-    put-requires-2
-    (λ c. search needs)
-    (λ c. search needs)
-    put-decimal-requires
-    (λ c. search needs)
-    (λ c. search needs)
+put-folds-spec = tie.close (tie.spec Inv-loop μ-loop (λ c κs. search needs) loop-holds put-requires-2 (λ c. search needs) (λ c. search needs)
+    put-decimal-requires (λ c. search needs) (λ c. search needs)
     loop-again
     put-requires-3
     same-length

@@ -1,6 +1,5 @@
 -- `refuse` meets its contract: the row's pieces, one after another. Assumes nothing.
-use native.Mathlib.Omega.{arith}
-use borrow.Author.Needs.{needs}
+use Rattle.lists.proofs.Kit.{arith, needs}
 use Rattle.print.proofs.Laws.{wrote-then, length-decimal}
 use Rattle.fold_trial.specs.Runs.{refusalRow}
 use Rattle.fold_trial.proofs.runs.refuse.Statement.{statement}
@@ -8,13 +7,13 @@ use Rattle.fold_trial.proofs.runs.refuse.Tie as tie
 
 put-decimal-requires : tie.Need-put-decimal-requires
 put-decimal-requires c κs =
-    let entry = c .before .before .before .before .before .before in
-    omega (arith, length-decimal (entry .args .f))
+    let at-start = c .before .before .before .before .before .before in
+    omega (arith, length-decimal (at-start .args .f))
 
 put-requires-2 : tie.Need-put-requires-2
 put-requires-2 c κs =
-    let entry = c .before .before .before .before .before .before .before .before .before .before in
-    omega (arith, length-decimal (entry .args .f))
+    let at-start = c .before .before .before .before .before .before .before .before .before .before in
+    omega (arith, length-decimal (at-start .args .f))
 
 returns : tie.Need-returns
 unfolding refusalRow

@@ -1,9 +1,6 @@
 -- `folds::folds::closed_fold_at` meets its contract: the row shows, or the row that shows before it is the fold's first.
 -- Assumes nothing.
-use mathlib.Core.Path.{sym, _∙_}
-use native.Mathlib.Omega.{arith}
-use borrow.Author.Needs.{needs}
-use borrow.Author.Tests.{not-true, not-false}
+use Rattle.lists.proofs.Kit.{sym, _∙_, arith, needs, not-true, not-false}
 use Rattle.folds.proofs.Past.{prev-within}
 use Rattle.folds.proofs.folds.closed_fold_at.Statement.{statement}
 use Rattle.folds.proofs.folds.closed_fold_at.Tie as tie
@@ -27,8 +24,7 @@ returns-2 c =
       sym (at-prev-visible-row .before .before .is-row-hidden .ensures) ∙ not-false _ (at-prev-visible-row .before .if1 .left),
       ← at-prev-visible-row .prev-visible-row .ensures,
       c .before .before .first .given .1,
-    )
-    (c .closed-from2 .ensures)
+    ) (c .closed-from2 .ensures)
 
 returns-3 : tie.Need-returns-3
 returns-3 c =
@@ -40,8 +36,7 @@ returns-3 c =
     )
 
 pub closed-fold-at-spec : {M : Type 1} → statement M
-closed-fold-at-spec =
-    tie.close
+closed-fold-at-spec = tie.close
     (tie.spec (λ c κs. search needs) (λ c κs. search needs) returns (λ c κs. search needs) (λ c. search needs) closed-from-requires-2
     (λ c. search needs) returns-2
     returns-3)

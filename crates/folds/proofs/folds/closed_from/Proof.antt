@@ -1,9 +1,6 @@
 -- `folds::folds::closed_from` meets its contract: the row after the first is hidden or not, and a next row shows or not.
 -- Assumes nothing.
-use mathlib.Core.Path.{sym, _∙_}
-use native.Mathlib.Omega.{arith}
-use borrow.Author.Needs.{needs}
-use borrow.Author.Tests.{not-true, not-false}
+use Rattle.lists.proofs.Kit.{sym, _∙_, arith, needs, not-true, not-false}
 use Rattle.folds.proofs.Past.{visible-within}
 use Rattle.folds.proofs.folds.closed_from.Statement.{statement}
 use Rattle.folds.proofs.folds.closed_from.Tie as tie
@@ -36,7 +33,6 @@ returns-3 c =
     )
 
 pub closed-from-spec : {M : Type 1} → statement M
-closed-from-spec =
-    tie.close
+closed-from-spec = tie.close
     (tie.spec (λ c. search needs) (λ c κs. search needs) returns (λ c κs. search needs) (λ c. search needs) sub-next (λ c. search needs) (λ c. search needs)
     returns-2 returns-3)

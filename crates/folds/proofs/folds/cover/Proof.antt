@@ -1,10 +1,6 @@
 -- `folds::folds::cover` meets its contract. The invariant of its loop: the folds from i on decide. The measure is what is left of them.
 -- Assumes nothing.
-use Prim.Native.Nat.{_+_, _-_, _≤_}
-use mathlib.Core.Path.{_≡_, sym, _∙_}
-use native.Mathlib.Omega.{arith}
-use lib.ListN.{length, drop}
-use borrow.Author.Needs.{needs}
+use Rattle.lists.proofs.Kit.{_≡_, sym, _∙_, _+_, _-_, _≤_, arith, length, drop, needs}
 use Rattle.folds.specs.Cover.{coverOf}
 use Rattle.folds.proofs.Hiding.{cover-on, cover-end}
 use Rattle.folds.proofs.folds.cover.Statement.{statement}
@@ -57,8 +53,7 @@ returns-2 c =
     ∙ cover-end (at-loop .before .before .args .folds .now) (at-loop .loop .i) (c .loop-test .left) (at-loop .before .before .args .row))
 
 pub cover-spec : {M : Type 1} → statement M
-cover-spec =
-    tie.close
+cover-spec = tie.close
     (tie.spec Inv-loop μ-loop (λ c. search needs) (λ c. search needs) (λ c. search needs) (λ c. search needs) (λ c. search needs) (λ c. search needs)
     (λ c. search needs) (λ c. search needs) (λ c. search needs) (λ c. search needs) (λ c κs. search needs) cast-start cast-end returns (λ c. search needs)
     (λ c. search needs) loop-again returns-2)

@@ -1,11 +1,6 @@
 -- `folds::folds::fold_refusal` meets its contract. The invariant of its loop: the folds from i on decide. The measure is what is left of them.
 -- Assumes nothing.
-use Prim.Native.Nat.{_-_, _≤_}
-use mathlib.Core.Path.{_≡_, _∙_}
-use native.Mathlib.Omega.{arith}
-use lib.ListN.{length, drop}
-use borrow.Author.Needs.{needs}
-use borrow.Author.Tests.{eq-eqb, ne-eqb, lt-ltb, le-ltb}
+use Rattle.lists.proofs.Kit.{_≡_, _∙_, _-_, _≤_, arith, length, drop, needs, eq-eqb, ne-eqb, lt-ltb, le-ltb}
 use Rattle.folds.specs.Folds.{anyFold, badFold, foldRefusal}
 use Rattle.folds.proofs.Hiding.{any-fold-on, any-fold-end}
 use Rattle.folds.proofs.folds.fold_refusal.Statement.{statement}
@@ -46,12 +41,11 @@ loop-again c =
     let at-start = at-loop .before .before .before .before in
     let more = c .before .before .before .before .before .loop-test .taken in (
       omega (arith, more),
-      at-loop .loop .inv .1
-          ∙ rw (
-            any-fold-on (at-start .args .folds .now) (at-loop .loop .i) more (badFold (at-start .args .rows)),
-            ← c .before .bad-fold .ensures,
-            c .if3 .left,
-          ),
+      at-loop .loop .inv .1 ∙ rw (
+        any-fold-on (at-start .args .folds .now) (at-loop .loop .i) more (badFold (at-start .args .rows)),
+        ← c .before .bad-fold .ensures,
+        c .if3 .left,
+      ),
     )
 
 returns-4 : tie.Need-returns-4 Inv-loop μ-loop
@@ -67,8 +61,7 @@ returns-4 c =
     )
 
 pub fold-refusal-spec : {M : Type 1} → statement M
-fold-refusal-spec =
-    tie.close
+fold-refusal-spec = tie.close
     (tie.spec Inv-loop μ-loop returns returns-2 (λ c. search needs) (λ c. search needs) (λ c. search needs) (λ c. search needs) (λ c. search needs)
     (λ c. search needs) (λ c. search needs) (λ c. search needs) (λ c. search needs) (λ c. search needs) (λ c κs. search needs) returns-3 (λ c. search needs)
     (λ c. search needs) loop-again returns-4)

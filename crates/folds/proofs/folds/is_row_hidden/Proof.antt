@@ -1,7 +1,6 @@
 -- `folds::folds::is_row_hidden` meets its contract: the first fold that hides the row tells whether there is one.
 -- Assumes nothing.
-use mathlib.Core.Path.{sym, _∙_}
-use borrow.Author.Needs.{needs}
+use Rattle.lists.proofs.Kit.{sym, _∙_, needs}
 use Rattle.folds.proofs.Past.{said}
 use Rattle.folds.proofs.folds.is_row_hidden.Statement.{statement}
 use Rattle.folds.proofs.folds.is_row_hidden.Tie as tie
@@ -19,5 +18,4 @@ returns-2 c =
     sym (said (at-cover .before .before .args .folds .now) (at-cover .before .before .args .row) _ (sym (c .enum-told .given .1) ∙ at-cover .cover .ensures))
 
 pub is-row-hidden-spec : {M : Type 1} → statement M
-is-row-hidden-spec =
-    tie.close (tie.spec (λ c κs. search needs) (λ c. search needs) (λ c. search needs) returns returns-2)
+is-row-hidden-spec = tie.close (tie.spec (λ c κs. search needs) (λ c. search needs) (λ c. search needs) returns returns-2)

@@ -1,10 +1,6 @@
 -- `folds::folds::next_visible_row` meets its contract. The invariant of its loop: the first row seen from r on is the answer.
 -- The measure is the rows less r. Assumes nothing.
-use Prim.Native.Nat.{_-_, _≤_}
-use mathlib.Core.Path.{_≡_, refl, sym, _∙_}
-use mathlib.Core.Bool.{false}
-use native.Mathlib.Omega.{arith}
-use borrow.Author.Needs.{needs}
+use Rattle.lists.proofs.Kit.{_≡_, refl, sym, _∙_, false, _-_, _≤_, arith, needs}
 use Rattle.folds.specs.Folds.{anyFold, badFold, visibleFrom, nextVisible}
 use Rattle.folds.proofs.Past.{said, folds-good, next-jump, next-here, next-none}
 use Rattle.folds.proofs.folds.next_visible_row.Statement.{statement}
@@ -62,8 +58,7 @@ returns-2 c =
     sym (c .before .loop .inv .2 ∙ next-none (given .folds .now) (given .rows) (c .before .loop .r) (c .loop-test .left))
 
 pub next-visible-row-spec : {M : Type 1} → statement M
-next-visible-row-spec =
-    tie.close
+next-visible-row-spec = tie.close
     (tie.spec Inv-loop μ-loop (λ c. search needs) loop-holds (λ c κs. search needs) (λ c. search needs) add-past loop-less loop-again
     (λ c. search needs) returns
     returns-2)

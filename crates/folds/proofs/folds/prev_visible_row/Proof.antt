@@ -1,9 +1,6 @@
 -- `folds::folds::prev_visible_row` meets its contract. The invariant of its loop: the last row seen before r is the answer.
 -- The measure is r. Assumes nothing.
-use Prim.Native.Nat.{_-_}
-use mathlib.Core.Path.{_≡_, sym, _∙_}
-use native.Mathlib.Omega.{arith}
-use borrow.Author.Needs.{needs}
+use Rattle.lists.proofs.Kit.{_≡_, sym, _∙_, _-_, arith, needs}
 use Rattle.folds.specs.Folds.{prevVisible}
 use Rattle.folds.proofs.Past.{said, prev-jump, prev-here, prev-none}
 use Rattle.folds.proofs.folds.prev_visible_row.Statement.{statement}
@@ -49,8 +46,7 @@ returns-2 : tie.Need-returns-2 Inv-loop μ-loop
 returns-2 c = sym (c .before .loop .inv ∙ prev-none (c .before .before .before .args .folds .now) (c .before .loop .r) (c .loop-test .left))
 
 pub prev-visible-row-spec : {M : Type 1} → statement M
-prev-visible-row-spec =
-    tie.close
+prev-visible-row-spec = tie.close
     (tie.spec Inv-loop μ-loop (λ c. search needs) (λ c. search needs) (λ c κs. search needs) (λ c. search needs) add-past loop-less loop-again
     (λ c. search needs)
     returns returns-2)

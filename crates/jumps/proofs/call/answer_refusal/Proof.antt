@@ -1,7 +1,4 @@
--- `call::answer_refusal` meets its contract. Assumes nothing.
-use native.Mathlib.Omega.{arith}
-use lib.ListN.{length}
-use borrow.Author.Tests.{lt-ltb, le-ltb}
+use Rattle.lists.proofs.Kit.{arith, length, lt-ltb, le-ltb}
 use Rattle.jumps.proofs.call.answer_refusal.Statement.{statement}
 use Rattle.jumps.proofs.call.answer_refusal.Tie as tie
 

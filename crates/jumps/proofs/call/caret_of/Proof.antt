@@ -1,8 +1,5 @@
 -- `call::caret_of` meets its contract: the column is counted from where the table says that the row starts. Assumes nothing.
-use mathlib.Core.Path.{ap, _∙_}
-use Prim.Native.Nat.{ℕ, _-_}
-use native.Mathlib.Omega.{arith}
-use borrow.Author.Needs.{needs}
+use Rattle.lists.proofs.Kit.{ap, _∙_, ℕ, _-_, arith, needs}
 use Rattle.motions.specs.Carets.{caretAt}
 use Rattle.jumps.proofs.Spots.{spot-short}
 use Rattle.jumps.proofs.call.caret_of.Statement.{statement}

@@ -1,8 +1,5 @@
 -- `call::jumps` meets its contract: what is refused, in its order; no jump; or the run, which is the single calls in turn. Assumes nothing.
-use mathlib.Core.Path.{_≡_, ap, sym, _∙_}
-use mathlib.Core.List.{List}
-use mathlib.Core.Bool.{false}
-use borrow.Author.Needs.{needs}
+use Rattle.lists.proofs.Kit.{ap, sym, _∙_, List, false, needs}
 use Rattle.list_tokens.specs.declared.Token.{Token}
 use Rattle.list_tokens.specs.Tokens.{anyToken}
 use Rattle.keywords.specs.declared.Parsed.{Parsed}
@@ -11,7 +8,8 @@ use Rattle.word_kinds.specs.Places.{kindOf}
 use Rattle.positions.proofs.Checks.{inside, entry-number, entry-clear, entered}
 use Rattle.positions.proofs.Entered.{folds-none, folds-number}
 use Rattle.motions.specs.Carets.{here}
-use Rattle.jumps.proofs.Calling.{refused-early, refused-list, refused-late, run-through, none-caret, none-places, late-accepted, through-caret, through-places}
+use Rattle.jumps.proofs.Calling.{refused-early, refused-list, refused-late, run-through, none-caret, none-places, through-caret, through-places}
+use Rattle.jumps.proofs.Late.{late-accepted}
 use Rattle.jumps.proofs.call.jumps.Statement.{statement}
 use Rattle.jumps.proofs.call.jumps.Tie as tie
 
@@ -32,8 +30,7 @@ returns-2 c =
     let given = met .before .before .before .before .before .before .before .args in
     let number = folded .or-folds .ensures ∙ folds-number (given .t .now) (here (given .k)) (met .enter .result) (met .enter .ensures) (given .folds .now) in
     refused-list (given .t .now) (given .starts .now) (given .content) (given .folds .now) (given .list .now) (given .k) (given .jumps .now)
-    (given .answers .now) (c .if2 .taken)
-    (sym number ∙ parsed .before .if1 .left) (ap (λ (x : Parsed). x .refusal) (parsed .parse .ensures))
+    (given .answers .now) (c .if2 .taken) (sym number ∙ parsed .before .if1 .left) (ap (λ (x : Parsed). x .refusal) (parsed .parse .ensures))
 
 late-refusal-requires : tie.Need-late-refusal-requires
 late-refusal-requires c κs =
@@ -69,8 +66,7 @@ returns-4 c =
     let given = met .before .before .before .before .before .before .before .args in
     let number = folded .or-folds .ensures ∙ folds-number (given .t .now) (here (given .k)) (met .enter .result) (met .enter .ensures) (given .folds .now) in
     run-through (given .t .now) (given .starts .now) (given .content) (given .folds .now) (given .list .now) (given .k) (given .jumps .now)
-    (given .answers .now)
-    (sym number ∙ parsed .before .if1 .left) (sym (ap (λ (x : Parsed). x .refusal) (parsed .parse .ensures)) ∙ tested .if2 .left)
+    (given .answers .now) (sym number ∙ parsed .before .if1 .left) (sym (ap (λ (x : Parsed). x .refusal) (parsed .parse .ensures)) ∙ tested .if2 .left)
     (sym (late .late-refusal .ensures) ∙ c .before .if3 .left)
     (none-caret (given .t .now) (given .folds .now) (given .list .now) (given .jumps .now) (given .k) (c .if4 .taken))
     (none-places (given .t .now) (given .folds .now) (given .list .now) (given .jumps .now) (given .answers .now) (given .k) (c .if4 .taken))
@@ -99,7 +95,7 @@ to-end-requires c κs =
     )
 
 same-length : tie.Need-same-length
-same-length c = c .before .before .to-end .ensures .1 .size
+same-length c = c .before .before .to-end .ensures .left .size
 
 returns-5 : tie.Need-returns-5
 returns-5 c =
@@ -125,14 +121,12 @@ returns-5 c =
     let same = ap (λ (ts : List Token). kindOf (anyToken ts) false)
     (parse-kept (given .list .now) (parsed .parse .result) (parsed .parse .ensures) (tested .if2 .left)) in
     run-through text-now (given .starts .now) (given .content) (given .folds .now) (given .list .now) (given .k) (given .jumps .now) (given .answers .now)
-    (sym number ∙ parsed .before .if1 .left) listed nothing
-    (through-caret text-now (given .folds .now) (given .list .now) (given .k) (given .jumps .now)
-    (given .answers .now) clear good listed placed course same (some .if4 .left) (ran .to-end .ensures .0))
+    (sym number ∙ parsed .before .if1 .left) listed nothing (through-caret text-now (given .folds .now) (given .list .now) (given .k) (given .jumps .now)
+    (given .answers .now) clear good listed placed course same (some .if4 .left) (ran .to-end .ensures .caret))
     (through-places text-now (given .folds .now) (given .list .now) (given .k) (given .jumps .now)
-    (given .answers .now) clear good listed placed course same (ran .to-end .ensures .1))
+    (given .answers .now) clear good listed placed course same (ran .to-end .ensures .left))
 
 pub jumps-spec : {M : Type 1} → statement M
-jumps-spec =
-    tie.close
+jumps-spec = tie.close
     (tie.spec (λ c κs. search needs) (λ c κs. search needs) returns (λ c κs. search needs) returns-2 late-refusal-requires returns-3 returns-4
     to-end-requires same-length returns-5)

@@ -1,8 +1,5 @@
 -- `call::to_end` meets its contract: the caret's spot goes in, and the spot at the end is a caret again. Assumes nothing.
-use mathlib.Core.Path.{ap, _∙_}
-use mathlib.Core.Bool.{false}
-use native.Mathlib.Omega.{arith}
-use borrow.Author.Needs.{needs}
+use Rattle.lists.proofs.Kit.{ap, _∙_, false, arith, needs}
 use Rattle.list_tokens.specs.Tokens.{anyToken}
 use Rattle.keywords.specs.Table.{kept}
 use Rattle.word_kinds.specs.Places.{kindOf}
@@ -33,7 +30,7 @@ caret-of-requires : tie.Need-caret-of-requires
 caret-of-requires c κs =
     let ran = c .before .before in
     let at-start = ran .before .before .before .before .before .before .before .before .before .before in
-    (at-start .pre .0, at-start .pre .4, ran .run-by .ensures .spot)
+    (at-start .pre .0, at-start .pre .4, ran .run-by .ensures .lands .inside)
 
 same-length : tie.Need-same-length
 same-length c = c .before .before .before .run-by .ensures .left .size
@@ -44,13 +41,12 @@ returns c =
     let at-start = ran .before .before .before .before .before .before .before .before .before .before in
     let given = at-start .args in
     let class = kindOf (anyToken (kept (given .spec))) false in
-    let from = place-of (given .t .now) (given .k) (given .e) (at-start .pre .1) in (
-      c .caret-of .ensures
-          ∙ ap (put (given .k)) (ran .run-by .ensures .place ∙ ap (leapEnd (given .t .now) (given .folds .now) class (given .jumps .now)) from),
-      over-as (ap (leapPlaces (given .t .now) (given .folds .now) class (given .jumps .now)) from) (ran .run-by .ensures .left),
-    )
+    let from = place-of (given .t .now) (given .k) (given .e) (at-start .pre .1) in
+    record {
+      caret = c .caret-of .ensures
+          ∙ ap (put (given .k)) (ran .run-by .ensures .lands .place ∙ ap (leapEnd (given .t .now) (given .folds .now) class (given .jumps .now)) from);
+      left = over-as (ap (leapPlaces (given .t .now) (given .folds .now) class (given .jumps .now)) from) (ran .run-by .ensures .left);
+    }
 
 pub to-end-spec : {M : Type 1} → statement M
-to-end-spec =
-    tie.close
-    (tie.spec (λ c. search needs) add-at (λ c. search needs) run-by-requires caret-of-requires same-length returns)
+to-end-spec = tie.close (tie.spec (λ c. search needs) add-at (λ c. search needs) run-by-requires caret-of-requires same-length returns)

@@ -1,8 +1,8 @@
 -- `leaps::leap` meets its contract: `%`, or the rounds of a word motion. Assumes nothing.
-use mathlib.Core.Path.{sym, _∙_}
-use borrow.Author.Needs.{needs}
+use Rattle.lists.proofs.Kit.{sym, needs}
 use Rattle.word_kinds.specs.Spots.{placeOf}
 use Rattle.word_kinds.specs.Lent.{kindBy}
+use Rattle.word_kinds.proofs.Telling.{tells-too}
 use Rattle.jumps.proofs.Spots.{leapt-key, rounds-leapt}
 use Rattle.jumps.proofs.leaps.leap.Statement.{statement}
 use Rattle.jumps.proofs.leaps.leap.Tie as tie
@@ -18,11 +18,9 @@ returns c =
     let at-start = c .before .before .before .before .before .before .before in
     let given = at-start .args in
     record {
-      place =
-          c .to-partner .ensures .0
-          ∙ sym (leapt-key (given .t .now) (given .folds .now) (kindBy (given .bounds .now) (given .s)) (given .kind) (given .count)
-          (placeOf (given .t .now) (given .p)) (c .before .if1 .taken));
-      spot = c .to-partner .ensures .1;
+      lands = tells-too (c .to-partner .ensures)
+          (sym (leapt-key (given .t .now) (given .folds .now) (kindBy (given .bounds .now) (given .s)) (given .kind) (given .count)
+          (placeOf (given .t .now) (given .p)) (c .before .if1 .taken)));
       bare = at-start .pre .1;
     }
 
@@ -39,15 +37,10 @@ returns-2 c =
     let given = at-start .args in
     let walked = c .rounds-from .ensures in
     record {
-      place =
-          walked .place
-          ∙ rounds-leapt (given .t .now) (given .folds .now) (kindBy (given .bounds .now) (given .s)) (given .kind) (given .count)
-          (placeOf (given .t .now) (given .p)) (at-start .pre .0 .small)
-          (told .motion-of .ensures) (counted .rounds-of .ensures) (told .before .if1 .left);
-      spot = walked .spot;
+      lands = tells-too (walked .lands) (rounds-leapt (given .t .now) (given .folds .now) (kindBy (given .bounds .now) (given .s)) (given .kind) (given .count)
+          (placeOf (given .t .now) (given .p)) (at-start .pre .0 .small) (told .motion-of .ensures) (counted .rounds-of .ensures) (told .before .if1 .left));
       bare = walked .bare;
     }
 
 pub leap-spec : {M : Type 1} → statement M
-leap-spec =
-    tie.close (tie.spec to-partner-requires returns (λ c κs. search needs) (λ c κs. search needs) rounds-from-requires returns-2)
+leap-spec = tie.close (tie.spec to-partner-requires returns (λ c κs. search needs) (λ c κs. search needs) rounds-from-requires returns-2)

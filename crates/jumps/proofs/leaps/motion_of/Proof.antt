@@ -1,4 +1,3 @@
--- `jumps::leaps::motion_of` meets its contract. Assumes nothing.
 use borrow.Author.Tests.{eq-eqb, ne-eqb}
 use Rattle.jumps.specs.Leaps.{motionOf}
 use Rattle.jumps.proofs.leaps.motion_of.Statement.{statement}

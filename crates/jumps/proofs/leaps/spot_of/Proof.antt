@@ -1,7 +1,7 @@
 -- `leaps::spot_of` meets its contract: the place's row starts where the table says. Assumes nothing.
 use native.Mathlib.Omega.{arith}
 use Rattle.text_check.proofs.Accepted.{accepted-short}
-use Rattle.jumps.proofs.Spots.{spot-there, spot-place}
+use Rattle.jumps.proofs.Spots.{spot-there, spot-lands}
 use Rattle.jumps.proofs.leaps.spot_of.Statement.{statement}
 use Rattle.jumps.proofs.leaps.spot_of.Tie as tie
 
@@ -22,10 +22,7 @@ add-t6 c =
 returns : tie.Need-returns
 returns c =
     let at-start = c .before .before .before .before in
-    let start-of-told = c .before .start-of .ensures in (
-      spot-place (at-start .args .t .now) (at-start .args .q) (at-start .pre .2) start-of-told,
-      spot-there (at-start .args .t .now) (at-start .args .q) (at-start .pre .2) start-of-told,
-    )
+    spot-lands (at-start .args .t .now) (at-start .args .q) (at-start .pre .2) (c .before .start-of .ensures)
 
 pub spot-of-spec : {M : Type 1} → statement M
 spot-of-spec = tie.close (tie.spec start-of-requires add-t6 returns)

@@ -1,6 +1,5 @@
 -- `leaps::start_of` meets its contract: the table is the text's. Assumes nothing.
 use native.Mathlib.Omega.{arith}
-use borrow.Author.Needs.{needs}
 use Rattle.jumps.proofs.Spots.{table-room, table-start}
 use Rattle.jumps.proofs.leaps.start_of.Statement.{statement}
 use Rattle.jumps.proofs.leaps.start_of.Tie as tie

@@ -1,8 +1,6 @@
 -- `leaps::to_partner` meets its contract: the partner that the key goes to from the spot's row and column, by its cases. Assumes nothing.
-use mathlib.Core.Path.{sym, _∙_}
-use Prim.Native.Nat.{_-_}
-use native.Mathlib.Omega.{arith}
-use borrow.Author.Needs.{needs}
+use Rattle.lists.proofs.Kit.{sym, _∙_, _-_, arith, needs}
+use Rattle.word_kinds.proofs.Telling.{tells-too, lands-here}
 use Rattle.jumps.proofs.Spots.{line-here, partner-is, key-inside}
 use Rattle.jumps.proofs.leaps.to_partner.Statement.{statement}
 use Rattle.jumps.proofs.leaps.to_partner.Tie as tie
@@ -42,34 +40,27 @@ returns c =
     let found = c .before .before in
     let walked = found .before .before in
     let started = walked .before .before in
-    let at-start = started .before .before .before in (
-      c .spot-of .ensures .0
-          ∙ partner-is (at-start .args .t .now) (at-start .args .p) (started .start-of .ensures) (walked .match-bracket-from .ensures) (found .q .given .1),
-      c .spot-of .ensures .1,
-    )
+    let at-start = started .before .before .before in
+    tells-too (c .spot-of .ensures)
+    (partner-is (at-start .args .t .now) (at-start .args .p) (started .start-of .ensures) (walked .match-bracket-from .ensures) (found .q .given .1))
 
 returns-2 : tie.Need-returns-2
 returns-2 c =
     let walked = c .before .before in
     let started = walked .before .before in
-    let at-start = started .before .before .before in (
-      partner-is (at-start .args .t .now) (at-start .args .p) (started .start-of .ensures) (walked .match-bracket-from .ensures)
-          (c .enum-told .given .1),
-      at-start .pre .2,
-    )
+    let at-start = started .before .before .before in
+    tells-too (lands-here (at-start .pre .2))
+    (partner-is (at-start .args .t .now) (at-start .args .p) (started .start-of .ensures) (walked .match-bracket-from .ensures) (c .enum-told .given .1))
 
 returns-3 : tie.Need-returns-3
 returns-3 c =
     let walked = c .before .before in
     let started = walked .before .before in
-    let at-start = started .before .before .before in (
-      partner-is (at-start .args .t .now) (at-start .args .p) (started .start-of .ensures) (walked .match-bracket-from .ensures)
-          (c .enum-told2 .given .1),
-      at-start .pre .2,
-    )
+    let at-start = started .before .before .before in
+    tells-too (lands-here (at-start .pre .2))
+    (partner-is (at-start .args .t .now) (at-start .args .p) (started .start-of .ensures) (walked .match-bracket-from .ensures) (c .enum-told2 .given .1))
 
 pub to-partner-spec : {M : Type 1} → statement M
-to-partner-spec =
-    tie.close
+to-partner-spec = tie.close
     (tie.spec start-of-requires sub-match-bracket-from match-bracket-from-requires (λ c. search needs) spot-of-requires (λ c. search needs)
     (λ c. search needs) returns returns-2 returns-3)

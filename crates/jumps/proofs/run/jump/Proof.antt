@@ -1,10 +1,5 @@
 -- `run::jump` meets its contract: one jump, and its row and column by the table. Assumes nothing.
-use mathlib.Core.Path.{ap, _∙_}
-use mathlib.Core.List.{List}
-use Prim.Native.Nat.{ℕ, _+_, _-_}
-use native.Mathlib.Omega.{arith}
-use lib.ListN.{length, set, length-set}
-use borrow.Author.Needs.{needs}
+use Rattle.lists.proofs.Kit.{ap, ℕ, _+_, _-_, arith, set, length-set, needs}
 use Rattle.jumps.proofs.Spots.{spot-short}
 use Rattle.jumps.proofs.run.jump.Statement.{statement}
 use Rattle.jumps.proofs.run.jump.Tie as tie
@@ -18,13 +13,13 @@ start-of-requires : tie.Need-start-of-requires
 start-of-requires c κs =
     let leapt = c .before in
     let at-start = leapt .before .before .before .before .before .before .before .before .before .before in
-    (at-start .pre .0 .tabled, leapt .leap .ensures .spot .in-row)
+    (at-start .pre .0 .tabled, leapt .leap .ensures .lands .inside .in-row)
 
 cast-answers : tie.Need-cast-answers
 cast-answers c =
     let leapt = c .before .before .before in
     let at-start = leapt .before .before .before .before .before .before .before .before .before .before in
-    omega (arith, spot-short (at-start .pre .0 .clear) (leapt .leap .ensures .spot) .0)
+    omega (arith, spot-short (at-start .pre .0 .clear) (leapt .leap .ensures .lands .inside) .0)
 
 mul-answers : tie.Need-mul-answers
 mul-answers c =
@@ -39,13 +34,13 @@ slice-write-answers c =
 sub-answers : tie.Need-sub-answers
 sub-answers c =
     let started = c .before .before in
-    omega (arith, started .start-of .ensures, started .before .before .leap .ensures .spot .from)
+    omega (arith, started .start-of .ensures, started .before .before .leap .ensures .lands .inside .from)
 
 cast-answers-2 : tie.Need-cast-answers-2
 cast-answers-2 c =
     let leapt = c .before .before .before .before in
     let at-start = leapt .before .before .before .before .before .before .before .before .before .before in
-    omega (arith, spot-short (at-start .pre .0 .clear) (leapt .leap .ensures .spot) .1)
+    omega (arith, spot-short (at-start .pre .0 .clear) (leapt .leap .ensures .lands .inside) .1)
 
 add-answers : tie.Need-add-answers
 add-answers c =
@@ -76,15 +71,7 @@ returns c =
     }
 
 pub jump-spec : {M : Type 1} → statement M
-jump-spec =
-    tie.close
-    (tie.spec
-    (λ c. search needs)
-    (λ c. search needs)
-    (λ c. search needs)
-    (λ c. search needs)
-    (λ c. search needs)
-    leap-requires
+jump-spec = tie.close (tie.spec (λ c. search needs) (λ c. search needs) (λ c. search needs) (λ c. search needs) (λ c. search needs) leap-requires
     start-of-requires
     cast-answers
     mul-answers
@@ -93,6 +80,5 @@ jump-spec =
     cast-answers-2
     add-answers
     mul-answers-2
-    slice-write-answers-2
-    (λ c. search needs)
+    slice-write-answers-2 (λ c. search needs)
     returns)

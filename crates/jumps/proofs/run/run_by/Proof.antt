@@ -1,9 +1,6 @@
 -- `run::run_by` meets its contract: what was made once is what every jump goes by, and a text with no high code point needs no ranges of the letters.
 -- Assumes nothing.
-use mathlib.Core.Path.{_≡_, sym, _∙_}
-use Prim.Native.Nat.{ℕ}
-use native.Mathlib.Omega.{arith}
-use borrow.Author.Needs.{needs}
+use Rattle.lists.proofs.Kit.{_≡_, sym, _∙_, ℕ, arith, needs}
 use Rattle.words.proofs.Made.{made-folded}
 use Rattle.jumps.proofs.Running.{ran-as}
 use Rattle.jumps.proofs.run.run_by.Statement.{statement}
@@ -56,6 +53,5 @@ returns-2 c =
     ran-as (at-prepare .prepare .ensures .kinds) (ran .run .ensures)
 
 pub run-by-spec : {M : Type 1} → statement M
-run-by-spec =
-    tie.close
+run-by-spec = tie.close
     (tie.spec (λ c κs. search needs) run-with-letters-requires same-length returns (λ c. search needs) (λ c. search needs) run-requires same-length-2 returns-2)

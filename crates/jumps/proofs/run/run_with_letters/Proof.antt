@@ -1,6 +1,5 @@
 -- `run::run_with_letters` meets its contract: the consts are the starts and the lengths of the letters' ranges. Assumes nothing.
-use mathlib.Core.Path.{refl}
-use borrow.Author.Needs.{needs}
+use Rattle.lists.proofs.Kit.{refl, needs}
 use Rattle.letters.specs.Letters.{letters}
 use Rattle.jumps.proofs.run.run_with_letters.Statement.{statement}
 use Rattle.jumps.proofs.run.run_with_letters.Tie as tie

@@ -1,6 +1,5 @@
 -- `keywords::KeywordSpec::parse` meets its contract: refusal 7, then what reading the list gives. Assumes nothing.
-use mathlib.Core.Path.{sym, _∙_}
-use borrow.Author.Needs.{needs}
+use Rattle.lists.proofs.Kit.{sym, _∙_, needs}
 use Rattle.keywords.proofs.RefusalLaws.{parsed-refused}
 use Rattle.keywords.proofs.KeywordSpec.parse.Statement.{statement}
 use Rattle.keywords.proofs.KeywordSpec.parse.Tie as tie

@@ -1,10 +1,6 @@
 -- `keywords::bounds_of` meets its contract. The invariant of its loop: the bounds of the tokens before i are stored, and after them stands 0.
 -- The measure is the table's length less i. Assumes nothing.
-use Prim.Native.Nat.{_-_, _≤_}
-use mathlib.Core.Path.{_≡_, refl}
-use native.Mathlib.Omega.{arith}
-use borrow.Author.Needs.{needs}
-use lib.ListN.{length, take}
+use Rattle.lists.proofs.Kit.{_≡_, refl, _-_, _≤_, arith, length, take, needs}
 use Rattle.keywords.specs.Flat.{flat, padded}
 use Rattle.list_tokens.proofs.Lists.{places}
 use Rattle.keywords.proofs.FlatLaws.{flat-push}
@@ -39,24 +35,8 @@ returns c =
     rw (← i-is) (at-loop.inv .1)
 
 pub bounds-of-spec : {M : Type 1} → statement M
-bounds-of-spec =
-    tie.close
-    (tie.spec
-    Inv-loop
-    μ-loop
-    loop-holds
-    (λ c. search needs)
-    (λ c. search needs)
-    (λ c κs. search needs)
-    (λ c. search needs)
-    (λ c. search needs)
-    (λ c. search needs)
-    (λ c κs. search needs)
-    (λ c. search needs)
-    (λ c. search needs)
-    (λ c. search needs)
-    (λ c. search needs)
-    (λ c. search needs)
-    (λ c. search needs)
+bounds-of-spec = tie.close (tie.spec Inv-loop μ-loop loop-holds (λ c. search needs) (λ c. search needs) (λ c κs. search needs) (λ c. search needs)
+    (λ c. search needs) (λ c. search needs) (λ c κs. search needs) (λ c. search needs) (λ c. search needs) (λ c. search needs) (λ c. search needs)
+    (λ c. search needs) (λ c. search needs)
     loop-again
     returns)

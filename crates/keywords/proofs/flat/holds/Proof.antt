@@ -1,7 +1,5 @@
 -- `keywords::holds` meets its contract: the letters first, where they count, and then the bounds. Assumes nothing.
-use mathlib.Core.Path.{sym, _∙_}
-use borrow.Author.Needs.{needs}
-use borrow.Author.Tests.{not-true, not-false}
+use Rattle.lists.proofs.Kit.{sym, _∙_, needs, not-true, not-false}
 use Rattle.keywords.proofs.flat.holds.Statement.{statement}
 use Rattle.keywords.proofs.flat.holds.Tie as tie
 
@@ -22,16 +20,7 @@ returns-3 c =
     rw (
       not-false (at-start .args .alphabetic) (c .before .before .before .if1 .left),
       sym (c .before .before .letter-in .ensures) ∙ c .before .if2 .left,
-    )
-    (c .in-bounds2 .ensures)
+    ) (c .in-bounds2 .ensures)
 
 pub holds-spec : {M : Type 1} → statement M
-holds-spec =
-    tie.close
-    (tie.spec
-    (λ c κs. search needs)
-    returns
-    (λ c κs. search needs)
-    returns-2
-    (λ c κs. search needs)
-    returns-3)
+holds-spec = tie.close (tie.spec (λ c κs. search needs) returns (λ c κs. search needs) returns-2 (λ c κs. search needs) returns-3)

@@ -1,17 +1,14 @@
 -- `keywords::flat::in_bounds` meets its contract. The invariant of its loop: no pair before i holds c. The measure is n less i.
 -- Assumes nothing.
-use Prim.Native.Nat.{_+_, _-_, _≤_}
-use mathlib.Core.Path.{_≡_, sym, _∙_}
-use native.Mathlib.Omega.{arith}
-use borrow.Author.Needs.{needs}
-use lib.ListN.{take, drop}
+use Rattle.lists.proofs.Kit.{_+_, _-_, arith, take, drop, needs}
+use Rattle.lists.proofs.Decides.{Decides, decides-stop, decides-on, decides-end}
 use Rattle.keywords.specs.Flat.{within}
-use Rattle.keywords.proofs.FlatLaws.{within-hit, within-on, within-end}
+use Rattle.keywords.proofs.FlatLaws.{within-on, within-end}
 use Rattle.keywords.proofs.flat.in_bounds.Statement.{statement}
 use Rattle.keywords.proofs.flat.in_bounds.Tie as tie
 
 abbrev Inv-loop : tie.InvT-loop
-Inv-loop bounds n c i₀ i = (i ≤ n) × (within (take (n + n) bounds) c ≡ within (drop (i + i) (take (n + n) bounds)) c)
+Inv-loop bounds n c i₀ i = Decides (within (take (n + n) bounds) c) (λ j. within (drop (j + j) (take (n + n) bounds)) c) n i
 
 abbrev μ-loop : tie.MeasureT-loop
 μ-loop bounds n c i₀ i = n - i
@@ -20,36 +17,25 @@ returns : tie.Need-returns Inv-loop μ-loop
 returns c =
     let at-start = c .before .before .before .before .before in
     let at-loop = c .before .before .before .before .loop in
-    sym (at-loop.inv .1 ∙ within-hit at-start.args.bounds.now at-start.args.n at-loop.i at-start.args.c (omega arith) at-start.pre (c .if1 .taken))
+    decides-stop at-loop.inv (at-loop.i + 1) (within-on at-start.args.bounds.now at-start.args.n at-loop.i at-start.args.c (omega arith) at-start.pre)
+    (c .if1 .taken)
 
 loop-again : tie.Need-loop-again Inv-loop μ-loop
 loop-again c =
     let at-start = c .before .before .before .before .before in
     let at-loop = c .before .before .before .before .loop in
-    (omega arith, at-loop.inv .1 ∙ within-on at-start.args.bounds.now at-start.args.n at-loop.i at-start.args.c (omega arith) at-start.pre (c .if1 .left))
+    decides-on at-loop.inv (at-loop.i + 1) (within-on at-start.args.bounds.now at-start.args.n at-loop.i at-start.args.c (omega arith) at-start.pre)
+    (omega arith) (c .if1 .left)
 
 returns-2 : tie.Need-returns-2 Inv-loop μ-loop
 returns-2 c =
     let at-start = c .before .before in
     let at-loop = c .before .loop in
-    sym (at-loop.inv .1 ∙ within-end at-start.args.bounds.now at-start.args.n at-loop.i at-start.args.c (c .loop-test .left) at-start.pre)
+    decides-end at-loop.inv (within-end at-start.args.bounds.now at-start.args.n at-loop.i at-start.args.c (c .loop-test .left) at-start.pre)
 
 pub in-bounds-spec : {M : Type 1} → statement M
-in-bounds-spec =
-    tie.close
-    (tie.spec
-    Inv-loop
-    μ-loop
-    (λ c. search needs)
-    (λ c. search needs)
-    (λ c. search needs)
-    (λ c. search needs)
-    (λ c. search needs)
-    (λ c. search needs)
-    (λ c. search needs)
-    (λ c. search needs)
-    returns
-    (λ c. search needs)
-    (λ c. search needs)
+in-bounds-spec = tie.close (tie.spec Inv-loop μ-loop (λ c. search needs) (λ c. search needs) (λ c. search needs) (λ c. search needs) (λ c. search needs)
+    (λ c. search needs) (λ c. search needs) (λ c. search needs)
+    returns (λ c. search needs) (λ c. search needs)
     loop-again
     returns-2)

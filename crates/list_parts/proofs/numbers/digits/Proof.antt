@@ -1,10 +1,6 @@
 -- `list_parts::numbers::digits` meets its contract. The invariant of its loop: the digits before i have the value `sum`, which is below 2^32,
 -- and reading on from them gives the number. The measure is the part's length less i. Assumes nothing.
-use Prim.Native.Nat.{_-_, _≤_}
-use mathlib.Core.Path.{_≡_, sym, _∙_}
-use native.Mathlib.Omega.{arith}
-use borrow.Author.Needs.{needs}
-use lib.ListN.{length, drop}
+use Rattle.lists.proofs.Kit.{_≡_, sym, _∙_, _-_, _≤_, arith, length, drop, needs}
 use Rattle.list_parts.specs.Numbers.{digitsOf, numberFrom}
 use Rattle.list_parts.proofs.NumberLaws.{digits-none, digits-some, number-below, number-above, number-too-large, number-digit, number-end}
 use Rattle.list_parts.proofs.numbers.digits.Statement.{statement}
@@ -34,18 +30,14 @@ returns-3 : tie.Need-returns-3 Inv-loop μ-loop
 returns-3 c =
     let at-start = c .before .before .before .before .before .before in
     let at-loop = c .before .before .before .before .loop in
-    number-above (at-start .args .p .now) at-loop.i at-loop.sum (c .before .before .before .loop-test .taken) (c .if3 .taken)
-    ∙ sym (at-loop.inv .2)
+    number-above (at-start .args .p .now) at-loop.i at-loop.sum (c .before .before .before .loop-test .taken) (c .if3 .taken) ∙ sym (at-loop.inv .2)
 
 -- too large, and it stays so
 returns-4 : tie.Need-returns-4 Inv-loop μ-loop
 returns-4 c =
     let at-start = c .before .before .before .before .before .before .before in
     let at-loop = c .before .before .before .before .before .loop in
-    number-too-large _ _ (c .if4 .taken)
-    ∙ sym
-    (at-loop.inv .2
-    ∙ number-digit (at-start .args .p .now) at-loop.i at-loop.sum (omega arith)
+    number-too-large _ _ (c .if4 .taken) ∙ sym (at-loop.inv .2 ∙ number-digit (at-start .args .p .now) at-loop.i at-loop.sum (omega arith)
     (c .before .before .if2 .left) (c .before .if3 .left))
 
 -- one digit more
@@ -55,9 +47,7 @@ loop-again c =
     let at-loop = c .before .before .before .before .before .loop in (
       omega arith,
       c .if4 .left,
-      at-loop.inv .2
-          ∙ number-digit (at-start .args .p .now) at-loop.i at-loop.sum (omega arith)
-          (c .before .before .if2 .left) (c .before .if3 .left),
+      at-loop.inv .2 ∙ number-digit (at-start .args .p .now) at-loop.i at-loop.sum (omega arith) (c .before .before .if2 .left) (c .before .if3 .left),
     )
 
 returns-5 : tie.Need-returns-5 Inv-loop μ-loop
@@ -66,23 +56,8 @@ returns-5 c =
     number-end (c .before .before .before .args .p .now) at-loop.i at-loop.sum (c .loop-test .left) (at-loop.inv .1) ∙ sym (at-loop.inv .2)
 
 pub digits-spec : {M : Type 1} → statement M
-digits-spec =
-    tie.close
-    (tie.spec
-    Inv-loop
-    μ-loop
-    returns
-    loop-holds
-    (λ c. search needs)
-    (λ c. search needs)
-    returns-2
-    returns-3
-    (λ c. search needs)
-    (λ c. search needs)
-    (λ c. search needs)
-    returns-4
-    (λ c. search needs)
-    (λ c. search needs)
-    loop-again
-    (λ c. search needs)
+digits-spec = tie.close (tie.spec Inv-loop μ-loop returns loop-holds (λ c. search needs) (λ c. search needs) returns-2 returns-3 (λ c. search needs)
+    (λ c. search needs) (λ c. search needs)
+    returns-4 (λ c. search needs) (λ c. search needs)
+    loop-again (λ c. search needs)
     returns-5)

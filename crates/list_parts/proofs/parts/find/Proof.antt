@@ -1,10 +1,6 @@
 -- `list_parts::parts::find` meets its contract. The invariant of its loop: the first x stands at or after i. The measure is the list's length
 -- less i. Assumes nothing.
-use Prim.Native.Nat.{_+_, _-_, _≤_}
-use mathlib.Core.Path.{_≡_}
-use native.Mathlib.Omega.{arith}
-use borrow.Author.Needs.{needs}
-use lib.ListN.{length, drop}
+use Rattle.lists.proofs.Kit.{_≡_, _+_, _-_, _≤_, arith, length, drop, needs}
 use Rattle.lists.specs.Lists.{upTo}
 use Rattle.lists.proofs.Finding.{up-to-stop, up-to-on, up-to-end}
 use Rattle.list_parts.proofs.parts.find.Statement.{statement}
@@ -32,16 +28,6 @@ returns-2 c =
     omega (arith, up-to-end at-start.args.list.now (c .before .loop .i) at-start.args.x (c .loop-test .left))
 
 pub find-spec : {M : Type 1} → statement M
-find-spec =
-    tie.close
-    (tie.spec
-    Inv-loop
-    μ-loop
-    (λ c. search needs)
-    (λ c. search needs)
-    (λ c. search needs)
-    returns
-    (λ c. search needs)
-    (λ c. search needs)
+find-spec = tie.close (tie.spec Inv-loop μ-loop (λ c. search needs) (λ c. search needs) (λ c. search needs) returns (λ c. search needs) (λ c. search needs)
     loop-again
     returns-2)

@@ -1,7 +1,5 @@
 -- `list_parts::parts::trimmed` meets its contract: both ends are trimmed by the table WHITE, the start first. Assumes nothing.
-use mathlib.Core.Path.{refl, sym}
-use borrow.Author.Needs.{needs}
-use lib.Seq.{length-take-le}
+use Rattle.lists.proofs.Kit.{refl, sym, length-take-le, needs}
 use Rattle.chars.specs.White.{whites}
 use Rattle.list_parts.proofs.TrimLaws.{trim-is}
 use Rattle.list_parts.proofs.parts.trimmed.Statement.{statement}
@@ -22,15 +20,7 @@ returns : tie.Need-returns
 returns c = trim-is _ _ _ (c .before .before .before .before .trim-start .ensures) (c .before .trim-end .ensures)
 
 pub trimmed-spec : {M : Type 1} → statement M
-trimmed-spec =
-    tie.close
-    (tie.spec
-    (λ c. search needs)
-    trim-start-requires
-    (λ c. search needs)
-    (λ c. search needs)
-    (λ c. search needs)
-    (λ c. search needs)
+trimmed-spec = tie.close (tie.spec (λ c. search needs) trim-start-requires (λ c. search needs) (λ c. search needs) (λ c. search needs) (λ c. search needs)
     (λ c. search needs)
     trim-end-requires
     slice-aggregate-result

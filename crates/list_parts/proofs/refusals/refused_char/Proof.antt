@@ -1,6 +1,5 @@
 -- `list_parts::refusals::refused_char` meets its contract: the test is that of the definition. Assumes nothing.
-use mathlib.Core.Path.{sym, _∙_}
-use borrow.Author.Needs.{needs}
+use Rattle.lists.proofs.Kit.{sym, _∙_, needs}
 use Rattle.list_parts.proofs.refusals.refused_char.Statement.{statement}
 use Rattle.list_parts.proofs.refusals.refused_char.Tie as tie
 

@@ -1,7 +1,5 @@
 -- `list_parts::refusals::refused_list` meets its contract: the tests are those of the definition. Assumes nothing.
-use mathlib.Core.Path.{sym, _∙_}
-use borrow.Author.Needs.{needs}
-use borrow.Author.Tests.{not-true, not-false, le-leb, lt-leb}
+use Rattle.lists.proofs.Kit.{sym, _∙_, needs, not-true, not-false, le-leb, lt-leb}
 use Rattle.list_parts.proofs.refusals.refused_list.Statement.{statement}
 use Rattle.list_parts.proofs.refusals.refused_list.Tie as tie
 

@@ -1,10 +1,6 @@
 -- `list_signs::convert::count_plain` meets its contract. The invariant of its loop: n are those before i. The measure is the list's length less
 -- i. Assumes nothing.
-use Prim.Native.Nat.{_+_, _-_, _≤_}
-use mathlib.Core.Path.{_≡_, ap}
-use native.Mathlib.Omega.{arith}
-use borrow.Author.Needs.{needs}
-use lib.ListN.{length, drop}
+use Rattle.lists.proofs.Kit.{_≡_, ap, _+_, _-_, _≤_, arith, length, drop, needs}
 use Rattle.list_signs.specs.Plain.{without}
 use Rattle.list_signs.proofs.ListLaws.{without-skip, without-keep, without-end}
 use Rattle.list_signs.proofs.convert.count_plain.Statement.{statement}
@@ -36,18 +32,7 @@ returns c =
     omega (arith, c .before .loop .inv .2, ap length (without-end given.list.now given.marks.now (c .before .loop .i) (c .loop-test .left)))
 
 pub count-plain-spec : {M : Type 1} → statement M
-count-plain-spec =
-    tie.close
-    (tie.spec
-    Inv-loop
-    μ-loop
-    (λ c. search needs)
-    (λ c. search needs)
-    (λ c. search needs)
-    (λ c. search needs)
-    loop-again
-    (λ c. search needs)
-    (λ c. search needs)
-    (λ c. search needs)
+count-plain-spec = tie.close (tie.spec Inv-loop μ-loop (λ c. search needs) (λ c. search needs) (λ c. search needs) (λ c. search needs) loop-again
+    (λ c. search needs) (λ c. search needs) (λ c. search needs)
     loop-again-2
     returns)

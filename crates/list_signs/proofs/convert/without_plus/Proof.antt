@@ -1,7 +1,5 @@
 -- `list_signs::convert::without_plus` meets its contract: everything is tested before anything is written. Assumes nothing.
-use mathlib.Core.Path.{_≡_, ap, sym, _∙_}
-use native.Mathlib.Omega.{arith}
-use borrow.Author.Needs.{needs}
+use Rattle.lists.proofs.Kit.{arith, needs}
 use Rattle.list_signs.proofs.Answers.{short, enough, made-7, made-14, made}
 use Rattle.list_signs.proofs.convert.without_plus.Statement.{statement}
 use Rattle.list_signs.proofs.convert.without_plus.Tie as tie
@@ -45,16 +43,6 @@ returns-3 c =
     (at-marks .marks-of .ensures) _ _ (at-count .count-plain .ensures) _ (at-write .before .before .before .if2 .left) (at-write .write-plain .ensures)
 
 pub without-plus-spec : {M : Type 1} → statement M
-without-plus-spec =
-    tie.close
-    (tie.spec
-    (λ c κs. search needs)
-    returns
-    marks-of-requires
-    (λ c. search needs)
-    count-plain-requires
-    returns-2
-    (λ c. search needs)
-    write-plain-requires
-    (λ c. search needs)
+without-plus-spec = tie.close (tie.spec (λ c κs. search needs) returns marks-of-requires (λ c. search needs) count-plain-requires returns-2 (λ c. search needs)
+    write-plain-requires (λ c. search needs)
     returns-3)

@@ -1,10 +1,6 @@
 -- `list_signs::convert::write_plain` meets its contract. The invariant of its loop: the first n of what has no mark are written. The measure is
 -- the list's length less i. Assumes nothing.
-use Prim.Native.Nat.{_-_, _≤_}
-use mathlib.Core.Path.{_≡_}
-use native.Mathlib.Omega.{arith}
-use borrow.Author.Needs.{needs}
-use lib.ListN.{length}
+use Rattle.lists.proofs.Kit.{_-_, _≤_, arith, length, needs}
 use Rattle.list_signs.proofs.ListLaws.{Writing, writing-start, writing-skip, writing-room, writing-keep, writing-end}
 use Rattle.list_signs.proofs.convert.write_plain.Statement.{statement}
 use Rattle.list_signs.proofs.convert.write_plain.Tie as tie
@@ -14,9 +10,6 @@ Inv-loop list marks room₀ n₀ i₀ room n i = (i ≤ length list) × Writing 
 
 abbrev μ-loop : tie.MeasureT-loop
 μ-loop list marks room₀ n₀ i₀ room n i = length list - i
-
-loop-holds : tie.Need-loop-holds Inv-loop μ-loop
-loop-holds c = (omega arith, writing-start _ _ _)
 
 loop-again : tie.Need-loop-again Inv-loop μ-loop
 loop-again c =
@@ -29,48 +22,14 @@ slice-write-room c =
     let fits = writing-room _ _ _ _ _ _ (at-loop .loop .inv .1) (omega arith) (omega arith) (c .before .if1 .left) in
     omega (arith, fits, at-loop .loop .inv .1 .same)
 
-mul-room-2 : tie.Need-mul-room-2 Inv-loop μ-loop
-mul-room-2 c =
-    let at-loop = c .before .before .before .before in
-    let fits = writing-room _ _ _ _ _ _ (at-loop .loop .inv .1) (omega arith) (omega arith) (c .before .if1 .left) in
-    omega (arith, fits, at-loop .loop .inv .1 .same)
-
-add-n : tie.Need-add-n Inv-loop μ-loop
-add-n c =
-    let at-loop = c .before .before .before .before in
-    let fits = writing-room _ _ _ _ _ _ (at-loop .loop .inv .1) (omega arith) (omega arith) (c .before .if1 .left) in
-    omega (arith, fits, at-loop .loop .inv .1 .same)
-
 loop-again-2 : tie.Need-loop-again-2 Inv-loop μ-loop
 loop-again-2 c =
     let at-loop = c .before .before .before .before in
     let enough = at-loop .before .pre .1 in
     (omega arith, writing-keep _ _ _ _ _ _ (at-loop .loop .inv .1) (omega arith) (omega arith) (c .before .if1 .left) enough)
 
-same-length : tie.Need-same-length Inv-loop μ-loop
-same-length c = c .before .loop .inv .1 .same
-
-returns : tie.Need-returns Inv-loop μ-loop
-returns c = writing-end _ _ _ _ _ _ (c .before .loop .inv .1) (c .loop-test .left)
-
 pub write-plain-spec : {M : Type 1} → statement M
-write-plain-spec =
-    tie.close
-    (tie.spec
-    Inv-loop
-    μ-loop
-    loop-holds
-    (λ c. search needs)
-    (λ c. search needs)
-    (λ c. search needs)
-    loop-again
-    (λ c. search needs)
-    (λ c. search needs)
-    mul-room-2
-    slice-write-room
-    add-n
-    (λ c. search needs)
-    (λ c. search needs)
-    loop-again-2
-    same-length
-    returns)
+write-plain-spec = tie.close
+    (tie.spec Inv-loop μ-loop (λ c. search (needs, writing-start)) (λ c. search needs) (λ c. search needs) (λ c. search needs) loop-again
+    (λ c. search needs) (λ c. search needs) (λ c. search (needs, writing-room)) slice-write-room (λ c. search (needs, writing-room))
+    (λ c. search needs) (λ c. search needs) loop-again-2 (λ c. search needs) (λ c. search (needs, writing-end)))

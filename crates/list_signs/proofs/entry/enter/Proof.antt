@@ -1,13 +1,11 @@
 -- `list_signs::entry::enter` meets its contract: the tests are those of the definition, in its order. Assumes nothing.
-use mathlib.Core.Path.{_∙_}
-use borrow.Author.Needs.{needs}
+use Rattle.lists.proofs.Kit.{_∙_, needs}
 use Rattle.list_signs.proofs.Answers.{short, enough, entered-7, entered-21, entered-else}
 use Rattle.list_signs.proofs.entry.enter.Statement.{statement}
 use Rattle.list_signs.proofs.entry.enter.Tie as tie
 
 returns : tie.Need-returns
-returns c =
-    c .refused-at .ensures
+returns c = c .refused-at .ensures
     ∙ entered-7 (c .before .before .before .before .args .list .now) _ (c .before .before .refused-list .ensures) (c .before .if1 .taken)
 
 marks-of-requires : tie.Need-marks-of-requires
@@ -24,29 +22,10 @@ returns-2 c =
     let at-first = c .before .before in
     let at-marks = at-first .before .before in
     let at-check = at-marks .before in
-    c .refused-at2 .ensures
-    ∙ entered-21 (at-check .before .before .before .args .list .now) _ (at-check .before .refused-list .ensures) (at-check .if1 .left) _
+    c .refused-at2 .ensures ∙ entered-21 (at-check .before .before .before .args .list .now) _ (at-check .before .refused-list .ensures) (at-check .if1 .left) _
     (at-marks .marks-of .ensures) _ (at-first .first-mark .ensures) (c .before .if2 .taken)
 
-returns-3 : tie.Need-returns-3
-returns-3 c =
-    let at-first = c .before .before .before in
-    let at-marks = at-first .before .before in
-    let at-check = at-marks .before in
-    entered-else (at-check .before .before .before .args .list .now) _ (at-check .before .refused-list .ensures) (at-check .if1 .left) _
-    (at-marks .marks-of .ensures) _ (at-first .first-mark .ensures) _ (c .before .before .if2 .left) (c .before .parse .ensures)
-
 pub enter-spec : {M : Type 1} → statement M
-enter-spec =
-    tie.close
-    (tie.spec
-    (λ c κs. search needs)
-    (λ c κs. search needs)
-    returns
-    marks-of-requires
-    (λ c. search needs)
-    first-mark-requires
-    (λ c κs. search needs)
-    returns-2
-    (λ c κs. search needs)
-    returns-3)
+enter-spec = tie.close
+    (tie.spec (λ c κs. search needs) (λ c κs. search needs) returns marks-of-requires (λ c. search needs) first-mark-requires (λ c κs. search needs)
+    returns-2 (λ c κs. search needs) (λ c. search (needs, entered-else)))

@@ -1,10 +1,6 @@
 -- `list_signs::entry::first_mark` meets its contract. The invariant of its loop: no mark before i is true. The measure is the list's length less
 -- i. Assumes nothing.
-use Prim.Native.Nat.{_+_, _-_, _≤_}
-use mathlib.Core.Path.{_≡_}
-use native.Mathlib.Omega.{arith}
-use borrow.Author.Needs.{needs}
-use lib.ListN.{length, drop}
+use Rattle.lists.proofs.Kit.{_≡_, _+_, _-_, _≤_, arith, length, drop, needs}
 use Rattle.list_signs.specs.Plain.{firstIn}
 use Rattle.list_signs.proofs.ListLaws.{first-hit, first-on, first-end}
 use Rattle.list_signs.proofs.entry.first_mark.Statement.{statement}
@@ -34,15 +30,5 @@ returns-2 c =
     omega (arith, c .before .loop .inv .1, first-end given.list.now given.marks.now (c .before .loop .i) (c .loop-test .left))
 
 pub first-mark-spec : {M : Type 1} → statement M
-first-mark-spec =
-    tie.close
-    (tie.spec
-    Inv-loop
-    μ-loop
-    (λ c. search needs)
-    (λ c. search needs)
-    returns
-    (λ c. search needs)
-    (λ c. search needs)
-    loop-again
+first-mark-spec = tie.close (tie.spec Inv-loop μ-loop (λ c. search needs) (λ c. search needs) returns (λ c. search needs) (λ c. search needs) loop-again
     returns-2)

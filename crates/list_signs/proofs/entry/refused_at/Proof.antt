@@ -1,5 +1,4 @@
 -- `list_signs::entry::refused_at` meets its contract: the table is the empty one. Assumes nothing.
-use mathlib.Core.Path.{ap}
 use borrow.Author.Needs.{needs}
 use Rattle.list_signs.proofs.entry.refused_at.Statement.{statement}
 use Rattle.list_signs.proofs.entry.refused_at.Tie as tie

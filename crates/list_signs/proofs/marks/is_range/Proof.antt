@@ -1,9 +1,5 @@
 -- `list_signs::marks::is_range` meets its contract: the numbers on both sides of the first `-`. Assumes nothing.
-use mathlib.Core.Path.{ap, sym, _∙_}
-use native.Mathlib.Omega.{arith}
-use borrow.Author.Needs.{needs}
-use borrow.Author.Tests.{not-true, not-false}
-use lib.Seq.{length-take-le}
+use Rattle.lists.proofs.Kit.{sym, _∙_, arith, length-take-le, needs, not-true, not-false}
 use Rattle.list_signs.proofs.RangeLaws.{no-range, both-range}
 use Rattle.list_signs.proofs.marks.is_range.Statement.{statement}
 use Rattle.list_signs.proofs.marks.is_range.Tie as tie
@@ -29,18 +25,6 @@ returns-3 c =
     sym (both-range at-find.before.before.args.p.now at-find.find.result at-find.find.ensures (omega arith) ∙ rw (first, ← c .is-number2 .ensures))
 
 pub is-range-spec : {M : Type 1} → statement M
-is-range-spec =
-    tie.close
-    (tie.spec
-    (λ c κs. search needs)
-    returns
-    (λ c. search needs)
-    slice-aggregate-is-number
-    (λ c κs. search needs)
-    returns-2
-    (λ c. search needs)
-    (λ c. search needs)
-    (λ c. search needs)
-    (λ c. search needs)
-    (λ c κs. search needs)
+is-range-spec = tie.close (tie.spec (λ c κs. search needs) returns (λ c. search needs) slice-aggregate-is-number (λ c κs. search needs) returns-2
+    (λ c. search needs) (λ c. search needs) (λ c. search needs) (λ c. search needs) (λ c κs. search needs)
     returns-3)

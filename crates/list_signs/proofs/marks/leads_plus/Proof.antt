@@ -1,16 +1,8 @@
 -- `list_signs::marks::leads_plus` meets its contract: the tests of the definition in their order. Assumes nothing.
-use mathlib.Core.Path.{sym, _∙_}
-use borrow.Author.Needs.{needs}
-use borrow.Author.Tests.{eq-eqb, ne-eqb}
+use Rattle.lists.proofs.Kit.{sym, _∙_, needs, eq-eqb, ne-eqb}
 use Rattle.list_signs.proofs.RangeLaws.{leads-none}
 use Rattle.list_signs.proofs.marks.leads_plus.Statement.{statement}
 use Rattle.list_signs.proofs.marks.leads_plus.Tie as tie
-
-returns : tie.Need-returns
-returns c = sym (leads-none (c .before .before .args .p .now) (c .if1 .taken))
-
-returns-2 : tie.Need-returns-2
-returns-2 c = rw (ne-eqb _ _ (c .if2 .taken))
 
 returns-3 : tie.Need-returns-3
 returns-3 c = rw (eq-eqb _ _ (c .before .before .if2 .left), sym (c .before .is-range .ensures) ∙ c .if3 .taken)
@@ -21,13 +13,5 @@ returns-4 c =
     rw (eq-eqb _ _ (at-range .before .if2 .left), sym (at-range .is-range .ensures) ∙ c .before .if3 .left) (c .is-number .ensures)
 
 pub leads-plus-spec : {M : Type 1} → statement M
-leads-plus-spec =
-    tie.close
-    (tie.spec
-    returns
-    (λ c. search needs)
-    returns-2
-    (λ c κs. search needs)
-    returns-3
-    (λ c κs. search needs)
-    returns-4)
+leads-plus-spec = tie.close (tie.spec (λ c. search (needs, leads-none)) (λ c. search needs) (λ c. search (needs, ne-eqb)) (λ c κs. search needs) returns-3
+    (λ c κs. search needs) returns-4)

@@ -1,9 +1,5 @@
 -- `list_signs::marks::mark_part` meets its contract: the two marks of the definition, one after the other. Assumes nothing.
-use mathlib.Core.Path.{_≡_, ap, sym, _∙_}
-use Prim.Native.Nat.{_+_}
-use native.Mathlib.Omega.{arith}
-use borrow.Author.Needs.{needs}
-use lib.ListN.{length}
+use Rattle.lists.proofs.Kit.{ap, _∙_, _+_, arith, length, needs}
 use Rattle.lists.proofs.Finding.{up-to-most}
 use Rattle.list_signs.proofs.MarkLaws.{length-marked}
 use Rattle.list_signs.proofs.PartMarks.{part-marked}
@@ -39,30 +35,7 @@ mark-requires-2 c κs =
     let same = ap length (at-mark .mark .ensures) ∙ length-marked (at-mark .before .leads-plus .result) at (at-start .args .marks .now) in
     omega (arith, up-to-most 45 (at-start .args .p .now), c .before .find2 .ensures, at-start .pre, same)
 
-returns : tie.Need-returns
-returns c =
-    let at-second = c .before .before in
-    let at-first = at-second .before .before .before .before .before .before in
-    let at-trim = at-first .before .before .before .before in
-    let given = at-trim .before .before .before .args in
-    part-marked (given .p .now) _ _ _ _ _ _ (given .marks .now) (at-first .mark .last .0) (at-second .mark2 .last .0) (at-trim .trimmed .ensures)
-    (at-first .before .before .find .ensures)
-    (at-first .before .leads-plus .ensures) (at-first .mark .ensures) (at-second .before .before .find2 .ensures) (at-second .before .second-plus .ensures)
-    (at-second .mark2 .ensures)
-
 pub mark-part-spec : {M : Type 1} → statement M
-mark-part-spec =
-    tie.close
-    (tie.spec
-    (λ c κs. search needs)
-    (λ c κs. search needs)
-    add-mark
-    (λ c κs. search needs)
-    mark-requires
-    (λ c κs. search needs)
-    add-mark-2
-    add-mark-3
-    (λ c κs. search needs)
-    mark-requires-2
-    (λ c. search needs)
-    returns)
+mark-part-spec = tie.close
+    (tie.spec (λ c κs. search needs) (λ c κs. search needs) add-mark (λ c κs. search needs) mark-requires (λ c κs. search needs) add-mark-2 add-mark-3
+    (λ c κs. search needs) mark-requires-2 (λ c. search needs) (λ c. search (needs, part-marked)))

@@ -1,11 +1,6 @@
 -- `list_signs::marks::marks_of` meets its contract. The invariant of its loop: the marks of the parts before `from` are made, and there are none
 -- from there on. The measure is how far `from` is from past the list's end. Assumes nothing.
-use Prim.Native.Nat.{_+_, _-_, _≤_}
-use mathlib.Core.Path.{_≡_, ap, sym}
-use native.Mathlib.Omega.{arith}
-use borrow.Author.Needs.{needs}
-use lib.ListN.{length, drop, length-drop}
-use lib.Seq.{length-take-le}
+use Rattle.lists.proofs.Kit.{sym, _+_, _-_, _≤_, arith, length, drop, length-drop, length-take-le, needs}
 use Rattle.lists.proofs.Splits.{next-most}
 use Rattle.list_signs.proofs.Marking.{Marking, marking-start, marking-length, marking-step, marking-end}
 use Rattle.list_signs.proofs.marks.marks_of.Statement.{statement}
@@ -16,9 +11,6 @@ Inv-loop list marks₀ from₀ marks from = (from ≤ length list + 1) × Markin
 
 abbrev μ-loop : tie.MeasureT-loop
 μ-loop list marks₀ from₀ marks from = length list + 1 - from
-
-loop-holds : tie.Need-loop-holds Inv-loop μ-loop
-loop-holds c = (omega arith, marking-start _)
 
 part-mark-part-end : tie.Need-part-mark-part-end Inv-loop μ-loop
 part-mark-part-end c =
@@ -49,13 +41,6 @@ add-from c =
     let at-start = at-loop .before .before in
     omega (arith, at-find .find .ensures, next-most 44 (at-start .args .list .now) (at-loop .loop .from) (at-find .before .loop-test .taken), at-start .pre)
 
-loop-less : tie.Need-loop-less Inv-loop μ-loop
-loop-less c =
-    let at-find = c .before .before .before .before in
-    let at-loop = at-find .before .before in
-    let at-start = at-loop .before .before in
-    omega (arith, at-find .find .ensures, next-most 44 (at-start .args .list .now) (at-loop .loop .from) (at-find .before .loop-test .taken), at-start .pre)
-
 loop-again : tie.Need-loop-again Inv-loop μ-loop
 loop-again c =
     let at-find = c .before .before .before .before in
@@ -74,20 +59,6 @@ returns c =
     marking-end list-now _ _ (c .before .loop .inv .1) (omega (arith, c .loop-test .left))
 
 pub marks-of-spec : {M : Type 1} → statement M
-marks-of-spec =
-    tie.close
-    (tie.spec
-    Inv-loop
-    μ-loop
-    loop-holds
-    (λ c κs. search needs)
-    (λ c. search needs)
-    (λ c. search needs)
-    (λ c. search needs)
-    part-mark-part-end
-    slice-aggregate-mark-part
-    mark-part-requires
-    add-from
-    loop-less
-    loop-again
-    returns)
+marks-of-spec = tie.close
+    (tie.spec Inv-loop μ-loop (λ c. search (needs, marking-start)) (λ c κs. search needs) (λ c. search needs) (λ c. search needs) (λ c. search needs)
+    part-mark-part-end slice-aggregate-mark-part mark-part-requires add-from (λ c. search (needs, next-most)) loop-again returns)

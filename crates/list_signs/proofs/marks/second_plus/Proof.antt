@@ -1,8 +1,5 @@
 -- `list_signs::marks::second_plus` meets its contract: the tests of the definition in their order. Assumes nothing.
-use mathlib.Core.Path.{sym, _∙_}
-use native.Mathlib.Omega.{arith}
-use borrow.Author.Needs.{needs}
-use borrow.Author.Tests.{eq-eqb, ne-eqb}
+use Rattle.lists.proofs.Kit.{sym, _∙_, arith, needs, eq-eqb, ne-eqb}
 use Rattle.lists.proofs.Finding.{up-to-most}
 use Rattle.list_signs.proofs.RangeLaws.{seconds-none, seconds-not, seconds-is}
 use Rattle.list_signs.proofs.marks.second_plus.Statement.{statement}
@@ -21,14 +18,4 @@ returns-3 : tie.Need-returns-3
 returns-3 c = c .is-range .ensures ∙ sym (seconds-is _ _ (c .before .before .before .before .find .ensures) (eq-eqb _ _ (c .before .if2 .left)))
 
 pub second-plus-spec : {M : Type 1} → statement M
-second-plus-spec =
-    tie.close
-    (tie.spec
-    (λ c κs. search needs)
-    add-e
-    returns
-    (λ c. search needs)
-    (λ c. search needs)
-    returns-2
-    (λ c κs. search needs)
-    returns-3)
+second-plus-spec = tie.close (tie.spec (λ c κs. search needs) add-e returns (λ c. search needs) (λ c. search needs) returns-2 (λ c κs. search needs) returns-3)

@@ -1,4 +1,3 @@
--- `list_tokens::Token::high` meets its contract. Assumes nothing.
 use borrow.Author.Tests.{eq-eqb, ne-eqb}
 use Rattle.list_tokens.proofs.Token.high.Statement.{statement}
 use Rattle.list_tokens.proofs.Token.high.Tie as tie

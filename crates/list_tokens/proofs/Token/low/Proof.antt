@@ -1,4 +1,3 @@
--- `list_tokens::Token::low` meets its contract. Assumes nothing.
 use borrow.Author.Tests.{eq-eqb, ne-eqb}
 use Rattle.list_tokens.proofs.Token.low.Statement.{statement}
 use Rattle.list_tokens.proofs.Token.low.Tie as tie

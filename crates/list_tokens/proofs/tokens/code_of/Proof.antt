@@ -1,6 +1,5 @@
 -- `list_tokens::tokens::code_of` meets its contract: the number's value, or the single character. Assumes nothing.
-use mathlib.Core.Path.{sym, _∙_}
-use borrow.Author.Needs.{needs}
+use Rattle.lists.proofs.Kit.{sym, _∙_, needs}
 use Rattle.list_tokens.proofs.tokens.code_of.Statement.{statement}
 use Rattle.list_tokens.proofs.tokens.code_of.Tie as tie
 
@@ -11,13 +10,5 @@ returns-2 : tie.Need-returns-2
 returns-2 c = rw (sym (c .before .before .before .read-number .ensures) ∙ c .before .enum-told .given .1) (c .single-of .ensures)
 
 pub code-of-spec : {M : Type 1} → statement M
-code-of-spec =
-    tie.close
-    (tie.spec
-    (λ c κs. search needs)
-    (λ c. search needs)
-    (λ c κs. search needs)
-    (λ c. search needs)
-    (λ c κs. search needs)
-    returns
+code-of-spec = tie.close (tie.spec (λ c κs. search needs) (λ c. search needs) (λ c κs. search needs) (λ c. search needs) (λ c κs. search needs) returns
     returns-2)

@@ -1,4 +1,3 @@
--- `list_tokens::tokens::is_at` meets its contract. Assumes nothing.
 use borrow.Author.Needs.{needs}
 use Rattle.list_tokens.proofs.TokenLaws.{at-not, at-one}
 use Rattle.list_tokens.proofs.tokens.is_at.Statement.{statement}

@@ -1,7 +1,5 @@
 -- `list_tokens::tokens::read_part` meets its contract: the part up to the next comma, trimmed, is the token's. Assumes nothing.
-use mathlib.Core.Path.{ap, _∙_}
-use native.Mathlib.Omega.{arith}
-use borrow.Author.Needs.{needs}
+use Rattle.lists.proofs.Kit.{ap, _∙_, arith, needs}
 use Rattle.list_tokens.specs.Grammar.{tokenOf}
 use Rattle.lists.proofs.Splits.{next-most}
 use Rattle.list_tokens.proofs.TokenLaws.{step-is}
@@ -26,15 +24,7 @@ returns c =
     (c .token-of .ensures ∙ ap tokenOf (c .before .trimmed .ensures))
 
 pub read-part-spec : {M : Type 1} → statement M
-read-part-spec =
-    tie.close
-    (tie.spec
-    (λ c κs. search needs)
-    (λ c. search needs)
-    (λ c. search needs)
-    (λ c. search needs)
-    part-trimmed-end
-    (λ c κs. search needs)
+read-part-spec = tie.close (tie.spec (λ c κs. search needs) (λ c. search needs) (λ c. search needs) (λ c. search needs) part-trimmed-end (λ c κs. search needs)
     (λ c κs. search needs)
     add-t6
     returns)

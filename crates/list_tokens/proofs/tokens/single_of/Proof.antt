@@ -1,6 +1,4 @@
--- `list_tokens::tokens::single_of` meets its contract. Assumes nothing.
-use mathlib.Core.Path.{_∙_}
-use borrow.Author.Needs.{needs}
+use Rattle.lists.proofs.Kit.{_∙_, needs}
 use Rattle.list_tokens.proofs.TokenLaws.{single-not, single-one}
 use Rattle.list_tokens.proofs.tokens.single_of.Statement.{statement}
 use Rattle.list_tokens.proofs.tokens.single_of.Tie as tie

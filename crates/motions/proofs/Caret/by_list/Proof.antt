@@ -1,7 +1,5 @@
 -- `Caret::by_list` meets its contract: the list's refusal, or the motion by its table, which holds what the list does. Assumes nothing.
-use mathlib.Core.Path.{ap, _∙_}
-use mathlib.Core.List.{List}
-use borrow.Author.Needs.{needs}
+use Rattle.lists.proofs.Kit.{ap, _∙_, List, needs}
 use Rattle.list_tokens.specs.declared.Token.{Token}
 use Rattle.list_tokens.specs.Tokens.{anyToken}
 use Rattle.keywords.specs.declared.Parsed.{Parsed}
@@ -20,16 +18,15 @@ returns c =
 to-word-requires : tie.Need-to-word-requires
 to-word-requires c κs =
     let at-parse = c .before .before in
-    let start = at-parse .before .before .before .before in
-    (start .pre .0, start .pre .1, parse-length (start .args .list .now) (at-parse .parse .result) (at-parse .parse .ensures) (c .if1 .left))
+    let at-start = at-parse .before .before .before .before in
+    (at-start .pre .0, at-start .pre .1, parse-length (at-start .args .list .now) (at-parse .parse .result) (at-parse .parse .ensures) (c .if1 .left))
 
 returns-2 : tie.Need-returns-2
 returns-2 c =
     let at-test = c .before in
     let at-parse = at-test .before .before in
     let given = at-parse .before .before .before .before .args in
-    seek-found (ap (λ (x : Parsed). x .refusal) (at-parse .parse .ensures)) _ _ (at-test .if1 .left)
-    (ap Found (c .to-word .ensures
+    seek-found (ap (λ (x : Parsed). x .refusal) (at-parse .parse .ensures)) _ _ (at-test .if1 .left) (ap Found (c .to-word .ensures
     ∙ ap (λ (ts : List Token). wordCaret (given .t .now) (foldsOf (given .m) (given .folds .now)) (anyToken ts) (given .big) (given .m) (given .stop)
     (given .count) (given .self)) (parse-kept (given .list .now) (at-parse .parse .result) (at-parse .parse .ensures) (at-test .if1 .left))))
 

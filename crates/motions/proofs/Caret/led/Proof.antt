@@ -7,10 +7,10 @@ use Rattle.motions.proofs.Caret.led.Tie as tie
 -- what the walk requires, by what the checks have shown
 walk-as-requires : tie.Need-walk-as-requires
 walk-as-requires c κs =
-    let start = c .before .before .before .before in
-    let given = start .args in
-    let accepted = start .pre .0 in (
-      upright-ready (given .t .now) (given .folds .now) (given .tabstop) (given .self) (given .e) accepted (start .pre .1) (start .pre .2),
+    let at-start = c .before .before .before .before in
+    let given = at-start .args in
+    let accepted = at-start .pre .0 in (
+      upright-ready (given .t .now) (given .folds .now) (given .tabstop) (given .self) (given .e) accepted (at-start .pre .1) (at-start .pre .2),
       accepted .all-rows,
       accepted .content-rows,
     )

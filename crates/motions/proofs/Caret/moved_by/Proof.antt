@@ -1,6 +1,5 @@
 -- `Caret::moved_by` meets its contract: the caret that the answer of `go` leaves. Assumes nothing.
-use mathlib.Core.Path.{ap, _∙_}
-use borrow.Author.Needs.{needs}
+use Rattle.lists.proofs.Kit.{ap, _∙_, needs}
 use Rattle.motions.specs.Going.{landed}
 use Rattle.motions.proofs.Every.{landed-goes}
 use Rattle.motions.proofs.Caret.moved_by.Statement.{statement}
@@ -9,8 +8,7 @@ use Rattle.motions.proofs.Caret.moved_by.Tie as tie
 returns : tie.Need-returns
 returns c =
     let given = c .before .before .before .before .before .args in
-    c .landed .ensures
-    ∙ ap landed (c .before .go .ensures)
+    c .landed .ensures ∙ ap landed (c .before .go .ensures)
     ∙ landed-goes (given .t .now) (given .folds .now) (given .list .now) (given .tabstop) (given .count) (given .self) (given .m)
 
 pub moved-by-spec : {M : Type 1} → statement M

@@ -1,6 +1,5 @@
 -- `Caret::to_edge` meets its contract: the edge is a row of the text. Assumes nothing.
-use mathlib.Core.Path.{ap, _∙_}
-use borrow.Author.Needs.{needs}
+use Rattle.lists.proofs.Kit.{ap, _∙_, needs}
 use Rattle.text.specs.declared.Line.{Line}
 use Rattle.text.proofs.Stands.{line-there}
 use Rattle.vertical.proofs.Edges.{viewport-within}
@@ -13,18 +12,18 @@ use Rattle.motions.proofs.Caret.to_edge.Tie as tie
 
 at-line-requires : tie.Need-at-line-requires
 at-line-requires c κs =
-    let start = c .before .before in
-    let given = start .args in (
+    let at-start = c .before .before in
+    let given = at-start .args in (
       line-there (given .t .now) _ _ (c .viewport-line .ensures) (viewport-within (given .t .now) (given .edge) (given .top) (given .height) (given .offset)),
-      start .pre .brief,
+      at-start .pre .brief,
     )
 
 placed-requires : tie.Need-placed-requires
 placed-requires c κs =
     let at-edge = c .before in
-    let start = at-edge .before .before in
-    let given = start .args in
-    fits (start .pre .brief) (c .at-line .ensures ∙ ap (λ (l : Line). atRow (given .t .now) (l .row)) (at-edge .viewport-line .ensures))
+    let at-start = at-edge .before .before in
+    let given = at-start .args in
+    fits (at-start .pre .brief) (c .at-line .ensures ∙ ap (λ (l : Line). atRow (given .t .now) (l .row)) (at-edge .viewport-line .ensures))
     (row-in (given .t .now) _ (viewport-within (given .t .now) (given .edge) (given .top) (given .height) (given .offset)))
 
 returns : tie.Need-returns

@@ -1,7 +1,6 @@
 -- `Caret::to_partner` meets its contract: the partner that the key goes to from the caret's row and column, by its cases.
 -- Assumes nothing.
-use mathlib.Core.Path.{sym, ap, _∙_}
-use borrow.Author.Needs.{needs}
+use Rattle.lists.proofs.Kit.{sym, ap, _∙_, needs}
 use Rattle.motions.specs.declared.Sought.the-variants.{Found, Missing}
 use Rattle.motions.specs.Finds.{partnerTo}
 use Rattle.motions.proofs.Fitting.{key-fits}
@@ -13,9 +12,9 @@ placed-requires : tie.Need-placed-requires
 placed-requires c κs =
     let at-partner = c .before in
     let at-walk = at-partner .before .before in
-    let start = at-walk .before .before .before .before in
-    let self = start .args .self in
-    key-fits (start .args .t .now) (self .row) (self .col) _ (start .pre .0) (start .pre .1 .brief)
+    let at-start = at-walk .before .before .before .before in
+    let self = at-start .args .self in
+    key-fits (at-start .args .t .now) (self .row) (self .col) _ (at-start .pre .0) (at-start .pre .1 .brief)
     (sym (at-walk .match-bracket-from .ensures) ∙ at-partner .q .given .1)
 
 returns : tie.Need-returns
@@ -42,17 +41,8 @@ returns-3 c =
     ap (partnerTo self) (sym (c .before .f .given .1) ∙ at-walk .match-bracket-from .ensures)
 
 pub to-partner-spec : {M : Type 1} → statement M
-to-partner-spec =
-    tie.close
-    (tie.spec
-    (λ c. search needs)
-    (λ c. search needs)
-    (λ c κs. search needs)
-    (λ c. search needs)
-    placed-requires
-    (λ c. search needs)
-    (λ c κs. search needs)
-    (λ c. search needs)
+to-partner-spec = tie.close (tie.spec (λ c. search needs) (λ c. search needs) (λ c κs. search needs) (λ c. search needs) placed-requires (λ c. search needs)
+    (λ c κs. search needs) (λ c. search needs)
     returns
     returns-2
     returns-3)

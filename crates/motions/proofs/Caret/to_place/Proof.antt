@@ -1,6 +1,5 @@
 -- `Caret::to_place` meets its contract: the position that the move leads to is in the text. Assumes nothing.
-use mathlib.Core.Path.{ap, _∙_}
-use borrow.Author.Needs.{needs}
+use Rattle.lists.proofs.Kit.{ap, _∙_, needs}
 use Rattle.steps.proofs.Staying.{accepted-in}
 use Rattle.text_moves.proofs.Going.{gone-in}
 use Rattle.motions.specs.Carets.{here, put}
@@ -10,9 +9,9 @@ use Rattle.motions.proofs.Caret.to_place.Tie as tie
 
 placed-requires : tie.Need-placed-requires
 placed-requires c κs =
-    let start = c .before .before .before .before in
-    let given = start .args in
-    fits (start .pre .brief) (c .go .ensures) (gone-in (given .t .now) (given .w) (given .count) (here (given .self)) (accepted-in (start .pre)))
+    let at-start = c .before .before .before .before in
+    let given = at-start .args in
+    fits (at-start .pre .brief) (c .go .ensures) (gone-in (given .t .now) (given .w) (given .count) (here (given .self)) (accepted-in (at-start .pre)))
 
 returns : tie.Need-returns
 returns c =

@@ -1,7 +1,5 @@
 -- `Caret::to_row_kept` meets its contract: the target is in the text, and with the offset that was kept it becomes a caret. Assumes nothing.
-use mathlib.Core.Path.{ap, _∙_}
-use native.Mathlib.Omega.{arith}
-use borrow.Author.Needs.{needs}
+use Rattle.lists.proofs.Kit.{ap, _∙_, arith, needs}
 use Rattle.motions.specs.UpDown.{atKept}
 use Rattle.motions.proofs.Upright.{upright-ready, target-fits}
 use Rattle.motions.proofs.Caret.to_row_kept.Statement.{statement}
@@ -10,24 +8,24 @@ use Rattle.motions.proofs.Caret.to_row_kept.Tie as tie
 cast-with : tie.Need-cast-with
 cast-with c =
     let led = c .before .before in
-    let start = led .before .before .before in
-    let given = start .args in
+    let at-start = led .before .before .before in
+    let given = at-start .args in
     omega (
       arith,
       target-fits (given .self)
-          (upright-ready (given .t .now) (given .folds .now) (given .tabstop) (given .self) (given .e) (start .pre .0) (start .pre .1) (start .pre .2))
+          (upright-ready (given .t .now) (given .folds .now) (given .tabstop) (given .self) (given .e) (at-start .pre .0) (at-start .pre .1) (at-start .pre .2))
           (given .ambiguous) (given .mode) (given .width) (given .down) (given .count) (given .self .offset) _ (led .led .ensures),
     )
 
 cast-with-2 : tie.Need-cast-with-2
 cast-with-2 c =
     let led = c .before .before .before in
-    let start = led .before .before .before in
-    let given = start .args in
+    let at-start = led .before .before .before in
+    let given = at-start .args in
     omega (
       arith,
       target-fits (given .self)
-          (upright-ready (given .t .now) (given .folds .now) (given .tabstop) (given .self) (given .e) (start .pre .0) (start .pre .1) (start .pre .2))
+          (upright-ready (given .t .now) (given .folds .now) (given .tabstop) (given .self) (given .e) (at-start .pre .0) (at-start .pre .1) (at-start .pre .2))
           (given .ambiguous) (given .mode) (given .width) (given .down) (given .count) (given .self .offset) _ (led .led .ensures),
     )
 

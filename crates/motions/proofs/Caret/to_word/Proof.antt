@@ -1,11 +1,6 @@
 -- `Caret::to_word` meets its contract: the caret's spot goes in, and the spot that the walk ended on is a row and a column again.
 -- Assumes nothing.
-use mathlib.Core.Path.{ap, _∙_}
-use mathlib.Core.List.{List}
-use Prim.Native.Nat.{ℕ, _-_}
-use native.Mathlib.Omega.{arith}
-use lib.ListN.{take}
-use borrow.Author.Needs.{needs}
+use Rattle.lists.proofs.Kit.{ap, _∙_, List, ℕ, _-_, arith, take, needs}
 use Rattle.text.specs.declared.Position.{Position}
 use Rattle.list_tokens.specs.Tokens.{anyToken}
 use Rattle.keywords.specs.Table.{kept}
@@ -19,22 +14,22 @@ use Rattle.motions.proofs.Caret.to_word.Statement.{statement}
 use Rattle.motions.proofs.Caret.to_word.Tie as tie
 
 slice-aggregate-own : tie.Need-slice-aggregate-own
-slice-aggregate-own c = let at-folds = c .before in part-count (at-folds .before .before .before .args .folds .now) (at-folds .taken .ensures .0)
+slice-aggregate-own c = let at-folds = c .before in part-count (at-folds .before .before .before .args .folds .now) (at-folds .taken .ensures .inside)
 
 -- what the walk requires, of the folds that the motion takes
 word-motion-requires : tie.Need-word-motion-requires
 word-motion-requires c κs =
     let at-folds = c .before .before .before .before in
-    let start = at-folds .before .before .before in
-    let given = start .args in
-    rw (at-folds .taken .ensures .1) (word-ready (given .t .now) _ (given .self) (given .e) (start .pre .0) (start .pre .1), start .pre .2)
+    let at-start = at-folds .before .before .before in
+    let given = at-start .args in
+    rw (at-folds .taken .ensures .part) (word-ready (given .t .now) _ (given .self) (given .e) (at-start .pre .0) (at-start .pre .1), at-start .pre .2)
 
 -- a row begins at or before each of its offsets
 sub-placed : tie.Need-sub-placed
 sub-placed c =
     let at-start = c .before .before in
     let walked = at-start .before .word-motion in
-    omega (arith, up-start _ _ (walked .result .row) (at-start .up .ensures), walked .ensures .1 .from)
+    omega (arith, up-start _ _ (walked .result .row) (at-start .up .ensures), walked .ensures .inside .from)
 
 returns : tie.Need-returns
 returns c =
@@ -44,27 +39,16 @@ returns c =
     let start = at-folds .before .before .before in
     let given = start .args in
     let walked = at-walk .word-motion in
-    c .placed .ensures
-    ∙ caret-of-spot (given .t .now) (given .self) (walked .result) _ _
-    (ap (λ (x : ℕ). walked .result .at - x) (up-start _ _ (walked .result .row) (at-start .up .ensures)))
-    (walked .ensures .0
-    ∙ ap
-    (λ (from : Position). wordMotion (given .t .now) (take (at-folds .taken .result) (given .folds .now)) (kindOf (anyToken (kept (given .spec))) (given .big)) (given .big) (given .m) (given .stop)
+    c .placed .ensures ∙ caret-of-spot (given .t .now) (given .self) (walked .result) _ _
+    (ap (λ (x : ℕ). walked .result .at - x) (up-start _ _ (walked .result .row) (at-start .up .ensures))) (walked .ensures .place ∙ ap
+    (λ (from : Position). wordMotion (given .t .now) (take (at-folds .taken .result) (given .folds .now)) (kindOf (anyToken (kept (given .spec))) (given .big))
+    (given .big) (given .m) (given .stop)
     (given .count) from) (place-of (given .t .now) (given .self) (given .e) (start .pre .0)))
     ∙ ap (λ (own : List ℕ). wordCaret (given .t .now) own (anyToken (kept (given .spec))) (given .big) (given .m) (given .stop) (given .count) (given .self))
-    (at-folds .taken .ensures .1)
+    (at-folds .taken .ensures .part)
 
 pub to-word-spec : {M : Type 1} → statement M
-to-word-spec =
-    tie.close
-    (tie.spec
+to-word-spec = tie.close (tie.spec (λ c κs. search needs) slice-aggregate-own (λ c. search needs) (λ c. search needs) (λ c. search needs) word-motion-requires
     (λ c κs. search needs)
-    slice-aggregate-own
-    (λ c. search needs)
-    (λ c. search needs)
-    (λ c. search needs)
-    word-motion-requires
-    (λ c κs. search needs)
-    sub-placed
-    (λ c κs. search needs)
+    sub-placed (λ c κs. search needs)
     returns)

@@ -1,6 +1,5 @@
 -- `Caret::walk` meets its contract, move by move. Assumes nothing.
-use mathlib.Core.Path.{ap}
-use borrow.Author.Needs.{needs}
+use Rattle.lists.proofs.Kit.{ap, needs}
 use Rattle.motions.specs.declared.Sought.the-variants.{Found}
 use Rattle.motions.proofs.Caret.walk.Statement.{statement}
 use Rattle.motions.proofs.Caret.walk.Tie as tie
@@ -9,29 +8,29 @@ use Rattle.motions.proofs.Caret.walk.Tie as tie
 by-list-requires : tie.Need-by-list-requires
 by-list-requires c κs =
     let at-move = c .before in
-    let start = at-move .before .before .before .before .before in
-    (start .pre .accepted, rw (at-move .m2 .given .1) at (start .pre .takes))
+    let at-start = at-move .before .before .before .before .before in
+    (at-start .pre .accepted, rw (at-move .m2 .given .1) at (at-start .pre .takes))
 
 to-row-requires : tie.Need-to-row-requires
 to-row-requires c κs =
     let at-move = c .before in
-    let start = at-move .before .before .before .before .before in
-    let takes = rw (at-move .m3 .given .1) at (start .pre .takes) in
-    (start .pre .accepted, takes .0, takes .1)
+    let at-start = at-move .before .before .before .before .before in
+    let takes = rw (at-move .m3 .given .1) at (at-start .pre .takes) in
+    (at-start .pre .accepted, takes .0, takes .1)
 
 to-row-requires-2 : tie.Need-to-row-requires-2
 to-row-requires-2 c κs =
     let at-move = c .before in
-    let start = at-move .before .before .before .before .before in
-    let takes = rw (at-move .m4 .given .1) at (start .pre .takes) in
-    (start .pre .accepted, takes .0, takes .1)
+    let at-start = at-move .before .before .before .before .before in
+    let takes = rw (at-move .m4 .given .1) at (at-start .pre .takes) in
+    (at-start .pre .accepted, takes .0, takes .1)
 
 to-row-kept-requires : tie.Need-to-row-kept-requires
 to-row-kept-requires c κs =
     let at-move = c .before in
-    let start = at-move .before .before .before .before .before in
-    let takes = rw (at-move .m5 .given .1) at (start .pre .takes) in
-    (start .pre .accepted, takes .0, takes .1)
+    let at-start = at-move .before .before .before .before .before in
+    let takes = rw (at-move .m5 .given .1) at (at-start .pre .takes) in
+    (at-start .pre .accepted, takes .0, takes .1)
 
 ways : tie.Need-returns
 ways c = rw (c .before .before .m .given .1) (ap Found (c .to-place .ensures))
@@ -58,25 +57,10 @@ find : tie.Need-returns-8
 find c = rw (c .before .before .m7 .given .1) (c .to-char .ensures)
 
 pub walk-spec : {M : Type 1} → statement M
-walk-spec =
-    tie.close
-    (tie.spec
+walk-spec = tie.close (tie.spec (λ c. search needs) (λ c κs. search needs) (λ c. search needs) by-list-requires (λ c. search needs) to-row-requires
     (λ c. search needs)
-    (λ c κs. search needs)
-    (λ c. search needs)
-    by-list-requires
-    (λ c. search needs)
-    to-row-requires
-    (λ c. search needs)
-    to-row-requires-2
-    (λ c. search needs)
-    to-row-kept-requires
-    (λ c. search needs)
-    (λ c κs. search needs)
-    (λ c. search needs)
-    (λ c κs. search needs)
-    (λ c. search needs)
-    (λ c κs. search needs)
+    to-row-requires-2 (λ c. search needs)
+    to-row-kept-requires (λ c. search needs) (λ c κs. search needs) (λ c. search needs) (λ c κs. search needs) (λ c. search needs) (λ c κs. search needs)
     ways
     words
     rows

@@ -1,4 +1,3 @@
--- `checks::or_stop` meets its contract. Assumes nothing.
 use borrow.Author.Tests.{eq-eqb, ne-eqb, lt-ltb, le-ltb}
 use Rattle.motions.specs.Checks.{orStop}
 use Rattle.motions.proofs.checks.or_stop.Statement.{statement}

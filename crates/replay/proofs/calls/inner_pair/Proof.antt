@@ -7,8 +7,7 @@ use Rattle.replay.proofs.calls.inner_pair.Statement.{statement}
 use Rattle.replay.proofs.calls.inner_pair.Tie as tie
 
 places : tie.Need-slice-aggregate-compared
-places c =
-    places-count 9 (c .before .inner-pair .ensures) (surrounded-sized _)
+places c = places-count 9 (c .before .inner-pair .ensures) (surrounded-sized _)
 
 returns : tie.Need-returns
 unfolding innerPairOf

@@ -7,8 +7,7 @@ use Rattle.replay.proofs.calls.matching_bracket_pos.Statement.{statemen
 use Rattle.replay.proofs.calls.matching_bracket_pos.Tie as tie
 
 places : tie.Need-slice-aggregate-compared
-places c =
-    places-count 3 (c .before .matching-bracket-pos .ensures) (partnered-sized _)
+places c = places-count 3 (c .before .matching-bracket-pos .ensures) (partnered-sized _)
 
 returns : tie.Need-returns
 unfolding matchingBracketPosOf

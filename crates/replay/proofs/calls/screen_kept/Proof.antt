@@ -1,6 +1,5 @@
 -- `calls::screen_kept` meets its contract: what the call answers and leaves is compared. Assumes nothing.
-use borrow.Author.Needs.{needs}
-use borrow.Author.Tests.{le-leb, lt-leb, eq-eqb, ne-eqb}
+use Rattle.lists.proofs.Kit.{needs, le-leb, lt-leb, eq-eqb, ne-eqb}
 use Rattle.replay.specs.Calls.{keptVerdict}
 use Rattle.replay_verdicts.proofs.Comparing.{replied-compared, places-count}
 use Rattle.replay.proofs.Sizes.{six-sized}
@@ -25,10 +24,8 @@ returns-3 c =
     rw (
       le-leb _ 65535 (at-screen-kept .before .before .before .before .before .if1 .left),
       eq-eqb _ 2 (at-screen-kept .before .before .before .before .if2 .left),
-    )
-    (replied-compared 6 _ (at-screen-kept .screen-kept .ensures) (c .compared .ensures))
+    ) (replied-compared 6 _ (at-screen-kept .screen-kept .ensures) (c .compared .ensures))
 
 pub screen-kept-spec : {M : Type 1} → statement M
-screen-kept-spec =
-    tie.close
+screen-kept-spec = tie.close
     (tie.spec returns returns-2 (λ c. search needs) (λ c. search needs) (λ c. search needs) (λ c κs. search needs) places (λ c κs. search needs) returns-3)

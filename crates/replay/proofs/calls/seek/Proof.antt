@@ -7,8 +7,7 @@ use Rattle.replay.proofs.calls.seek.Statement.{statement}
 use Rattle.replay.proofs.calls.seek.Tie as tie
 
 places : tie.Need-slice-aggregate-compared
-places c =
-    places-count 5 (c .before .seek .ensures) (sought-sized _)
+places c = places-count 5 (c .before .seek .ensures) (sought-sized _)
 
 returns : tie.Need-returns
 unfolding seekOf

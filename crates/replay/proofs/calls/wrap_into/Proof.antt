@@ -16,5 +16,4 @@ returns c =
     (wrapped-compared (segmented given.mode given.width (given .segments .now) (given .row .now)) _ _ (wrap-segments-told .0) (c .compared-two .ensures))
 
 pub wrap-into-spec : {M : Type 1} → statement M
-wrap-into-spec =
-    tie.close (tie.spec (λ c κs. search needs) (λ c. search needs) (λ c κs. search needs) (λ c. search needs) returns)
+wrap-into-spec = tie.close (tie.spec (λ c κs. search needs) (λ c. search needs) (λ c κs. search needs) (λ c. search needs) returns)

@@ -1,9 +1,5 @@
 -- `calls::wrap_segments` meets its contract: the tests of the definition in their order. Assumes nothing.
-use mathlib.Core.Path.{sym}
-use borrow.Author.Needs.{needs}
-use borrow.Author.Tests.{le-leb, lt-leb}
-use lib.ListN.{replicate}
-use lib.Seq.{length-take-le}
+use Rattle.lists.proofs.Kit.{sym, replicate, length-take-le, needs, le-leb, lt-leb}
 use Rattle.replay.specs.Calls.{wrapVerdict}
 use Rattle.replay_verdicts.specs.Answers.{filler}
 use Rattle.replay_verdicts.proofs.Comparing.{take-replicate}
@@ -30,14 +26,4 @@ returns-3 c =
     (c .before .wrap-into .ensures)
 
 pub wrap-segments-spec : {M : Type 1} → statement M
-wrap-segments-spec =
-    tie.close
-    (tie.spec
-    (λ c. search needs)
-    returns
-    returns-2
-    (λ c. search needs)
-    (λ c. search needs)
-    lent
-    (λ c κs. search needs)
-    returns-3)
+wrap-segments-spec = tie.close (tie.spec (λ c. search needs) returns returns-2 (λ c. search needs) (λ c. search needs) lent (λ c κs. search needs) returns-3)

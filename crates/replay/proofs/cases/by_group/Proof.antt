@@ -1,6 +1,5 @@
 -- `cases::by_group` meets its contract, arm by arm. Assumes nothing.
-use borrow.Author.Needs.{needs}
-use borrow.Author.Tests.{ne-eqb}
+use Rattle.lists.proofs.Kit.{needs, ne-eqb}
 use Rattle.replay.specs.Cases.{byGroup}
 use Rattle.replay.proofs.cases.by_group.Statement.{statement}
 use Rattle.replay.proofs.cases.by_group.Tie as tie
@@ -23,8 +22,7 @@ returns-27 c =
       ne-eqb _ 10 (other .0 .0 .0 .0 .0 .0 .0 .0 .0 .0 .0 .0 .0 .0 .0 .1),
       ne-eqb _ 11 (other .0 .0 .0 .0 .0 .0 .0 .0 .0 .0 .0 .0 .0 .0 .1),
       ne-eqb _ 12 (other .0 .0 .0 .0 .0 .0 .0 .0 .0 .0 .0 .0 .0 .1),
-    )
-    (rw (
+    ) (rw (
       ne-eqb _ 13 (other .0 .0 .0 .0 .0 .0 .0 .0 .0 .0 .0 .0 .1),
       ne-eqb _ 14 (other .0 .0 .0 .0 .0 .0 .0 .0 .0 .0 .0 .1),
       ne-eqb _ 15 (other .0 .0 .0 .0 .0 .0 .0 .0 .0 .0 .1),
@@ -42,38 +40,23 @@ returns-27 c =
 
 pub by-group-spec : {M : Type 1} → statement M
 unfolding byGroup
-by-group-spec =
-    tie.close
-    (tie.spec
+by-group-spec = tie.close (tie.spec
     (λ c κs. search needs) (λ c κs. search needs) (λ c κs. search needs) (λ c κs. search needs) (λ c κs. search needs) (λ c κs. search needs)
     (λ c κs. search needs) (λ c κs. search needs) (λ c κs. search needs) (λ c κs. search needs) (λ c κs. search needs) (λ c κs. search needs)
     (λ c κs. search needs) (λ c κs. search needs) (λ c κs. search needs) (λ c κs. search needs) (λ c κs. search needs) (λ c κs. search needs)
     (λ c κs. search needs) (λ c κs. search needs) (λ c κs. search needs) (λ c κs. search needs) (λ c κs. search needs) (λ c κs. search needs)
-    (λ c κs. search needs) (λ c κs. search needs)
-    (λ c. rw (c .before .match .keys1) (c .character .ensures))
-    (λ c. rw (c .before .match .keys2) (c .keywords .ensures))
-    (λ c. rw (c .before .match .keys3) (c .columns .ensures))
-    (λ c. rw (c .before .match .keys4) (c .offsets .ensures))
-    (λ c. rw (c .before .match .keys5) (c .segment-for-col .ensures))
-    (λ c. rw (c .before .match .keys6) (c .wrap-segments .ensures))
-    (λ c. rw (c .before .match .keys7) (c .content-row-count .ensures))
-    (λ c. rw (c .before .match .keys8) (c .matching-bracket-pos .ensures))
-    (λ c. rw (c .before .match .keys9) (c .motion .ensures))
-    (λ c. rw (c .before .match .keys10) (c .seek .ensures))
-    (λ c. rw (c .before .match .keys11) (c .word .ensures))
-    (λ c. rw (c .before .match .keys12) (c .vertical .ensures))
-    (λ c. rw (c .before .match .keys13) (c .viewport .ensures))
-    (λ c. rw (c .before .match .keys14) (c .inner-pair .ensures))
-    (λ c. rw (c .before .match .keys15) (c .utf8-decode .ensures))
-    (λ c. rw (c .before .match .keys16) (c .utf8-encode .ensures))
-    (λ c. rw (c .before .match .keys17) (c .enter .ensures))
-    (λ c. rw (c .before .match .keys18) (c .without-plus .ensures))
-    (λ c. rw (c .before .match .keys19) (c .screen-kept .ensures))
-    (λ c. rw (c .before .match .keys20) (c .edit .ensures))
-    (λ c. rw (c .before .match .keys21) (c .fold-file .ensures))
-    (λ c. rw (c .before .match .keys22) (c .by-class .ensures))
-    (λ c. rw (c .before .match .keys23) (c .tabled .ensures))
-    (λ c. rw (c .before .match .keys24) (c .vim .ensures))
-    (λ c. rw (c .before .match .keys25) (c .jumped .ensures))
+    (λ c κs. search needs) (λ c κs. search needs) (λ c. rw (c .before .match .keys1) (c .character .ensures))
+    (λ c. rw (c .before .match .keys2) (c .keywords .ensures)) (λ c. rw (c .before .match .keys3) (c .columns .ensures))
+    (λ c. rw (c .before .match .keys4) (c .offsets .ensures)) (λ c. rw (c .before .match .keys5) (c .segment-for-col .ensures))
+    (λ c. rw (c .before .match .keys6) (c .wrap-segments .ensures)) (λ c. rw (c .before .match .keys7) (c .content-row-count .ensures))
+    (λ c. rw (c .before .match .keys8) (c .matching-bracket-pos .ensures)) (λ c. rw (c .before .match .keys9) (c .motion .ensures))
+    (λ c. rw (c .before .match .keys10) (c .seek .ensures)) (λ c. rw (c .before .match .keys11) (c .word .ensures))
+    (λ c. rw (c .before .match .keys12) (c .vertical .ensures)) (λ c. rw (c .before .match .keys13) (c .viewport .ensures))
+    (λ c. rw (c .before .match .keys14) (c .inner-pair .ensures)) (λ c. rw (c .before .match .keys15) (c .utf8-decode .ensures))
+    (λ c. rw (c .before .match .keys16) (c .utf8-encode .ensures)) (λ c. rw (c .before .match .keys17) (c .enter .ensures))
+    (λ c. rw (c .before .match .keys18) (c .without-plus .ensures)) (λ c. rw (c .before .match .keys19) (c .screen-kept .ensures))
+    (λ c. rw (c .before .match .keys20) (c .edit .ensures)) (λ c. rw (c .before .match .keys21) (c .fold-file .ensures))
+    (λ c. rw (c .before .match .keys22) (c .by-class .ensures)) (λ c. rw (c .before .match .keys23) (c .tabled .ensures))
+    (λ c. rw (c .before .match .keys24) (c .vim .ensures)) (λ c. rw (c .before .match .keys25) (c .jumped .ensures))
     (λ c. rw (c .before .match .keys26) (c .word-vim .ensures))
     returns-27)

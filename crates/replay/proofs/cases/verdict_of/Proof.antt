@@ -1,7 +1,5 @@
 -- `cases::verdict_of` meets its contract: the tests of the definition, and the parts that it names. Assumes nothing.
-use native.Mathlib.Omega.{arith}
-use borrow.Author.Needs.{needs}
-use borrow.Author.Tests.{le-leb, lt-leb}
+use Rattle.lists.proofs.Kit.{arith, needs, le-leb, lt-leb}
 use Rattle.replay.specs.Cases.{verdictOf}
 use Rattle.replay.proofs.cases.verdict_of.Statement.{statement}
 use Rattle.replay.proofs.cases.verdict_of.Tie as tie
@@ -27,8 +25,7 @@ cast-stored : tie.Need-cast-stored
 cast-stored c = omega (arith, c .shared-slice-known4 .given 12)
 
 add-stored : tie.Need-add-stored
-add-stored c =
-    omega (arith, c .shared-slice-known4 .given 12, c .before .shared-slice-known3 .given 11, c .before .before .shared-slice-known2 .given 10)
+add-stored c = omega (arith, c .shared-slice-known4 .given 12, c .before .shared-slice-known3 .given 11, c .before .before .shared-slice-known2 .given 10)
 
 returns-2 : tie.Need-returns-2
 unfolding verdictOf
@@ -42,35 +39,9 @@ returns-3 c =
     rw (le-leb 13 _ (at-if2 .before .before .before .before .if1 .left), le-leb _ _ (at-if2 .if2 .left), ← at-head-of .head-of .ensures) (c .by-group .ensures)
 
 pub verdict-of-spec : {M : Type 1} → statement M
-verdict-of-spec =
-    tie.close
-    (tie.spec
-    returns
-    (λ c. search needs)
-    cast-folds
-    add-folds
-    (λ c. search needs)
-    cast-list
-    add-list
-    (λ c. search needs)
-    cast-stored
+verdict-of-spec = tie.close (tie.spec returns (λ c. search needs) cast-folds add-folds (λ c. search needs) cast-list add-list (λ c. search needs) cast-stored
     add-stored
-    returns-2
-    (λ c. search needs)
-    (λ c κs. search needs)
-    (λ c. search needs)
-    (λ c. search needs)
-    (λ c. search needs)
-    (λ c. search needs)
-    (λ c. search needs)
-    (λ c. search needs)
-    (λ c. search needs)
-    (λ c. search needs)
-    (λ c. search needs)
-    (λ c. search needs)
-    (λ c. search needs)
-    (λ c. search needs)
-    (λ c. search needs)
-    (λ c. search needs)
-    (λ c κs. search needs)
+    returns-2 (λ c. search needs) (λ c κs. search needs) (λ c. search needs) (λ c. search needs) (λ c. search needs) (λ c. search needs) (λ c. search needs)
+    (λ c. search needs) (λ c. search needs) (λ c. search needs) (λ c. search needs) (λ c. search needs) (λ c. search needs) (λ c. search needs)
+    (λ c. search needs) (λ c. search needs) (λ c κs. search needs)
     returns-3)

@@ -1,7 +1,5 @@
 -- `tallies::row_verdict` meets its contract, by what the row holds. Assumes nothing.
-use mathlib.Core.Path.{sym}
-use borrow.Author.Needs.{needs}
-use lib.Seq.{length-take-le}
+use Rattle.lists.proofs.Kit.{sym, length-take-le, needs}
 use Rattle.replay.proofs.Counting.{count-within, judged-count, judged-malformed}
 use Rattle.replay.proofs.tallies.row_verdict.Statement.{statement}
 use Rattle.replay.proofs.tallies.row_verdict.Tie as tie
@@ -25,16 +23,7 @@ returns-2 : tie.Need-returns-2
 returns-2 c = judged-malformed (c .before .before .before .before .read-row .ensures) (c .enum-told .given .1)
 
 pub row-verdict-spec : {M : Type 1} → statement M
-row-verdict-spec =
-    tie.close
-    (tie.spec
-    (λ c κs. search needs)
+row-verdict-spec = tie.close (tie.spec (λ c κs. search needs) (λ c. search needs) part part-length (λ c κs. search needs) (λ c. search needs)
     (λ c. search needs)
-    part
-    part-length
-    (λ c κs. search needs)
-    (λ c. search needs)
-    (λ c. search needs)
-    returns
-    (λ c. search needs)
+    returns (λ c. search needs)
     returns-2)

@@ -1,10 +1,6 @@
 -- `tallies::tally_of` meets its contract. The invariant of its loop, `Tallying`: the rows before `at` are counted. The measure is the length
 -- less `at`. Assumes nothing.
-use Prim.Native.Nat.{ℕ, _-_}
-use mathlib.Core.Path.{sym}
-use native.Mathlib.Omega.{arith}
-use borrow.Author.Needs.{needs}
-use lib.ListN.{length, replicate, length-replicate}
+use Rattle.lists.proofs.Kit.{sym, ℕ, _-_, arith, length, replicate, length-replicate, needs}
 use Rattle.replay_rows.proofs.Lines.{row-within}
 use Rattle.replay.proofs.Counting.{Tallying, tallying-start, tallying-countable, tallying-on, tallying-end}
 use Rattle.replay.proofs.tallies.tally_of.Statement.{statement}
@@ -56,27 +52,13 @@ loop-less c =
 loop-again : tie.Need-loop-again Inv-loop μ-loop
 loop-again c =
     let at-row-end = c .before .before .before .before .before in
-    rw (c .counted .ensures)
-    (tallying-on (at-row-end .before .before .loop .inv) (at-row-end .before .loop-test .taken) _ (at-row-end .row-end .ensures)
+    rw (c .counted .ensures) (tallying-on (at-row-end .before .before .loop .inv) (at-row-end .before .loop-test .taken) _ (at-row-end .row-end .ensures)
     (c .before .before .row-verdict .ensures))
 
 returns : tie.Need-returns Inv-loop μ-loop
 returns c = tallying-end (c .before .loop .inv) (c .loop-test .left)
 
 pub tally-of-spec : {M : Type 1} → statement M
-tally-of-spec =
-    tie.close
-    (tie.spec
-    Inv-loop
-    μ-loop
-    loop-holds
-    (λ c κs. search needs)
-    sub
-    start
-    end
-    lent
-    (λ c κs. search needs)
-    counted-requires
-    loop-less
+tally-of-spec = tie.close (tie.spec Inv-loop μ-loop loop-holds (λ c κs. search needs) sub start end lent (λ c κs. search needs) counted-requires loop-less
     loop-again
     returns)

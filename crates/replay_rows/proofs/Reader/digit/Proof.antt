@@ -1,6 +1,5 @@
 -- `Reader::digit` meets its contract, by the test of the definition. Assumes nothing.
-use borrow.Author.Needs.{needs}
-use borrow.Author.Tests.{lt-ltb, le-ltb}
+use Rattle.lists.proofs.Kit.{needs, lt-ltb, le-ltb}
 use Rattle.replay_rows.specs.Rows.{digit}
 use Rattle.replay_rows.proofs.Reader.digit.Statement.{statement}
 use Rattle.replay_rows.proofs.Reader.digit.Tie as tie
@@ -14,13 +13,4 @@ unfolding digit
 returns-2 c = rw (le-ltb _ _ (c .if1 .left))
 
 pub digit-spec : {M : Type 1} → statement M
-digit-spec =
-    tie.close
-    (tie.spec
-    (λ c. search needs)
-    (λ c. search needs)
-    (λ c. search needs)
-    (λ c κs. search needs)
-    returns
-    (λ c. search needs)
-    returns-2)
+digit-spec = tie.close (tie.spec (λ c. search needs) (λ c. search needs) (λ c. search needs) (λ c κs. search needs) returns (λ c. search needs) returns-2)

@@ -1,6 +1,5 @@
 -- `Reader::step` meets its contract: the tests of the definition in their order. Assumes nothing.
-use borrow.Author.Needs.{needs}
-use borrow.Author.Tests.{eq-eqb, ne-eqb, le-leb, lt-leb}
+use Rattle.lists.proofs.Kit.{needs, eq-eqb, ne-eqb, le-leb, lt-leb}
 use Rattle.replay_rows.specs.Rows.{step}
 use Rattle.replay_rows.proofs.Reader.step.Statement.{statement}
 use Rattle.replay_rows.proofs.Reader.step.Tie as tie
@@ -26,15 +25,6 @@ returns-4 c =
     rw (ne-eqb _ 42 (at-if2 .before .if1 .left), le-leb 48 _ (at-if2 .if2 .left), le-leb _ 57 (c .before .if3 .left)) (c .digit .ensures)
 
 pub step-spec : {M : Type 1} → statement M
-step-spec =
-    tie.close
-    (tie.spec
-    (λ c κs. search needs)
-    returns
-    (λ c κs. search needs)
-    returns-2
-    (λ c κs. search needs)
-    returns-3
-    (λ c. search needs)
+step-spec = tie.close (tie.spec (λ c κs. search needs) returns (λ c κs. search needs) returns-2 (λ c κs. search needs) returns-3 (λ c. search needs)
     (λ c κs. search needs)
     returns-4)

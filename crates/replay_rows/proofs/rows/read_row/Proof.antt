@@ -1,10 +1,6 @@
 -- `rows::read_row` meets its contract. The invariant of its loop, `Reading`: the numbers before i stand at the front of the room.
 -- The measure is the row's length less i. Assumes nothing.
-use Prim.Native.Nat.{_-_}
-use native.Mathlib.Omega.{arith}
-use borrow.Author.Needs.{needs}
-use borrow.Author.Tests.{not-true, not-false}
-use lib.ListN.{length}
+use Rattle.lists.proofs.Kit.{_-_, arith, length, needs, not-true, not-false}
 use Rattle.replay_rows.proofs.Reading.{Reading, read-unbegun, read-full, read-ended, read-spoilt, read-on, read-cut, read-whole}
 use Rattle.replay_rows.proofs.Reading.{reading-start, reading-malformed, reading-whole, reading-on, reading-ended}
 use Rattle.replay_rows.proofs.rows.read_row.Statement.{statement}
@@ -21,14 +17,6 @@ loop-holds c =
     let given = c .before .before .before .args in
     rw (c .fresh .ensures) (reading-start (given .row .now) (given .room .now))
 
--- a number ends that has no digits
-returns : tie.Need-returns Inv-loop μ-loop
-returns c =
-    let at-loop = c .before .before .before .before .before .before in
-    let given = at-loop .before .before .before .before .args in
-    reading-malformed (at-loop .loop .inv)
-    (read-unbegun (given .row .now) at-loop.loop.i _ at-loop.loop.r (omega arith) (c .before .before .before .if1 .taken) (not-true _ (c .if2 .taken)))
-
 -- there is too little room
 returns-2 : tie.Need-returns-2 Inv-loop μ-loop
 returns-2 c =
@@ -36,9 +24,6 @@ returns-2 c =
     let given = at-loop .before .before .before .before .args in
     reading-malformed (at-loop .loop .inv)
     (read-full (given .row .now) at-loop.loop.i _ at-loop.loop.r (omega arith) (c .before .before .before .before .if1 .taken) (omega arith))
-
-fill-requires : tie.Need-fill-requires Inv-loop μ-loop
-fill-requires c κs = omega arith
 
 -- a number ends
 loop-again : tie.Need-loop-again Inv-loop μ-loop
@@ -57,8 +42,7 @@ returns-3 c =
     let at-loop = c .before .before .before .before .before .before in
     let given = at-loop .before .before .before .before .args in
     let at-step = c .before .before in
-    reading-malformed (at-loop .loop .inv)
-    (read-spoilt (given .row .now) at-loop.loop.i _ at-loop.loop.r (omega arith) (at-step .before .if1 .left)
+    reading-malformed (at-loop .loop .inv) (read-spoilt (given .row .now) at-loop.loop.i _ at-loop.loop.r (omega arith) (at-step .before .if1 .left)
     (rw (← at-step .step .ensures) (not-true _ (c .if4 .taken))))
 
 -- a byte of a number
@@ -72,47 +56,11 @@ loop-again-2 c =
     (rw (← at-step .step .ensures) (not-false _ (c .if4 .left))) in
     rw (at-step .step .ensures) (reading-on (at-loop .loop .inv) (omega arith) by-read-on)
 
--- the row ends within a number
-returns-4 : tie.Need-returns-4 Inv-loop μ-loop
-returns-4 c =
-    let at-loop = c .before .before .before in
-    let given = at-loop .before .before .before .before .args in
-    reading-malformed (at-loop .loop .inv) (read-cut (given .row .now) at-loop.loop.i _ at-loop.loop.r (c .before .before .loop-test .left) (c .if5 .taken))
-
-returns-5 : tie.Need-returns-5 Inv-loop μ-loop
-returns-5 c =
-    let at-loop = c .before .before .before in
-    let given = at-loop .before .before .before .before .args in
-    reading-whole (at-loop .loop .inv) (read-whole (given .row .now) at-loop.loop.i _ at-loop.loop.r (c .before .before .loop-test .left) (c .if5 .left))
-
 pub read-row-spec : {M : Type 1} → statement M
-read-row-spec =
-    tie.close
-    (tie.spec
-    Inv-loop
-    μ-loop
-    (λ c κs. search needs)
-    loop-holds
-    (λ c. search needs)
-    (λ c. search needs)
-    (λ c. search needs)
-    returns
-    (λ c. search needs)
-    (λ c. search needs)
-    returns-2
-    fill-requires
-    (λ c. search needs)
-    (λ c κs. search needs)
-    (λ c. search needs)
-    (λ c. search needs)
-    loop-again
-    (λ c κs. search needs)
-    (λ c. search needs)
-    returns-3
-    (λ c. search needs)
-    (λ c. search needs)
-    loop-again-2
-    (λ c. search needs)
-    returns-4
-    (λ c. search needs)
-    returns-5)
+read-row-spec = tie.close (tie.spec Inv-loop μ-loop (λ c κs. search needs) loop-holds (λ c. search needs) (λ c. search needs) (λ c. search needs)
+    -- a number ends that has no digits
+    (λ c. search (needs, not-true, read-unbegun, reading-malformed))
+    (λ c. search needs) (λ c. search needs) returns-2 (λ c κs. search needs) (λ c. search needs) (λ c κs. search needs) (λ c. search needs)
+    (λ c. search needs) loop-again (λ c κs. search needs) (λ c. search needs) returns-3 (λ c. search needs) (λ c. search needs) loop-again-2 (λ c. search needs)
+    -- the row ends within a number
+    (λ c. search (needs, read-cut, reading-malformed)) (λ c. search needs) (λ c. search (needs, read-whole, reading-whole)))

@@ -1,10 +1,6 @@
 -- `rows::row_end` meets its contract. The invariant of its loop: the row ends no sooner than i. The measure is the length less i.
 -- Assumes nothing.
-use Prim.Native.Nat.{_+_, _-_, _≤_}
-use mathlib.Core.Path.{_≡_, refl}
-use native.Mathlib.Omega.{arith}
-use borrow.Author.Needs.{needs}
-use lib.ListN.{length, drop}
+use Rattle.lists.proofs.Kit.{_≡_, refl, _+_, _-_, _≤_, arith, length, drop, needs}
 use Rattle.replay_rows.specs.Rows.{rowLength}
 use Rattle.replay_rows.proofs.Reading.{row-end-here, row-end-on, row-end-cut}
 use Rattle.replay_rows.proofs.rows.row_end.Statement.{statement}
@@ -35,16 +31,6 @@ returns-2 c =
     omega (arith, row-end-cut (c .before .before .args .bytes .now) at-loop.i (c .loop-test .left))
 
 pub row-end-spec : {M : Type 1} → statement M
-row-end-spec =
-    tie.close
-    (tie.spec
-    Inv-loop
-    μ-loop
-    (λ c. (c .pre, refl))
-    (λ c. search needs)
-    (λ c. search needs)
-    returns
-    (λ c. search needs)
-    (λ c. search needs)
+row-end-spec = tie.close (tie.spec Inv-loop μ-loop (λ c. (c .pre, refl)) (λ c. search needs) (λ c. search needs) returns (λ c. search needs) (λ c. search needs)
     loop-again
     returns-2)

@@ -1,9 +1,5 @@
 -- `editing::edit` meets its contract: the tests of the definition, and the buffers and the table that are lent. Assumes nothing.
-use mathlib.Core.Path.{sym}
-use native.Mathlib.Omega.{arith}
-use borrow.Author.Needs.{needs}
-use borrow.Author.Tests.{le-leb, lt-leb}
-use lib.Seq.{length-take-le}
+use Rattle.lists.proofs.Kit.{sym, arith, length-take-le, needs, le-leb, lt-leb}
 use Rattle.replay_edits.proofs.Comparing.{lent-front}
 use Rattle.replay_tables.specs.Edits.{editVerdict}
 use Rattle.replay_tables.proofs.editing.edit.Statement.{statement}
@@ -67,27 +63,13 @@ returns-4 c =
     let text-front = lent-front (at-put-all .put-all .ensures) text-fits in
     let folds-front = lent-front (at-put-all2 .put-all2 .ensures) folds-fit in
     let table-front = lent-front (at-put-all3 .put-all3 .ensures) table-fits in
-    rw (le-leb _ 64 text-fits, le-leb _ 64 folds-fit, le-leb _ 64 table-fits)
-    (rw (text-front, folds-front, table-front) at (at-edit-into .edit-into .ensures))
+    rw (le-leb _ 64 text-fits, le-leb _ 64 folds-fit, le-leb _ 64 table-fits) (rw (text-front, folds-front, table-front) at (at-edit-into .edit-into .ensures))
 
 pub edit-spec : {M : Type 1} → statement M
-edit-spec =
-    tie.close
-    (tie.spec
-    returns
-    returns-2
-    returns-3
-    (λ c. search needs)
-    (λ c κs. search needs)
-    (λ c. search needs)
-    (λ c κs. search needs)
-    (λ c. search needs)
-    (λ c κs. search needs)
-    (λ c. search needs)
-    lent
-    (λ c. search needs)
-    lent-2
-    (λ c. search needs)
+edit-spec = tie.close (tie.spec returns returns-2 returns-3 (λ c. search needs) (λ c κs. search needs) (λ c. search needs) (λ c κs. search needs)
+    (λ c. search needs) (λ c κs. search needs) (λ c. search needs)
+    lent (λ c. search needs)
+    lent-2 (λ c. search needs)
     lent-3
     edit-into-requires
     returns-4)

@@ -1,9 +1,5 @@
 -- `filling::fill` meets its contract: the test of the definition, and the table that is lent. Assumes nothing.
-use mathlib.Core.Path.{sym}
-use native.Mathlib.Omega.{arith}
-use borrow.Author.Needs.{needs}
-use borrow.Author.Tests.{le-leb, lt-leb}
-use lib.Seq.{length-take-le}
+use Rattle.lists.proofs.Kit.{sym, arith, length-take-le, needs, le-leb, lt-leb}
 use Rattle.replay_edits.proofs.Comparing.{lent-front}
 use Rattle.replay_tables.specs.Tables.{fillVerdict}
 use Rattle.replay_tables.proofs.filling.fill.Statement.{statement}
@@ -27,6 +23,4 @@ returns-2 c =
     rw (le-leb _ 64 table-fits) (rw (lent-front (at-put-all .put-all .ensures) table-fits) at (at-fill-into .fill-into .ensures))
 
 pub fill-spec : {M : Type 1} → statement M
-fill-spec =
-    tie.close
-    (tie.spec returns (λ c. search needs) (λ c κs. search needs) (λ c. search needs) lent (λ c κs. search needs) returns-2)
+fill-spec = tie.close (tie.spec returns (λ c. search needs) (λ c κs. search needs) (λ c. search needs) lent (λ c κs. search needs) returns-2)

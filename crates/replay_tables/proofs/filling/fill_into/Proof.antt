@@ -16,5 +16,4 @@ returns c =
     rw (← filled .starts-left) (wrapped-compared (toldRows (fillOf (given .text .now) (given .table .now))) _ _ (filled .out-left) (c .compared-two .ensures))
 
 pub fill-into-spec : {M : Type 1} → statement M
-fill-into-spec =
-    tie.close (tie.spec (λ c κs. search needs) (λ c. search needs) (λ c κs. search needs) (λ c. search needs) returns)
+fill-into-spec = tie.close (tie.spec (λ c κs. search needs) (λ c. search needs) (λ c κs. search needs) (λ c. search needs) returns)

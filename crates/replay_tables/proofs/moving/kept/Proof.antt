@@ -1,6 +1,5 @@
 -- `moving::kept` meets its contract: what the call answers and leaves is compared. Assumes nothing.
-use borrow.Author.Needs.{needs}
-use borrow.Author.Tests.{le-leb, lt-leb, eq-eqb, ne-eqb}
+use Rattle.lists.proofs.Kit.{needs, le-leb, lt-leb, eq-eqb, ne-eqb}
 use Rattle.replay_verdicts.proofs.Comparing.{replied-compared, places-count}
 use Rattle.replay_tables.specs.Motions.{keptVerdict}
 use Rattle.replay_tables.proofs.Sizes.{six-sized}
@@ -27,15 +26,6 @@ returns-3 c =
     (replied-compared 6 _ (at-call .screen-kept-rows .ensures) (c .compared .ensures))
 
 pub kept-spec : {M : Type 1} → statement M
-kept-spec =
-    tie.close
-    (tie.spec
-    returns
-    returns-2
-    (λ c. search needs)
-    (λ c. search needs)
-    (λ c. search needs)
-    (λ c κs. search needs)
-    places
+kept-spec = tie.close (tie.spec returns returns-2 (λ c. search needs) (λ c. search needs) (λ c. search needs) (λ c κs. search needs) places
     (λ c κs. search needs)
     returns-3)

@@ -1,6 +1,5 @@
 -- `tables::by_parts` meets its contract: by the operation. Assumes nothing.
-use borrow.Author.Needs.{needs}
-use borrow.Author.Tests.{lt-ltb, le-ltb}
+use Rattle.lists.proofs.Kit.{needs, lt-ltb, le-ltb}
 use Rattle.replay_tables.specs.Verdicts.{partsVerdict}
 use Rattle.replay_tables.proofs.tables.by_parts.Statement.{statement}
 use Rattle.replay_tables.proofs.tables.by_parts.Tie as tie

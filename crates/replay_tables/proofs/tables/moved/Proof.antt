@@ -1,6 +1,5 @@
 -- `tables::moved` meets its contract: the tests of the definition in their order. Assumes nothing.
-use borrow.Author.Needs.{needs}
-use borrow.Author.Tests.{lt-ltb, le-ltb}
+use Rattle.lists.proofs.Kit.{needs, lt-ltb, le-ltb}
 use Rattle.replay_tables.specs.Verdicts.{movedVerdict}
 use Rattle.replay_tables.proofs.tables.moved.Statement.{statement}
 use Rattle.replay_tables.proofs.tables.moved.Tie as tie
@@ -95,19 +94,8 @@ returns-7 c =
     ) (c .kept .ensures)
 
 pub moved-spec : {M : Type 1} → statement M
-moved-spec =
-    tie.close
-    (tie.spec
-    returns
+moved-spec = tie.close (tie.spec returns (λ c κs. search needs) returns-2 (λ c κs. search needs) returns-3 (λ c κs. search needs) returns-4
     (λ c κs. search needs)
-    returns-2
-    (λ c κs. search needs)
-    returns-3
-    (λ c κs. search needs)
-    returns-4
-    (λ c κs. search needs)
-    returns-5
-    (λ c κs. search needs)
-    returns-6
-    (λ c κs. search needs)
+    returns-5 (λ c κs. search needs)
+    returns-6 (λ c κs. search needs)
     returns-7)

@@ -1,7 +1,5 @@
 -- `tables::tabled` meets its contract: the tests of the definition, and the parts that it names. Assumes nothing.
-use native.Mathlib.Omega.{arith}
-use borrow.Author.Needs.{needs}
-use borrow.Author.Tests.{eq-eqb, ne-eqb, le-leb, lt-leb}
+use Rattle.lists.proofs.Kit.{arith, needs, eq-eqb, ne-eqb, le-leb, lt-leb}
 use Rattle.replay_tables.specs.Verdicts.{tabledVerdict}
 use Rattle.replay_tables.proofs.tables.tabled.Statement.{statement}
 use Rattle.replay_tables.proofs.tables.tabled.Tie as tie
@@ -35,22 +33,6 @@ returns-4 c =
     rw (ne-eqb _ 0 (at-if2 .before .if1 .left), le-leb 2 _ (at-if2 .if2 .left), le-leb _ _ (at-if3 .if3 .left)) (c .by-parts .ensures)
 
 pub tabled-spec : {M : Type 1} → statement M
-tabled-spec =
-    tie.close
-    (tie.spec
-    (λ c κs. search needs)
-    returns
-    returns-2
-    (λ c. search needs)
-    cast-own
-    add-own
-    returns-3
-    (λ c. search needs)
-    (λ c. search needs)
-    (λ c. search needs)
-    (λ c. search needs)
-    (λ c. search needs)
-    (λ c. search needs)
-    (λ c. search needs)
-    (λ c κs. search needs)
+tabled-spec = tie.close (tie.spec (λ c κs. search needs) returns returns-2 (λ c. search needs) cast-own add-own returns-3 (λ c. search needs)
+    (λ c. search needs) (λ c. search needs) (λ c. search needs) (λ c. search needs) (λ c. search needs) (λ c. search needs) (λ c κs. search needs)
     returns-4)

@@ -1,6 +1,5 @@
 -- `Tally::faulted` meets its contract, by the test of the definition. Assumes nothing.
-use borrow.Author.Needs.{needs}
-use borrow.Author.Tests.{eq-eqb, ne-eqb}
+use Rattle.lists.proofs.Kit.{needs, eq-eqb, ne-eqb}
 use Rattle.replay_verdicts.specs.Tallies.{faulted}
 use Rattle.replay_verdicts.proofs.Tally.faulted.Statement.{statement}
 use Rattle.replay_verdicts.proofs.Tally.faulted.Tie as tie

@@ -1,16 +1,9 @@
 -- `answers::compared` meets its contract, by what stands first in the stored answer and then by the rest. Assumes nothing.
-use mathlib.Core.Path.{sym, _∙_}
-use native.Mathlib.Omega.{arith}
-use borrow.Author.Needs.{needs}
+use Rattle.lists.proofs.Kit.{sym, _∙_, arith, needs}
 use Rattle.replay_verdicts.specs.Answers.{compared}
 use Rattle.replay_verdicts.proofs.Comparing.{compared-none, compared-other, compared-first}
 use Rattle.replay_verdicts.proofs.answers.compared.Statement.{statement}
 use Rattle.replay_verdicts.proofs.answers.compared.Tie as tie
-
-returns : tie.Need-returns
-returns c =
-    let given = c .before .before .before .args in
-    compared-none given.number (given .places .now) (given .stored .now) (c .if1 .taken)
 
 returns-2 : tie.Need-returns-2
 returns-2 c =
@@ -34,15 +27,6 @@ returns-4 c =
     sym (compared-first given.number (given .places .now) (given .stored .now) (omega arith) (at-if2 .if2 .left) ∙ rw equal-is)
 
 pub compared-spec : {M : Type 1} → statement M
-compared-spec =
-    tie.close
-    (tie.spec
-    returns
-    (λ c. search needs)
-    returns-2
-    (λ c. search needs)
-    (λ c. search needs)
-    (λ c. search needs)
-    (λ c κs. search needs)
-    returns-3
-    returns-4)
+compared-spec = tie.close
+    (tie.spec (λ c. search (needs, compared-none)) (λ c. search needs) returns-2 (λ c. search needs) (λ c. search needs) (λ c. search needs)
+    (λ c κs. search needs) returns-3 returns-4)

@@ -1,16 +1,8 @@
 -- `answers::compared_two` meets its contract, by what stands first in the stored answer and then by the rest. Assumes nothing.
-use mathlib.Core.Path.{sym, _∙_}
-use mathlib.Core.List.{_∷_}
-use native.Mathlib.Omega.{arith}
-use borrow.Author.Needs.{needs}
+use Rattle.lists.proofs.Kit.{sym, _∙_, _∷_, arith, needs}
 use Rattle.replay_verdicts.proofs.Comparing.{compared-none, compared-other, compared-first}
 use Rattle.replay_verdicts.proofs.answers.compared_two.Statement.{statement}
 use Rattle.replay_verdicts.proofs.answers.compared_two.Tie as tie
-
-returns : tie.Need-returns
-returns c =
-    let given = c .before .before .before .args in
-    compared-none given.first (given .second ∷ given .places .now) (given .stored .now) (c .if1 .taken)
 
 returns-2 : tie.Need-returns-2
 returns-2 c =
@@ -24,14 +16,6 @@ returns-3 c =
     c .compared .ensures ∙ sym (compared-first given.first (given .second ∷ given .places .now) (given .stored .now) (omega arith) (at-if2 .if2 .left))
 
 pub compared-two-spec : {M : Type 1} → statement M
-compared-two-spec =
-    tie.close
-    (tie.spec
-    returns
-    (λ c. search needs)
-    returns-2
-    (λ c. search needs)
-    (λ c. search needs)
-    (λ c. search needs)
-    (λ c κs. search needs)
-    returns-3)
+compared-two-spec = tie.close
+    (tie.spec (λ c. search (needs, compared-none)) (λ c. search needs) returns-2 (λ c. search needs) (λ c. search needs) (λ c. search needs)
+    (λ c κs. search needs) returns-3)

@@ -1,11 +1,6 @@
 -- `row_search::find::last_on_row` meets its contract. The invariant of its loop: the last match before the column is the last before i.
 -- The measure is i. Assumes nothing.
-use Prim.Native.Nat.{_≤_}
-use mathlib.Core.Path.{_≡_, refl, sym, _∙_}
-use native.Mathlib.Omega.{arith}
-use lib.ListN.{length}
-use borrow.Author.Needs.{needs}
-use borrow.Author.Tests.{eq-eqb, ne-eqb}
+use Rattle.lists.proofs.Kit.{_≡_, refl, sym, _∙_, _≤_, arith, length, needs, eq-eqb, ne-eqb}
 use Rattle.row_search.specs.Nearest.{lastBelow}
 use Rattle.row_search.specs.Find.{is}
 use Rattle.row_search.proofs.Nearest.{last-on, last-stop, last-end}
@@ -32,8 +27,7 @@ loop-again c =
     let at-loop-test = c .before .before in
     let given = at-loop-test .before .before .args in (
       omega arith,
-      at-loop-test .before .loop .inv .1
-          ∙ last-on (is (given .row .now) (given .sought)) _ (at-loop-test .loop-test .taken) (ne-eqb _ _ (c .if1 .left)),
+      at-loop-test .before .loop .inv .1 ∙ last-on (is (given .row .now) (given .sought)) _ (at-loop-test .loop-test .taken) (ne-eqb _ _ (c .if1 .left)),
     )
 
 returns-2 : tie.Need-returns-2 Inv-loop μ-loop
@@ -42,6 +36,5 @@ returns-2 c =
     sym (c .before .loop .inv .1 ∙ last-end (is (given .row .now) (given .sought)) _ (c .loop-test .left))
 
 pub last-on-row-spec : {M : Type 1} → statement M
-last-on-row-spec =
-    tie.close
+last-on-row-spec = tie.close
     (tie.spec Inv-loop μ-loop loop-holds (λ c. search needs) (λ c. search needs) (λ c. search needs) returns (λ c. search needs) loop-again returns-2)

@@ -1,11 +1,6 @@
 -- `row_search::find::next_on_row` meets its contract. The invariant of its loop: the first match from the column on is the first from i on.
 -- The measure is the row's length less i. Assumes nothing.
-use Prim.Native.Nat.{_-_}
-use mathlib.Core.Path.{_≡_, refl, sym, _∙_}
-use native.Mathlib.Omega.{arith}
-use lib.ListN.{length}
-use borrow.Author.Needs.{needs}
-use borrow.Author.Tests.{eq-eqb, ne-eqb}
+use Rattle.lists.proofs.Kit.{_≡_, refl, sym, _∙_, _-_, arith, length, needs, eq-eqb, ne-eqb}
 use Rattle.row_search.specs.Nearest.{firstIn}
 use Rattle.row_search.specs.Find.{is}
 use Rattle.row_search.proofs.Nearest.{first-on, first-stop, first-end}

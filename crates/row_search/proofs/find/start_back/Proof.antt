@@ -1,7 +1,6 @@
 -- `row_search::find::start_back` meets its contract.
 -- Assumes nothing.
-use borrow.Author.Needs.{needs}
-use borrow.Author.Tests.{eq-eqb, ne-eqb, lt-ltb, le-ltb}
+use Rattle.lists.proofs.Kit.{needs, eq-eqb, ne-eqb, lt-ltb, le-ltb}
 use Rattle.row_search.proofs.find.start_back.Statement.{statement}
 use Rattle.row_search.proofs.find.start_back.Tie as tie
 
@@ -18,5 +17,4 @@ returns-4 : tie.Need-returns-4
 returns-4 c = rw (c .if1 .left)
 
 pub start-back-spec : {M : Type 1} → statement M
-start-back-spec =
-    tie.close (tie.spec (λ c. search needs) (λ c. search needs) (λ c. search needs) returns returns-2 returns-3 returns-4)
+start-back-spec = tie.close (tie.spec (λ c. search needs) (λ c. search needs) (λ c. search needs) returns returns-2 returns-3 returns-4)

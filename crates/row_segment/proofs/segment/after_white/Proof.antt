@@ -1,9 +1,6 @@
 -- `row_segment::segment::after_white` meets its contract. The invariant of its loop: the characters from k on and before n are no white space.
 -- The measure is k. Assumes nothing.
-use borrow.Author.Needs.{needs}
-use Prim.Native.Nat.{_≤_}
-use mathlib.Core.Path.{_≡_, refl, sym, ap, _∙_}
-use native.Mathlib.Omega.{arith}
+use Rattle.lists.proofs.Kit.{_≡_, refl, sym, ap, _∙_, _≤_, arith, needs}
 use Rattle.chars.specs.White.{isWhite}
 use Rattle.row_segment.proofs.White.{white-none, white-here, white-before}
 use Rattle.row_segment.specs.Segments.{afterWhite}
@@ -38,7 +35,5 @@ returns-2 c =
     sym (c .before .loop .inv .1 ∙ ap (afterWhite isWhite row) k-is ∙ white-none isWhite row)
 
 pub after-white-spec : {M : Type 1} → statement M
-after-white-spec =
-    tie.close
-    (tie.spec Inv-loop μ-loop loop-holds (λ c. search needs) (λ c. search needs) (λ c. search needs)
+after-white-spec = tie.close (tie.spec Inv-loop μ-loop loop-holds (λ c. search needs) (λ c. search needs) (λ c. search needs)
     (λ c κs. search needs) returns (λ c. search needs) (λ c. search needs) loop-again returns-2)

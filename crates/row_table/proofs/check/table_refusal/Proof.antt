@@ -1,11 +1,7 @@
 -- `check::table_refusal` meets its contract: places, starts, number. Assumes nothing.
-use mathlib.Core.Path.{sym, _∙_}
-use mathlib.Core.Bool.{and-false}
-use native.Mathlib.Omega.{arith}
-use borrow.Author.Needs.{needs}
-use borrow.Author.Tests.{eq-eqb, ne-eqb, lt-ltb, le-ltb, not-true, not-false}
+use Rattle.lists.proofs.Kit.{sym, _∙_, and-false, needs, eq-eqb, ne-eqb, lt-ltb, le-ltb, not-true, not-false}
 use Rattle.row_table.specs.Table.{tableRefusal}
-use Rattle.row_table.proofs.Ascend.{held-same}
+use Rattle.row_table.proofs.Held.{held-same}
 use Rattle.row_table.proofs.check.table_refusal.Statement.{statement}
 use Rattle.row_table.proofs.check.table_refusal.Tie as tie
 
@@ -41,5 +37,4 @@ returns-4 c =
     )
 
 pub table-refusal-spec : {M : Type 1} → statement M
-table-refusal-spec =
-    tie.close (tie.spec returns (λ c κs. search needs) returns-2 (λ c κs. search needs) returns-3 returns-4)
+table-refusal-spec = tie.close (tie.spec returns (λ c κs. search needs) returns-2 (λ c κs. search needs) returns-3 returns-4)

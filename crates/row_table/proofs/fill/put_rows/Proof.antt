@@ -1,7 +1,5 @@
 -- `fill::put_rows` meets its contract: the first row's start, and then those behind the separators. Assumes nothing.
-use native.Mathlib.Omega.{arith}
-use lib.ListN.{length-set}
-use borrow.Author.Needs.{needs}
+use Rattle.lists.proofs.Kit.{arith, length-set}
 use Rattle.text.proofs.Rows.{rows-pos}
 use Rattle.row_table.proofs.Puts.{put-all}
 use Rattle.row_table.proofs.fill.put_rows.Statement.{statement}
@@ -28,5 +26,4 @@ returns c =
     put-all (given.t .now) (omega (arith, rows-pos (given.t .now))) (put .put-starts .ensures)
 
 pub put-rows-spec : {M : Type 1} → statement M
-put-rows-spec =
-    tie.close (tie.spec slice-write-starts put-starts-requires same-length returns)
+put-rows-spec = tie.close (tie.spec slice-write-starts put-starts-requires same-length returns)

@@ -1,9 +1,6 @@
 -- `fill::put_starts` meets its contract. The invariant of its loop: the starts of the first i code points are written. The measure is the part's
 -- length less i. Assumes nothing.
-use Prim.Native.Nat.{_-_}
-use native.Mathlib.Omega.{arith}
-use lib.ListN.{length}
-use borrow.Author.Needs.{needs}
+use Rattle.lists.proofs.Kit.{_-_, arith, length, needs}
 use Rattle.row_table.proofs.Puts.{Putting, putting-none, putting-room, putting-nl, putting-on, putting-end}
 use Rattle.row_table.proofs.fill.put_starts.Statement.{statement}
 use Rattle.row_table.proofs.fill.put_starts.Tie as tie
@@ -45,25 +42,12 @@ returns : tie.Need-returns Inv-loop μ-loop
 returns c = putting-end (c .before .loop .inv) (c .loop-test .left)
 
 pub put-starts-spec : {M : Type 1} → statement M
-put-starts-spec =
-    tie.close
-    (tie.spec
-    Inv-loop
-    μ-loop
-    loop-holds
-    (λ c. search needs)
-    (λ c. search needs)
-    (λ c. search needs)
-    (λ c. search needs)
-    cast-starts
+put-starts-spec = tie.close (tie.spec Inv-loop μ-loop loop-holds (λ c. search needs) (λ c. search needs) (λ c. search needs) (λ c. search needs) cast-starts
     add-starts-2
     mul-starts
     slice-write-starts
-    add-n
-    (λ c. search needs)
-    loop-again
-    (λ c. search needs)
-    (λ c. search needs)
+    add-n (λ c. search needs)
+    loop-again (λ c. search needs) (λ c. search needs)
     loop-again-2
     same-length
     returns)

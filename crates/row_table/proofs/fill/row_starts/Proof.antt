@@ -1,8 +1,6 @@
 -- `fill::row_starts` meets its contract: by the text, by the places, and filled. An accepted text is short, so that its rows fit a u32.
 -- Assumes nothing.
-use mathlib.Core.Path.{sym, _∙_}
-use native.Mathlib.Omega.{arith}
-use borrow.Author.Needs.{needs}
+use Rattle.lists.proofs.Kit.{sym, _∙_, arith, needs}
 use Rattle.text_check.proofs.Accepted.{accepted-short}
 use Rattle.text.proofs.Parts.{count-le}
 use Rattle.text.proofs.Content.{content-near}
@@ -56,7 +54,6 @@ returns-3 c =
     (omega (arith, put .before .before .if2 .left, counted .row-count .ensures)) (c .content-of .ensures) (put .put-rows .ensures)
 
 pub row-starts-spec : {M : Type 1} → statement M
-row-starts-spec =
-    tie.close
+row-starts-spec = tie.close
     (tie.spec (λ c κs. search needs) returns (λ c κs. search needs) returns-2 put-rows-requires (λ c κs. search needs) cast-content (λ c. search needs)
     returns-3)

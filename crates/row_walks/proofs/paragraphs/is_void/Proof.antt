@@ -1,8 +1,6 @@
 -- `row_walks::paragraphs::is_void` meets its contract: the code point at the row's start tells.
 -- Assumes nothing.
-use mathlib.Core.Path.{sym}
-use native.Mathlib.Omega.{arith}
-use borrow.Author.Needs.{needs}
+use Rattle.lists.proofs.Kit.{sym, arith, needs}
 use Rattle.text.proofs.At.{at-start}
 use Rattle.row_walks.proofs.Walks.{void-end, void-is}
 use Rattle.row_walks.proofs.paragraphs.is_void.Statement.{statement}
@@ -16,8 +14,7 @@ returns c =
 returns-2 : tie.Need-returns-2
 returns-2 c =
     let at-entry = c .before .before in
-    rw (at-entry .pre .begins)
-    (sym (void-is (at-start (at-entry .args .t .now) (at-entry .args .l .row) (at-entry .pre .in-row))
+    rw (at-entry .pre .begins) (sym (void-is (at-start (at-entry .args .t .now) (at-entry .args .l .row) (at-entry .pre .in-row))
     (omega (arith, at-entry .pre .begins, c .before .if1 .left))))
 
 pub is-void-spec : {M : Type 1} → statement M

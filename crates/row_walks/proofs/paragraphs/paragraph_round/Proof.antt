@@ -1,7 +1,6 @@
 -- `row_walks::paragraphs::paragraph_round` meets its contract. The invariant of its loop is `Rounding`: from the walk's row on the round leads where it was to.
 -- The measure is the rows that are left in the direction. The bits of the signed row are the row. Assumes nothing.
-use native.Mathlib.Omega.{arith}
-use borrow.Author.Needs.{needs}
+use Rattle.lists.proofs.Kit.{arith, needs}
 use Rattle.text.proofs.Parts.{count-le}
 use Rattle.text.proofs.Content.{content-near}
 use Rattle.row_walks.specs.Toward.{rowsLeft}
@@ -84,11 +83,9 @@ loop-again c =
     let at-is-void = c .before .before .before in
     let at-loop = at-is-void .before in
     rounding-on (at-loop .loop .inv) _ (at-is-void .is-void .ensures) (c .before .before .if1 .left) _ (at-loop .before .before .direction .ensures)
-    (c .before .if2 .left) _
-    (c .beside .ensures)
+    (c .before .if2 .left) _ (c .beside .ensures)
 
 pub paragraph-round-spec : {M : Type 1} → statement M
-paragraph-round-spec =
-    tie.close
+paragraph-round-spec = tie.close
     (tie.spec Inv-loop μ-loop cast-end (λ c κs. search needs) cast-curr loop-holds cast-t15 is-void-requires returns add-curr sub-curr cast-t19 returns-2
     beside-requires loop-less loop-again)

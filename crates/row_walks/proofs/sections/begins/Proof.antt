@@ -1,8 +1,6 @@
 -- `row_walks::sections::begins` meets its contract: the code point at the row's start tells.
 -- Assumes nothing.
-use mathlib.Core.Path.{sym}
-use native.Mathlib.Omega.{arith}
-use borrow.Author.Needs.{needs}
+use Rattle.lists.proofs.Kit.{sym, arith, needs}
 use Rattle.text.proofs.At.{at-start}
 use Rattle.row_walks.proofs.Marks.{begins-end, begins-is}
 use Rattle.row_walks.proofs.sections.begins.Statement.{statement}
@@ -19,8 +17,7 @@ returns-2 : tie.Need-returns-2
 returns-2 c =
     let at-entry = c .before .before in
     let required = at-entry .pre .0 in
-    rw (required .begins)
-    (sym (begins-is (at-entry .args .x) (at-start (at-entry .args .t .now) (at-entry .args .l .row) (required .in-row))
+    rw (required .begins) (sym (begins-is (at-entry .args .x) (at-start (at-entry .args .t .now) (at-entry .args .l .row) (required .in-row))
     (omega (arith, required .begins, c .before .if1 .left)) (at-entry .pre .1)))
 
 pub begins-spec : {M : Type 1} → statement M

@@ -1,55 +1,42 @@
--- `row_walks::sections::section_down` meets its contract. The invariant of its loop: what is left to be found from the walk's row on leads where all of it does.
--- The measure is the rows below. Assumes nothing.
-use Prim.Native.Nat.{_-_}
-use mathlib.Core.Path.{_≡_, ap, sym, _∙_}
-use native.Mathlib.Omega.{arith}
-use borrow.Author.Needs.{needs}
+-- `row_walks::sections::section_down` meets its contract. The invariant of its loop: what is left to be found from the walk's row on leads where all of
+-- it does. The measure is the rows below. Assumes nothing.
+use Rattle.lists.proofs.Kit.{ap, sym, _∙_, _-_, arith, needs}
 use Rattle.text.specs.Text.{contentRows}
-use Rattle.text.specs.Offsets.{Stands}
 use Rattle.text.specs.declared.Line.{Line}
 use Rattle.text.proofs.Stands.{line-there}
 use Rattle.row_walks.specs.Sections.{sectionDown}
-use Rattle.row_walks.proofs.Marks.{down-none, down-done, down-step, has-next}
+use Rattle.row_walks.proofs.Marks.{Seeks, seeks-on, seeks-end, down-none, down-done, down-step, has-next}
 use Rattle.row_walks.proofs.sections.section_down.Statement.{statement}
 use Rattle.row_walks.proofs.sections.section_down.Tie as tie
 
 abbrev Inv-loop : tie.InvT-loop
 Inv-loop t last x n row₀ start₀ left₀ row start left =
-    Stands t row start start × (last ≡ contentRows t - 1) × (x ≡ 10 → ⊥) ×
-    (sectionDown t x n row₀ (contentRows t - 1 - row₀) ≡ sectionDown t x left row (last - row))
+    Seeks t (λ k r. sectionDown t x k r (last - r)) (sectionDown t x n row₀ (contentRows t - 1 - row₀)) row start left
 
 abbrev μ-loop : tie.MeasureT-loop
 μ-loop t last x n row₀ start₀ left₀ row start left = last - row
 
 loop-holds : tie.Need-loop-holds Inv-loop μ-loop
-loop-holds c =
-    let required = c .before .pre in
-    (required .0, required .1, required .2, rw (required .1))
+loop-holds c = record { line = c .before .pre .0; same = rw (c .before .pre .1) }
 
 returns : tie.Need-returns Inv-loop μ-loop
 returns c =
     let at-loop = c .before .before in
     let given = at-loop .before .before .args in
-    let invariant = at-loop .loop .inv in (
-      sym (invariant .3 ∙ down-done (given .t .now) (given .x) (at-loop .loop .left) (at-loop .loop .row) _ (omega (arith, c .if1 .taken))),
-      omega (arith, invariant .0 .below, invariant .0 .within),
-    )
+    seeks-end (at-loop .loop .inv) (down-done (given .t .now) (given .x) (at-loop .loop .left) (at-loop .loop .row) _ (omega (arith, c .if1 .taken)))
 
 next-line-requires : tie.Need-next-line-requires Inv-loop μ-loop
 next-line-requires c κs =
     let at-loop = c .before .before in
-    let invariant = at-loop .loop .inv in
-    (invariant .0, has-next (at-loop .before .before .args .t .now) (at-loop .loop .row) _ (invariant .1) (c .before .loop-test .taken))
+    let at-start = at-loop .before .before in
+    (at-loop .loop .inv .line, has-next (at-start .args .t .now) (at-loop .loop .row) _ (at-start .pre .1) (c .before .loop-test .taken))
 
 begins-requires : tie.Need-begins-requires Inv-loop μ-loop
 begins-requires c κs =
     let at-loop = c .before .before .before in
-    let text-now = at-loop .before .before .args .t .now in
-    let invariant = at-loop .loop .inv in (
-      line-there text-now (c .next-line .result) _ (c .next-line .ensures)
-          (has-next text-now (at-loop .loop .row) _ (invariant .1) (c .before .before .loop-test .taken)),
-      invariant .2,
-    )
+    let at-start = at-loop .before .before in
+    let below = has-next (at-start .args .t .now) (at-loop .loop .row) _ (at-start .pre .1) (c .before .before .loop-test .taken) in
+    (line-there (at-start .args .t .now) (c .next-line .result) _ (c .next-line .ensures) below, at-start .pre .2)
 
 loop-less : tie.Need-loop-less Inv-loop μ-loop
 loop-less c = omega (arith, ap (λ (l : Line). l .row) (c .before .before .next-line .ensures), c .before .before .before .before .loop-test .taken)
@@ -60,18 +47,13 @@ loop-again c =
     let at-next-line = c .before .before in
     let more = at-next-line .before .before .loop-test .taken in
     let at-loop = at-next-line .before .before .before in
-    let given = at-loop .before .before .args in
-    let invariant = at-loop .loop .inv in
-    let down = ap (λ (l : Line). l .row) (at-next-line .next-line .ensures) in (
-      line-there (given .t .now) (at-next-line .next-line .result) _ (at-next-line .next-line .ensures)
-          (has-next (given .t .now) (at-loop .loop .row) _ (invariant .1) more),
-      invariant .1,
-      invariant .2,
-      invariant .3
-          ∙ down-step (given .t .now) (given .x) (at-loop .loop .left) (at-loop .loop .row) (given .last) _
-          (omega (arith, at-next-line .before .if1 .left)) more down ∙
-          rw (sym (c .before .begins .ensures) ∙ c .if2 .taken),
-    )
+    let at-start = at-loop .before .before in
+    let given = at-start .args in
+    let down = ap (λ (l : Line). l .row) (at-next-line .next-line .ensures) in
+    seeks-on (at-loop .loop .inv) (line-there (given .t .now) (at-next-line .next-line .result) _ (at-next-line .next-line .ensures)
+    (has-next (given .t .now) (at-loop .loop .row) _ (at-start .pre .1) more))
+    (down-step (given .t .now) (given .x) (at-loop .loop .left) (at-loop .loop .row) (given .last) _ (omega (arith, at-next-line .before .if1 .left)) more down
+    ∙ rw (sym (c .before .begins .ensures) ∙ c .if2 .taken))
 
 loop-less-2 : tie.Need-loop-less-2 Inv-loop μ-loop
 loop-less-2 c = omega (arith, ap (λ (l : Line). l .row) (c .before .before .next-line .ensures), c .before .before .before .before .loop-test .taken)
@@ -81,30 +63,20 @@ loop-again-2 c =
     let at-next-line = c .before .before in
     let more = at-next-line .before .before .loop-test .taken in
     let at-loop = at-next-line .before .before .before in
-    let given = at-loop .before .before .args in
-    let invariant = at-loop .loop .inv in
-    let down = ap (λ (l : Line). l .row) (at-next-line .next-line .ensures) in (
-      line-there (given .t .now) (at-next-line .next-line .result) _ (at-next-line .next-line .ensures)
-          (has-next (given .t .now) (at-loop .loop .row) _ (invariant .1) more),
-      invariant .1,
-      invariant .2,
-      invariant .3
-          ∙ down-step (given .t .now) (given .x) (at-loop .loop .left) (at-loop .loop .row) (given .last) _
-          (omega (arith, at-next-line .before .if1 .left)) more down ∙
-          rw (sym (c .before .begins .ensures) ∙ c .if2 .left),
-    )
+    let at-start = at-loop .before .before in
+    let given = at-start .args in
+    let down = ap (λ (l : Line). l .row) (at-next-line .next-line .ensures) in
+    seeks-on (at-loop .loop .inv) (line-there (given .t .now) (at-next-line .next-line .result) _ (at-next-line .next-line .ensures)
+    (has-next (given .t .now) (at-loop .loop .row) _ (at-start .pre .1) more))
+    (down-step (given .t .now) (given .x) (at-loop .loop .left) (at-loop .loop .row) (given .last) _ (omega (arith, at-next-line .before .if1 .left)) more down
+    ∙ rw (sym (c .before .begins .ensures) ∙ c .if2 .left))
 
 returns-2 : tie.Need-returns-2 Inv-loop μ-loop
 returns-2 c =
     let at-loop = c .before in
     let given = at-loop .before .before .args in
-    let invariant = at-loop .loop .inv in (
-      sym (invariant .3 ∙ down-none (given .t .now) (given .x) (at-loop .loop .left) (at-loop .loop .row) _ (omega (arith, c .loop-test .left))),
-      omega (arith, invariant .0 .below, invariant .0 .within),
-    )
+    seeks-end (at-loop .loop .inv) (down-none (given .t .now) (given .x) (at-loop .loop .left) (at-loop .loop .row) _ (omega (arith, c .loop-test .left)))
 
 pub section-down-spec : {M : Type 1} → statement M
-section-down-spec =
-    tie.close
-    (tie.spec Inv-loop μ-loop loop-holds returns next-line-requires begins-requires (λ c. search needs) loop-less loop-again loop-less-2
-    loop-again-2 returns-2)
+section-down-spec = tie.close
+    (tie.spec Inv-loop μ-loop loop-holds returns next-line-requires begins-requires (λ c. search needs) loop-less loop-again loop-less-2 loop-again-2 returns-2)

@@ -1,10 +1,6 @@
 -- `row_wrap::breaks::count_segments` meets its contract. The invariant of its loop: n segments are passed, and the next begins at `start`.
 -- The measure is the row's length less `start`. Assumes nothing.
-use borrow.Author.Needs.{needs}
-use Prim.Native.Nat.{_-_, _*_, _≤_}
-use lib.ListN.{length}
-use mathlib.Core.Path.{refl, sym}
-use native.Mathlib.Omega.{arith}
+use Rattle.lists.proofs.Kit.{refl, sym, _-_, _*_, _≤_, arith, length, needs}
 use Rattle.chars.specs.White.{isWhite}
 use Rattle.chars.specs.Width.{widthBy}
 use Rattle.row_wrap.proofs.Walk.{SegmentsTo, walk-start, walk-next, walk-count, walk-end}
@@ -25,16 +21,14 @@ loop-again c =
     let at-loop-test = c .before .before in
     let invariant = at-loop-test .before .loop .inv in (
       walk-count (invariant .0) (at-loop-test .before .loop .n) refl
-          (walk-next (invariant .0) (at-loop-test .loop-test .taken) (c .first-segment .ensures .0)),
+          (walk-next (invariant .0) (at-loop-test .loop-test .taken) (c .first-segment .ensures .count)),
       omega arith,
     )
 
 returns : tie.Need-returns Inv-loop μ-loop
-returns c = (sym (walk-end (c .before .loop .inv .0) (c .loop-test .left)), omega arith)
+returns c = record { count = sym (walk-end (c .before .loop .inv .0) (c .loop-test .left)); inside = omega arith }
 
 pub count-segments-spec : {M : Type 1} → statement M
-count-segments-spec =
-    tie.close
-    (tie.spec Inv-loop μ-loop loop-holds (λ c. search needs) (λ c. search needs) (λ c. search needs)
+count-segments-spec = tie.close (tie.spec Inv-loop μ-loop loop-holds (λ c. search needs) (λ c. search needs) (λ c. search needs)
     (λ c. search needs) (λ c κs. search needs) (λ c. search needs) (λ c. search needs) (λ c. search needs)
     loop-again returns)

@@ -1,7 +1,4 @@
--- `row_wrap::breaks::is_whole` meets its contract. Assumes nothing.
-use borrow.Author.Needs.{needs}
-use borrow.Author.Tests.{eq-eqb, ne-eqb}
-use mathlib.Core.Path.{sym, _∙_}
+use Rattle.lists.proofs.Kit.{sym, _∙_, needs, eq-eqb, ne-eqb}
 use Rattle.row_wrap.proofs.breaks.is_whole.Statement.{statement}
 use Rattle.row_wrap.proofs.breaks.is_whole.Tie as tie
 

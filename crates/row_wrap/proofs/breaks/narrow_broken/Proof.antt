@@ -1,6 +1,5 @@
 -- `row_wrap::breaks::narrow_broken` meets its contract: the tables that it lends are those of the setting. Assumes nothing.
-use borrow.Author.Needs.{needs}
-use mathlib.Core.Path.{refl}
+use Rattle.lists.proofs.Kit.{refl, needs}
 use Rattle.chars.specs.White.{whites}
 use Rattle.chars.specs.Width.{zeroWidths, doubleWidths}
 use Rattle.widths.specs.declared.Ambiguous.the-variants.{Narrow}
@@ -19,7 +18,4 @@ unfolding zeroWidths doubleWidths doublesOf
 returns c = rw (← width-lent Narrow refl refl) (c .before .before .fit-segments .ensures)
 
 pub narrow-broken-spec : {M : Type 1} → statement M
-narrow-broken-spec =
-    tie.close
-    (tie.spec (λ c. search needs) (λ c. search needs) (λ c. search needs) fit-segments-requires
-    (λ c. search needs) returns)
+narrow-broken-spec = tie.close (tie.spec (λ c. search needs) (λ c. search needs) (λ c. search needs) fit-segments-requires (λ c. search needs) returns)

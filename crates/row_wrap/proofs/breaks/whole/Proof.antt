@@ -1,6 +1,5 @@
 -- `row_wrap::breaks::whole` meets its contract: two places are written where there are two. Assumes nothing.
-use borrow.Author.Needs.{needs}
-use mathlib.Core.Path.{refl, _∙_}
+use Rattle.lists.proofs.Kit.{refl, _∙_, needs}
 use Rattle.row_wrap.proofs.Room.{fitted-refused, fitted-count, filled-pair}
 use Rattle.row_wrap.proofs.breaks.whole.Statement.{statement}
 use Rattle.row_wrap.proofs.breaks.whole.Tie as tie

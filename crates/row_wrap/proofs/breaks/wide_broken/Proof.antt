@@ -1,6 +1,5 @@
 -- `row_wrap::breaks::wide_broken` meets its contract: the tables that it lends are those of the setting. Assumes nothing.
-use borrow.Author.Needs.{needs}
-use mathlib.Core.Path.{refl}
+use Rattle.lists.proofs.Kit.{refl, needs}
 use Rattle.chars.specs.White.{whites}
 use Rattle.chars.specs.Width.{zeroWidths}
 use Rattle.widths.proofs.WideTable.{wideDoubles}
@@ -20,7 +19,4 @@ unfolding zeroWidths wideDoubles doublesOf
 returns c = rw (← width-lent Wide refl refl) (c .before .before .fit-segments .ensures)
 
 pub wide-broken-spec : {M : Type 1} → statement M
-wide-broken-spec =
-    tie.close
-    (tie.spec (λ c. search needs) (λ c. search needs) (λ c. search needs) fit-segments-requires
-    (λ c. search needs) returns)
+wide-broken-spec = tie.close (tie.spec (λ c. search needs) (λ c. search needs) (λ c. search needs) fit-segments-requires (λ c. search needs) returns)

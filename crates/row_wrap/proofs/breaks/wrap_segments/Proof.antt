@@ -1,7 +1,5 @@
 -- `row_wrap::breaks::wrap_segments` meets its contract: the row's refusal first, then the one segment or those of a broken row. Assumes nothing.
-use borrow.Author.Needs.{needs}
-use mathlib.Core.Bool.{Bool}
-use mathlib.Core.Path.{sym, ap, _∙_}
+use Rattle.lists.proofs.Kit.{sym, ap, _∙_, Bool, needs}
 use Rattle.chars.specs.White.{isWhite}
 use Rattle.widths.specs.Widths.{widthAs}
 use Rattle.row_check.proofs.Answers.{accepted-brief}
@@ -37,7 +35,5 @@ returns-3 c =
     (parts ∙ word) (c .before .before .broken .ensures)
 
 pub wrap-segments-spec : {M : Type 1} → statement M
-wrap-segments-spec =
-    tie.close
-    (tie.spec (λ c κs. search needs) returns (λ c κs. search needs) whole-requires (λ c. search needs) returns-2
+wrap-segments-spec = tie.close (tie.spec (λ c κs. search needs) returns (λ c κs. search needs) whole-requires (λ c. search needs) returns-2
     (λ c κs. search needs) broken-requires (λ c. search needs) returns-3)

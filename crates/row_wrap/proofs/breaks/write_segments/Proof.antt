@@ -1,9 +1,6 @@
 -- `row_wrap::breaks::write_segments` meets its contract. The invariant of its loop: the first `at` numbers of the
 -- segments stand in the room, and the next segment begins at `start`. The measure is the row's length less `start`. Assumes nothing.
-use borrow.Author.Needs.{needs}
-use Prim.Native.Nat.{_-_}
-use lib.ListN.{length}
-use native.Mathlib.Omega.{arith}
+use Rattle.lists.proofs.Kit.{_-_, arith, length, needs}
 use Rattle.chars.specs.White.{isWhite}
 use Rattle.chars.specs.Width.{widthBy}
 use Rattle.row_wrap.proofs.Room.{FilledTo, filled-start, filled-two, filled-end}
@@ -26,14 +23,14 @@ put-segment-requires : tie.Need-put-segment-requires Inv-loop μ-loop
 put-segment-requires c κs =
     let at-loop-test = c .before .before .before in
     let invariant = at-loop-test .before .loop .inv in
-    let by-walk-next = walk-next (invariant .0) (at-loop-test .loop-test .taken) (c .before .first-segment .ensures .0) in
+    let by-walk-next = walk-next (invariant .0) (at-loop-test .loop-test .taken) (c .before .first-segment .ensures .count) in
     (omega (arith, by-walk-next .there, invariant .1 .size), (omega arith, omega (arith, by-walk-next .onward .inside)))
 
 loop-again : tie.Need-loop-again Inv-loop μ-loop
 loop-again c =
     let at-loop-test = c .before .before .before .before .before .before in
     let invariant = at-loop-test .before .loop .inv in
-    let by-walk-next = walk-next (invariant .0) (at-loop-test .loop-test .taken) (c .before .before .before .before .first-segment .ensures .0) in
+    let by-walk-next = walk-next (invariant .0) (at-loop-test .loop-test .taken) (c .before .before .before .before .first-segment .ensures .count) in
     let fit = at-loop-test .before .before .before .before .before .before .before .pre .1 in (
       by-walk-next .onward,
       rw (c .before .before .put-segment .ensures) (filled-two (invariant .1) (by-walk-next .there) fit (by-walk-next .first) (by-walk-next .second)),
@@ -43,8 +40,6 @@ returns : tie.Need-returns Inv-loop μ-loop
 returns c = filled-end (c .before .loop .inv .1) (walk-end (c .before .loop .inv .0) (c .loop-test .left))
 
 pub write-segments-spec : {M : Type 1} → statement M
-write-segments-spec =
-    tie.close
-    (tie.spec Inv-loop μ-loop loop-holds (λ c. search needs) (λ c. search needs) (λ c. search needs)
+write-segments-spec = tie.close (tie.spec Inv-loop μ-loop loop-holds (λ c. search needs) (λ c. search needs) (λ c. search needs)
     (λ c. search needs) (λ c κs. search needs) (λ c. search needs) put-segment-requires (λ c. search needs)
     (λ c. search needs) loop-again (λ c. search needs) returns)

@@ -1,7 +1,4 @@
--- `screen::out_of_folds::jump` meets its contract. Assumes nothing.
-use mathlib.Core.Path.{sym, ap, _∙_}
-use native.Mathlib.Omega.{arith}
-use borrow.Author.Needs.{needs}
+use Rattle.lists.proofs.Kit.{sym, ap, _∙_, arith, needs}
 use Rattle.text.proofs.Content.{content-near}
 use Rattle.screen.specs.Screen.{jumpedTo}
 use Rattle.screen.proofs.Spans.{end-within, jumped-out, jumped-not}
@@ -20,8 +17,7 @@ jump-to-requires c κs =
     let given = at-start .args in
     let near = content-near (given .t .now) in
     let by-end-within = end-within (given .folds .now) (given .rows) (given .content) (omega (arith, at-start .pre .4))
-    (omega (arith, at-start .pre .4, at-start .pre .0))
-    (given .down) (given .l .row) _ _ (omega (arith, at-start .pre .2 .in-row, at-start .pre .0))
+    (omega (arith, at-start .pre .4, at-start .pre .0)) (given .down) (given .l .row) _ _ (omega (arith, at-start .pre .2 .in-row, at-start .pre .0))
     (sym (at-closed-fold-at .closed-fold-at .ensures) ∙ c .before .before .first .given .1) in
     (at-start .pre .2, omega (arith, by-end-within, c .pick .ensures, at-start .pre .0), at-start .pre .3)
 
@@ -31,28 +27,26 @@ returns c =
     let at-closed-fold-at = at-pick .before .before .before .before in
     let at-start = at-closed-fold-at .before .before .before in
     let given = at-start .args in
-    let jump-to-told = c .jump-to .ensures in (
-      jump-to-told .0 ∙
-          ap (jumpedTo (given .t .now) (record { row = given .l .row; col = given .col })) (at-pick .pick .ensures) ∙
+    let jump-to-told = c .jump-to .ensures in
+    record {
+      place = jump-to-told .place ∙ ap (jumpedTo (given .t .now) (record { row = given .l .row; col = given .col })) (at-pick .pick .ensures) ∙
           sym (jumped-out (given .t .now) (given .folds .now) (given .down) (record { row = given .l .row; col = given .col }) (at-start .pre .0)
-          (at-start .pre .4)
-          (at-closed-fold-at .closed-fold-at .ensures) _ _ (at-pick .before .before .first .given .1)),
-      jump-to-told .1,
-      jump-to-told .2,
-    )
+          (at-start .pre .4) (at-closed-fold-at .closed-fold-at .ensures) _ _ (at-pick .before .before .first .given .1));
+      line = jump-to-told .line;
+      small = jump-to-told .small;
+    }
 
 returns-2 : tie.Need-returns-2
 returns-2 c =
     let at-closed-fold-at = c .before .before in
     let at-start = at-closed-fold-at .before .before .before in
-    let given = at-start .args in (
-      sym (jumped-not (given .t .now) (given .folds .now) (given .down) (record { row = given .l .row; col = given .col }) (at-start .pre .0) (at-start .pre .4)
-          (at-closed-fold-at .closed-fold-at .ensures) (c .enum-told .given .1)),
-      at-start .pre .2,
-      at-start .pre .3,
-    )
+    let given = at-start .args in
+    record {
+      place = sym (jumped-not (given .t .now) (given .folds .now) (given .down) (record { row = given .l .row; col = given .col }) (at-start .pre .0)
+          (at-start .pre .4) (at-closed-fold-at .closed-fold-at .ensures) (c .enum-told .given .1));
+      line = at-start .pre .2;
+      small = at-start .pre .3;
+    }
 
 pub jump-spec : {M : Type 1} → statement M
-jump-spec =
-    tie.close
-    (tie.spec closed-fold-at-requires (λ c. search needs) (λ c κs. search needs) jump-to-requires (λ c. search needs) returns returns-2)
+jump-spec = tie.close (tie.spec closed-fold-at-requires (λ c. search needs) (λ c κs. search needs) jump-to-requires (λ c. search needs) returns returns-2)

@@ -1,7 +1,4 @@
--- `screen::out_of_folds::jump_to` meets its contract. Assumes nothing.
-use mathlib.Core.Path.{ap, _∙_}
-use Prim.Native.Nat.{min}
-use borrow.Author.Needs.{needs}
+use Rattle.lists.proofs.Kit.{ap, _∙_, min, needs}
 use Rattle.text.proofs.Stands.{line-there, stands-own}
 use Rattle.screen.proofs.Spans.{jump-own, jump-other}
 use Rattle.screen.proofs.out_of_folds.jump_to.Statement.{statement}
@@ -32,5 +29,4 @@ returns-2 c =
     (at-line-to .line-to .ensures) (at-row-len .row-len .ensures) (c .least .ensures ∙ ap (min (given .col)) (at-minus .minus .ensures))
 
 pub jump-to-spec : {M : Type 1} → statement M
-jump-to-spec =
-    tie.close (tie.spec returns line-to-requires row-len-requires (λ c κs. search needs) (λ c κs. search needs) returns-2)
+jump-to-spec = tie.close (tie.spec returns line-to-requires row-len-requires (λ c κs. search needs) (λ c κs. search needs) returns-2)

@@ -1,9 +1,4 @@
--- `walks::land` meets its contract. Assumes nothing.
-use mathlib.Core.Path.{ap}
-use mathlib.Core.List.{List}
-use Prim.Native.Nat.{ℕ}
-use native.Mathlib.Omega.{arith}
-use borrow.Author.Needs.{needs}
+use Rattle.lists.proofs.Kit.{ap, List, ℕ, arith, needs}
 use Rattle.chars.specs.Width.{widthBy}
 use Rattle.text.proofs.Parts.{row-fits}
 use Rattle.screen_segments.specs.Parts.{segmentCount, layOf}
@@ -18,7 +13,7 @@ ahead-of-requires c κs =
     let width = widthBy (given .zeros .now) (given .doubles .now) in
     omega (
       arith,
-      c .segment-count .ensures .0,
+      c .segment-count .ensures .count,
       ap (λ (x : List ℕ). segmentCount (layOf width (given .word) (given .width) x)) (c .before .row .ensures),
       at-start .pre .1 .inside,
     )
@@ -32,8 +27,8 @@ clamp-to-segment-requires c κs =
     let given = at-start .args in
     let width = widthBy (given .zeros .now) (given .doubles .now) in
     let by-part-starts = part-starts width (given .t .now) (given .word) (given .width) (given .down) (given .s .row) (at-row .row .ensures)
-    (given .s .ahead) (at-segment-count .segment-count .ensures .0)
-    (at-ahead-of .ahead-of .ensures) (c .find-segment .ensures .0) (at-start .pre .1 .inside) in
+    (given .s .ahead) (at-segment-count .segment-count .ensures .count)
+    (at-ahead-of .ahead-of .ensures) (c .find-segment .ensures .part) (at-start .pre .1 .inside) in
     omega (arith, by-part-starts, row-fits (given .t .now) (given .s .row) (at-start .pre .1 .line .in-row), at-start .pre .0 .2, at-start .pre .0 .3)
 
 returns : tie.Need-returns
@@ -46,10 +41,8 @@ returns c =
     let given = at-start .args in
     let width = widthBy (given .zeros .now) (given .doubles .now) in
     place-is width (given .t .now) (given .word) (given .width) (given .down) (given .s .row) (at-row .row .ensures) (given .s .ahead)
-    (at-segment-count .segment-count .ensures .0) (at-ahead-of .ahead-of .ensures)
-    (at-find-segment .find-segment .ensures .0) (at-start .pre .1 .inside)
+    (at-segment-count .segment-count .ensures .count) (at-ahead-of .ahead-of .ensures) (at-find-segment .find-segment .ensures .part) (at-start .pre .1 .inside)
     (given .offset) _ (c .clamp-to-segment .ensures)
 
 pub land-spec : {M : Type 1} → statement M
-land-spec =
-    tie.close (tie.spec (λ c κs. search needs) (λ c κs. search needs) ahead-of-requires (λ c κs. search needs) clamp-to-segment-requires returns)
+land-spec = tie.close (tie.spec (λ c κs. search needs) (λ c κs. search needs) ahead-of-requires (λ c κs. search needs) clamp-to-segment-requires returns)

@@ -1,8 +1,5 @@
 -- `walks::rounds_from` meets its contract: a place that can move goes as its spot does. Assumes nothing.
-use mathlib.Core.Path.{sym, ap, _∙_}
-use Prim.Native.Nat.{ℕ}
-use native.Mathlib.Omega.{arith}
-use borrow.Author.Needs.{needs}
+use Rattle.lists.proofs.Kit.{sym, ap, _∙_, ℕ, arith, needs}
 use Rattle.chars.specs.Width.{widthBy}
 use Rattle.visible_rows.specs.Visible.{toward}
 use Rattle.screen.proofs.Landing.{from-inside, from-on, from-off, from-stuck}
@@ -15,8 +12,7 @@ glide-requires c κs =
     let given = at-start .args in
     let width = widthBy (given .zeros .now) (given .doubles .now) in
     let inside = from-inside width (given .t .now) (given .folds .now) (given .word) (given .width) (given .down) (given .n) (at-start .pre .0 .1)
-    (record { row = given .l .row; col = given .col })
-    (given .offset) (at-start .pre .1 .2) in
+    (record { row = given .l .row; col = given .col }) (given .offset) (at-start .pre .1 .2) in
     ((at-start .pre .0 .0, at-start .pre .1 .1), record { line = at-start .pre .1 .0; inside = inside })
 
 returns : tie.Need-returns
@@ -26,8 +22,7 @@ returns c =
     let given = at-start .args in
     let width = widthBy (given .zeros .now) (given .doubles .now) in
     from-on width (given .t .now) (given .folds .now) (given .word) (given .width) (given .down) (given .n) (at-start .pre .0 .1)
-    (record { row = given .l .row; col = given .col }) (given .offset)
-    (at-start .pre .1 .2) (c .glide .ensures) (at-if1 .if1 .taken)
+    (record { row = given .l .row; col = given .col }) (given .offset) (at-start .pre .1 .2) (c .glide .ensures) (at-if1 .if1 .taken)
 
 visible-row-requires : tie.Need-visible-row-requires
 visible-row-requires c κs =
@@ -40,8 +35,7 @@ glide-requires-2 c κs =
     let given = at-start .args in
     let width = widthBy (given .zeros .now) (given .doubles .now) in
     let inside = from-inside width (given .t .now) (given .folds .now) (given .word) (given .width) (given .down) (given .n) (at-start .pre .0 .1)
-    (record { row = given .l .row; col = given .col })
-    (given .offset) (at-start .pre .1 .2) in
+    (record { row = given .l .row; col = given .col }) (given .offset) (at-start .pre .1 .2) in
     ((at-start .pre .0 .0, at-start .pre .1 .1), record { line = at-start .pre .1 .0; inside = inside })
 
 returns-2 : tie.Need-returns-2
@@ -55,8 +49,7 @@ returns-2 c =
     ∙ sym (at-visible-row .visible-row .ensures) ∙
     c .before .before .x .given .1 in
     from-off width (given .t .now) (given .folds .now) (given .word) (given .width) (given .down) (given .n) (at-start .pre .0 .1)
-    (record { row = given .l .row; col = given .col }) (given .offset)
-    (at-start .pre .1 .2) (c .glide2 .ensures) _ (omega (arith, at-if1 .if1 .left)) found
+    (record { row = given .l .row; col = given .col }) (given .offset) (at-start .pre .1 .2) (c .glide2 .ensures) _ (omega (arith, at-if1 .if1 .left)) found
 
 returns-3 : tie.Need-returns-3
 returns-3 c =
@@ -69,10 +62,7 @@ returns-3 c =
     ∙ sym (at-visible-row .visible-row .ensures) ∙
     c .enum-told .given .1 in
     from-stuck width (given .t .now) (given .folds .now) (given .word) (given .width) (given .down) (given .n) (at-start .pre .0 .1)
-    (record { row = given .l .row; col = given .col }) (given .offset)
-    (at-start .pre .1 .2) (omega (arith, at-if1 .if1 .left)) none
+    (record { row = given .l .row; col = given .col }) (given .offset) (at-start .pre .1 .2) (omega (arith, at-if1 .if1 .left)) none
 
 pub rounds-from-spec : {M : Type 1} → statement M
-rounds-from-spec =
-    tie.close
-    (tie.spec glide-requires returns visible-row-requires (λ c. search needs) glide-requires-2 (λ c. search needs) returns-2 returns-3)
+rounds-from-spec = tie.close (tie.spec glide-requires returns visible-row-requires (λ c. search needs) glide-requires-2 (λ c. search needs) returns-2 returns-3)

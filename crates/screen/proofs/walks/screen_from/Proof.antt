@@ -1,6 +1,5 @@
 -- `walks::screen_from` meets its contract: the place's seat gives the segments ahead and its own offset. Assumes nothing.
-use native.Mathlib.Omega.{arith}
-use borrow.Author.Needs.{needs}
+use Rattle.lists.proofs.Kit.{arith, needs}
 use Rattle.chars.specs.Width.{widthBy}
 use Rattle.screen_segments.specs.Parts.{layOf}
 use Rattle.screen.proofs.Landing.{seat-ahead, seat-near, glided-made}
@@ -27,7 +26,7 @@ rounds-from-requires c κs =
       at-start .pre .0,
       (
         at-start .pre .1 .1,
-        c .or-own .ensures .1,
+        c .or-own .ensures .small,
         seat-ahead (given .t .now) (given .folds .now) lay (given .down) (record { row = given .l .row; col = given .col }) (at-seat .seat .ensures),
       ),
     )
@@ -37,12 +36,12 @@ returns c =
     let at-or-own = c .before in
     let at-seat = at-or-own .before in
     let given = at-seat .before .before .before .before .before .before .args in
-    let lay = layOf (widthBy (given .zeros .now) (given .doubles .now)) (given .word) (given .width) in (
-      glided-made (given .t .now) (given .folds .now) lay (given .down) (record { row = given .l .row; col = given .col }) (at-seat .seat .ensures)
-          (given .n) (given .offset)
-          (at-or-own .or-own .ensures .0) (c .rounds-from .ensures),
-      at-or-own .or-own .ensures .1,
-    )
+    let lay = layOf (widthBy (given .zeros .now) (given .doubles .now)) (given .word) (given .width) in
+    record {
+      answer = glided-made (given .t .now) (given .folds .now) lay (given .down) (record { row = given .l .row; col = given .col }) (at-seat .seat .ensures)
+          (given .n) (given .offset) (at-or-own .or-own .ensures .offset) (c .rounds-from .ensures);
+      small = at-or-own .or-own .ensures .small;
+    }
 
 pub screen-from-spec : {M : Type 1} → statement M
 screen-from-spec = tie.close (tie.spec (λ c κs. search needs) or-own-requires rounds-from-requires returns)

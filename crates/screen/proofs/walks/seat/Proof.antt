@@ -1,4 +1,3 @@
--- `walks::seat` meets its contract. Assumes nothing.
 use borrow.Author.Needs.{needs}
 use Rattle.chars.specs.Width.{widthBy}
 use Rattle.screen.proofs.Landing.{seat-inside, seat-made}
@@ -12,7 +11,7 @@ ahead-of-requires c κs =
     let given = at-row .before .before .before .before .before .args in
     let width = widthBy (given .zeros .now) (given .doubles .now) in
     seat-inside width (given .t .now) (given .word) (given .width) (given .down) (given .l .row) (at-row .row .ensures) (given .col)
-    (c .segment-count .ensures .0) (at-find-segment .find-segment .ensures .0)
+    (c .segment-count .ensures .count) (at-find-segment .find-segment .ensures .part)
 
 returns : tie.Need-returns
 returns c =
@@ -23,10 +22,7 @@ returns c =
     let given = at-row .before .before .before .before .before .args in
     let width = widthBy (given .zeros .now) (given .doubles .now) in
     seat-made width (given .t .now) (given .word) (given .width) (given .down) (given .l .row) (at-row .row .ensures) (given .col)
-    (at-segment-count .segment-count .ensures .0)
-    (at-find-segment .find-segment .ensures .0) _ _ (at-ahead-of .ahead-of .ensures) (c .minus .ensures)
+    (at-segment-count .segment-count .ensures .count) (at-find-segment .find-segment .ensures .part) _ _ (at-ahead-of .ahead-of .ensures) (c .minus .ensures)
 
 pub seat-spec : {M : Type 1} → statement M
-seat-spec =
-    tie.close
-    (tie.spec (λ c κs. search needs) (λ c κs. search needs) (λ c κs. search needs) ahead-of-requires (λ c κs. search needs) returns)
+seat-spec = tie.close (tie.spec (λ c κs. search needs) (λ c κs. search needs) (λ c κs. search needs) ahead-of-requires (λ c κs. search needs) returns)

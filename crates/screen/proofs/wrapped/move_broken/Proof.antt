@@ -1,7 +1,4 @@
--- `wrapped::move_broken` meets its contract. Assumes nothing.
-use mathlib.Core.Path.{refl}
-use native.Mathlib.Omega.{arith}
-use borrow.Author.Needs.{needs}
+use Rattle.lists.proofs.Kit.{refl, arith, needs}
 use Rattle.chars.specs.White.{whites}
 use Rattle.chars.specs.Width.{widthBy}
 use Rattle.text.proofs.Parts.{row-fits}
@@ -43,7 +40,7 @@ screen-from-requires c κs =
         },
         omega (arith, at-most .most .ensures),
       ),
-      (at-start .start .ensures .2, at-start .start .ensures .1),
+      (at-start .start .ensures .small, at-start .start .ensures .line),
     )
 
 returns : tie.Need-returns
@@ -56,10 +53,8 @@ returns c =
     let width = widthBy (given .zeros .now) (given .doubles .now) in
     target-made width (given .t .now) (given .folds .now) (given .tabstop) (layOf width (given .word) (given .width)) (given .down) (given .count)
     (given .l .row) (given .col) (given .sticky) (given .offset)
-    (at-wanted .wanted .ensures) (at-most .most .ensures) (at-start .start .ensures .0) (at-screen-from .screen-from .ensures .0)
+    (at-wanted .wanted .ensures) (at-most .most .ensures) (at-start .start .ensures .place) (at-screen-from .screen-from .ensures .answer)
 
 pub move-broken-spec : {M : Type 1} → statement M
-move-broken-spec =
-    tie.close
-    (tie.spec (λ c κs. search needs) start-requires (λ c κs. search needs) (λ c. search needs)
+move-broken-spec = tie.close (tie.spec (λ c κs. search needs) start-requires (λ c κs. search needs) (λ c. search needs)
     screen-from-requires (λ c. search needs) returns)

@@ -1,7 +1,5 @@
 -- `wrapped::move_screen` meets its contract, mode by mode. Assumes nothing.
-use mathlib.Core.Path.{ap, _∙_}
-use borrow.Author.Needs.{needs}
-use borrow.Author.Tests.{eq-eqb, ne-eqb}
+use Rattle.lists.proofs.Kit.{ap, _∙_, needs, eq-eqb, ne-eqb}
 use Rattle.screen.specs.Keeping.{unkept}
 use Rattle.screen.proofs.wrapped.move_screen.Statement.{statement}
 use Rattle.screen.proofs.wrapped.move_screen.Tie as tie
@@ -24,7 +22,6 @@ returns-4 : tie.Need-returns-4
 returns-4 c = rw (ne-eqb _ 0 (c .before .before .before .if1 .left), c .before .enum-told3 .given .1) (c .move-broken2 .ensures)
 
 pub move-screen-spec : {M : Type 1} → statement M
-move-screen-spec =
-    tie.close
+move-screen-spec = tie.close
     (tie.spec (λ c κs. search needs) (λ c κs. search needs) returns (λ c. search needs) (λ c κs. search needs) (λ c κs. search needs) (λ c. search needs)
     (λ c κs. search needs) (λ c. search needs) (λ c κs. search needs) returns-2 returns-3 returns-4)

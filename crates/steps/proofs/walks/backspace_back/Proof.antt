@@ -1,10 +1,6 @@
--- `walks::backspace_back` meets its contract. The invariant of its loop: what is left of the rounds, from the place of the walk, leads where all of them do.
--- The measure is the rounds that are left. Assumes nothing.
-use Prim.Native.Nat.{ℕ, _≤_, _<_, _+_, _-_, max}
-use mathlib.Core.Path.{_≡_, ap, sym, _∙_}
-use native.Mathlib.Omega.{arith}
-use lib.ListN.{length}
-use borrow.Author.Needs.{needs}
+-- `walks::backspace_back` meets its contract. The invariant of its loop: what is left of the rounds, from the place of the walk, leads where all of them
+-- do. The measure is the rounds that are left. Long by the three ways in which a step ends: each of them again, and behind it. Assumes nothing.
+use Rattle.lists.proofs.Kit.{_≡_, ap, sym, _∙_, ℕ, _≤_, _<_, _+_, _-_, max, arith, length, needs}
 use Rattle.text.specs.Text.{position}
 use Rattle.text.specs.Offsets.{rowStart}
 use Rattle.text.proofs.Stands.{stands-own, back-char, back-nl}
@@ -27,8 +23,7 @@ loop-holds c =
     let given = at-start .args in (
       going-start (backspaceBack (given .t .now))
           (position (given .p .row) (given .e .start + given .p .col - rowStart (given .t .now) (given .p .row))) (max (given .count) 1) _ _ _
-          (stands-own (at-start .pre .here)) (omega (arith, at-start .pre .here .begins))
-          (c .most .ensures),
+          (stands-own (at-start .pre .here)) (omega (arith, at-start .pre .here .begins)) (c .most .ensures),
       at-start .pre .brief,
     )
 
@@ -129,9 +124,7 @@ returns-2 c =
     going-from (backspaceBack (given .t .now)) _ (given .p) (given .e .start) _ (at-start .pre .line .begins)
 
 pub backspace-back-spec : {M : Type 1} → statement M
-backspace-back-spec =
-    tie.close
-    (tie.spec Inv-loop μ-loop (λ c. search needs) (λ c κs. search needs) loop-holds returns
+backspace-back-spec = tie.close (tie.spec Inv-loop μ-loop (λ c. search needs) (λ c κs. search needs) loop-holds returns
     (λ c. search needs) (λ c. search needs) (λ c. search needs) sub-row (λ c. search needs) (λ c. search needs) loop-again
     (λ c. search needs) (λ c. search needs) (λ c. search needs) sub-row-2 (λ c. search needs) (λ c. search needs) loop-again-2
     sub-row-3 (λ c. search needs) (λ c. search needs) loop-again-3 (λ c. search needs) (λ c. search needs) loop-again-4

@@ -1,10 +1,6 @@
 -- `walks::space_fwd` meets its contract. The invariant of its loop: what is left of the rounds, from the place of the walk, leads where all of them do.
 -- The measure is the rounds that are left. Assumes nothing.
-use Prim.Native.Nat.{_≤_, _+_, _-_, max}
-use mathlib.Core.Path.{refl, _∙_}
-use native.Mathlib.Omega.{arith}
-use lib.ListN.{length}
-use borrow.Author.Needs.{needs}
+use Rattle.lists.proofs.Kit.{refl, _∙_, _≤_, _+_, _-_, max, arith, length, needs}
 use Rattle.text.specs.Text.{position}
 use Rattle.text.proofs.Stands.{step-char, step-nl}
 use Rattle.steps.specs.Steps.{spaceFwd}
@@ -25,8 +21,7 @@ loop-holds c =
     let at-start = c .before .before .before .before in
     let given = at-start .args in (
       going-start (spaceFwd (given .t .now)) (position (given .p .row) (given .e .start + given .p .col - given .e .start))
-          (max (given .count) 1) _ _ _ (at-start .pre .here)
-          (omega arith) (c .most .ensures),
+          (max (given .count) 1) _ _ _ (at-start .pre .here) (omega arith) (c .most .ensures),
       at-start .pre .brief,
     )
 
@@ -89,13 +84,10 @@ returns-3 : tie.Need-returns-3 Inv-loop μ-loop
 returns-3 c =
     let at-start = c .before .before .before .before .before .before in
     going-done (c .before .loop .inv .0) (c .loop-test .left) ∙
-    going-from (spaceFwd (at-start .args .t .now)) _ (at-start .args .p)
-    (at-start .args .e .start) _ refl
+    going-from (spaceFwd (at-start .args .t .now)) _ (at-start .args .p) (at-start .args .e .start) _ refl
 
 pub space-fwd-spec : {M : Type 1} → statement M
-space-fwd-spec =
-    tie.close
-    (tie.spec Inv-loop μ-loop (λ c. search needs) (λ c κs. search needs) loop-holds (λ c. search needs) returns
+space-fwd-spec = tie.close (tie.spec Inv-loop μ-loop (λ c. search needs) (λ c κs. search needs) loop-holds (λ c. search needs) returns
     (λ c. search needs) (λ c. search needs) (λ c. search needs) (λ c. search needs) (λ c. search needs) (λ c. search needs) loop-again
     (λ c. search needs) returns-2
     (λ c. search needs) (λ c. search needs) (λ c. search needs) (λ c. search needs) (λ c. search needs) (λ c. search needs) (λ c. search needs) loop-again-2

@@ -1,9 +1,6 @@
 -- `text::offsets::below` meets its contract. The invariant of its loop: i stands in row r, which lies above row `to`. The measure is the
 -- text's length less i. Assumes nothing.
-use Prim.Native.Nat.{_-_, _<_}
-use native.Mathlib.Omega.{arith}
-use lib.ListN.{length}
-use borrow.Author.Needs.{needs}
+use Rattle.lists.proofs.Kit.{_-_, _<_, arith, length, needs}
 use Rattle.text.specs.Offsets.{Stands, rowStart}
 use Rattle.text.proofs.Stretches.{pass-on}
 use Rattle.text.proofs.offsets.below.Statement.{statement}
@@ -20,13 +17,12 @@ loop-again c =
     let at-loop = c .before .before .before .before in
     let invariant = at-loop .loop .inv in (
       pass-on (at-loop .before .before .args .t .now) (invariant .0) (c .before .separators .result) _ (omega arith) (omega arith)
-          (c .before .separators .ensures .0),
+          (c .before .separators .ensures .count),
       omega arith,
     )
 
 pub below-spec : {M : Type 1} → statement M
-below-spec =
-    tie.close
+below-spec = tie.close
     (tie.spec Inv-loop μ-loop (λ c. search needs) (λ c. search needs) (λ c. search needs) (λ c. search needs) (λ c. search needs) (λ c. search needs)
     (λ c. search needs) (λ c κs. search needs) (λ c. search needs) (λ c κs. search needs) (λ c. search needs) (λ c. search needs) (λ c. search needs)
     loop-again (λ c κs. search needs) (λ c. search needs))

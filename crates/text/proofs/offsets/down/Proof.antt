@@ -1,6 +1,5 @@
 -- `text::offsets::down` meets its contract: a row is 0 rows below itself. Assumes nothing.
-use native.Mathlib.Omega.{arith}
-use borrow.Author.Needs.{needs}
+use Rattle.lists.proofs.Kit.{arith, needs}
 use Rattle.text.proofs.Parts.{count-le}
 use Rattle.text.proofs.Stands.{line-eq}
 use Rattle.text.proofs.offsets.down.Statement.{statement}

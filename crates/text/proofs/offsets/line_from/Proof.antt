@@ -1,7 +1,5 @@
 -- `text::offsets::line_from` meets its contract, whichever way it goes. Assumes nothing.
-use mathlib.Core.Path.{ap, _∙_}
-use native.Mathlib.Omega.{arith}
-use borrow.Author.Needs.{needs}
+use Rattle.lists.proofs.Kit.{ap, _∙_, arith, needs}
 use Rattle.text.specs.Offsets.{lineAt}
 use Rattle.text.proofs.Stands.{first-line, last-stands}
 use Rattle.text.proofs.offsets.line_from.Statement.{statement}
@@ -42,7 +40,6 @@ returns-4 c =
     c .down2 .ensures ∙ ap (lineAt (at-start .args .t .now)) (omega arith)
 
 pub line-from-spec : {M : Type 1} → statement M
-line-from-spec =
-    tie.close
+line-from-spec = tie.close
     (tie.spec (λ c. search needs) (λ c. search needs) (λ c κs. search needs) returns (λ c. search needs) up-requires returns-2 (λ c. search needs)
     (λ c. search needs) (λ c κs. search needs) returns-3 down-requires-2 returns-4)

@@ -1,10 +1,6 @@
 -- `text::offsets::line_of` meets its contract. The invariant of its loop: i stands in row `row`. The measure is what is left up to `at`.
 -- Assumes nothing.
-use Prim.Native.Nat.{_-_, _≤_}
-use mathlib.Core.Path.{_≡_, ap, sym, _∙_}
-use native.Mathlib.Omega.{arith}
-use lib.ListN.{length}
-use borrow.Author.Needs.{needs}
+use Rattle.lists.proofs.Kit.{_≡_, ap, sym, _∙_, _-_, _≤_, arith, length, needs}
 use Rattle.text.specs.Offsets.{Stands, rowOf}
 use Rattle.text.proofs.Stands.{line-eq, step-char, step-nl, stands-row}
 use Rattle.text.proofs.offsets.line_of.Statement.{statement}
@@ -30,7 +26,6 @@ returns c =
     line-eq (at-loop .before .args .t .now) (at-loop .loop .inv .0 .begins) (sym (stands-row (at-loop .loop .inv .0)) ∙ ap (rowOf text-now) here)
 
 pub line-of-spec : {M : Type 1} → statement M
-line-of-spec =
-    tie.close
+line-of-spec = tie.close
     (tie.spec Inv-loop μ-loop (λ c. search needs) (λ c. search needs) (λ c. search needs) (λ c. search needs) (λ c. search needs) (λ c. search needs) loop-again
     (λ c. search needs) (λ c. search needs) loop-again-2 returns)

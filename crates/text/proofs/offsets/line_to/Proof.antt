@@ -1,7 +1,5 @@
 -- `text::offsets::line_to` meets its contract: up to the row, or down to it. Assumes nothing.
-use mathlib.Core.Path.{ap, _∙_}
-use native.Mathlib.Omega.{arith}
-use borrow.Author.Needs.{needs}
+use Rattle.lists.proofs.Kit.{ap, _∙_, arith, needs}
 use Rattle.text.specs.Offsets.{lineAt}
 use Rattle.text.proofs.offsets.line_to.Statement.{statement}
 use Rattle.text.proofs.offsets.line_to.Tie as tie

@@ -1,8 +1,6 @@
 -- `text::offsets::next_line` meets its contract: a row begins behind the separator that ends the one before it.
 -- Assumes nothing.
-use mathlib.Core.Path.{refl}
-use native.Mathlib.Omega.{arith}
-use borrow.Author.Needs.{needs}
+use Rattle.lists.proofs.Kit.{refl, arith, needs}
 use Rattle.text.proofs.Parts.{next-start}
 use Rattle.text.proofs.Stands.{line-eq, stands-end}
 use Rattle.text.proofs.offsets.next_line.Statement.{statement}

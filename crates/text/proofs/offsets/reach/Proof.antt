@@ -1,6 +1,5 @@
 -- `text::offsets::reach` meets its contract: row 0 stands at the top. Assumes nothing.
-use mathlib.Core.Path.{sym}
-use borrow.Author.Needs.{needs}
+use Rattle.lists.proofs.Kit.{sym, needs}
 use Rattle.text.proofs.Rows.{start-zero}
 use Rattle.text.proofs.Stands.{first-line, stands-own, reached-row}
 use Rattle.text.proofs.offsets.reach.Statement.{statement}

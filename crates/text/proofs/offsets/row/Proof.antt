@@ -1,9 +1,6 @@
 -- `text::offsets::row` meets its contract: a row is the part of the text from its start to its end.
 -- Assumes nothing.
-use Prim.Native.Nat.{_-_}
-use mathlib.Core.Path.{_≡_, sym}
-use native.Mathlib.Omega.{arith}
-use borrow.Author.Needs.{needs}
+use Rattle.lists.proofs.Kit.{_≡_, sym, _-_, arith, needs}
 use Rattle.text.specs.Text.{rowLen}
 use Rattle.text.proofs.Parts.{row-part}
 use Rattle.text.proofs.Stands.{stands-end}
@@ -19,6 +16,4 @@ returns c =
     rw (long, at-start .pre .begins) (sym (row-part text-now (given-l .row) (at-start .pre .in-row)))
 
 pub row-spec : {M : Type 1} → statement M
-row-spec =
-    tie.close
-    (tie.spec (λ c κs. search needs) (λ c. search needs) (λ c. search needs) (λ c. search needs) (λ c. search needs) returns)
+row-spec = tie.close (tie.spec (λ c κs. search needs) (λ c. search needs) (λ c. search needs) (λ c. search needs) (λ c. search needs) returns)

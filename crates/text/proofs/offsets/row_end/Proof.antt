@@ -1,10 +1,6 @@
 -- `text::offsets::row_end` meets its contract. The invariant of its loop: the end is where the row from e on ends. The measure is the text's length less e.
 -- Assumes nothing.
-use Prim.Native.Nat.{_-_, _≤_}
-use mathlib.Core.Path.{_≡_}
-use native.Mathlib.Omega.{arith}
-use lib.ListN.{length}
-use borrow.Author.Needs.{needs}
+use Rattle.lists.proofs.Kit.{_≡_, _-_, _≤_, arith, length, needs}
 use Rattle.text.specs.Offsets.{endFrom}
 use Rattle.text.proofs.Rows.{rest-nl, rest-on, rest-end}
 use Rattle.text.proofs.offsets.row_end.Statement.{statement}
@@ -30,6 +26,5 @@ returns-2 : tie.Need-returns-2 Inv-loop μ-loop
 returns-2 c = omega (arith, rest-end (c .before .before .args .t .now) (c .before .loop .e) (c .loop-test .left))
 
 pub row-end-spec : {M : Type 1} → statement M
-row-end-spec =
-    tie.close
+row-end-spec = tie.close
     (tie.spec Inv-loop μ-loop (λ c. search needs) (λ c. search needs) (λ c. search needs) returns (λ c. search needs) (λ c. search needs) loop-again returns-2)

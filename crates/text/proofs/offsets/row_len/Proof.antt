@@ -1,7 +1,6 @@
 -- `text::offsets::row_len` meets its contract: a row goes from its start to its end.
 -- Assumes nothing.
-use native.Mathlib.Omega.{arith}
-use borrow.Author.Needs.{needs}
+use Rattle.lists.proofs.Kit.{arith, needs}
 use Rattle.text.proofs.Stands.{stands-end}
 use Rattle.text.proofs.offsets.row_len.Statement.{statement}
 use Rattle.text.proofs.offsets.row_len.Tie as tie

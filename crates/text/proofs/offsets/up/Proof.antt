@@ -1,9 +1,6 @@
 -- `text::offsets::up` meets its contract. The invariant of its loop: i stands in row r, and `left` rows are still to go up.
 -- The measure is i. Assumes nothing.
-use Prim.Native.Nat.{_-_}
-use mathlib.Core.Path.{_≡_, ap, _∙_}
-use native.Mathlib.Omega.{arith}
-use borrow.Author.Needs.{needs}
+use Rattle.lists.proofs.Kit.{_≡_, ap, _∙_, _-_, arith, needs}
 use Rattle.text.specs.Offsets.{Stands, rowStart, lineAt}
 use Rattle.text.proofs.Stretches.{pass-back, left-over}
 use Rattle.text.proofs.offsets.up.Statement.{statement}
@@ -24,14 +21,14 @@ sub-r : tie.Need-sub-r Inv-loop μ-loop
 sub-r c =
     let at-loop = c .before .before .before .before in
     pass-back (at-loop .before .before .args .t .now) (at-loop .loop .inv .0) (c .before .separators .result) _ (omega arith)
-    (c .before .separators .ensures .0) .0
+    (c .before .separators .ensures .count) .0
 
 loop-again : tie.Need-loop-again Inv-loop μ-loop
 loop-again c =
     let at-loop = c .before .before .before .before in
     let invariant = at-loop .loop .inv in
     let by-pass-back = pass-back (at-loop .before .before .args .t .now) (invariant .0) (c .before .separators .result) _ (omega arith)
-    (c .before .separators .ensures .0) in
+    (c .before .separators .ensures .count) in
     (by-pass-back .1, left-over (at-loop .loop .r) (at-loop .loop .left) (c .before .separators .result) (by-pass-back .0) (c .if1 .left) ∙ invariant .1)
 
 returns-2 : tie.Need-returns-2 Inv-loop μ-loop
@@ -40,7 +37,6 @@ returns-2 c =
     c .walk-up2 .ensures ∙ ap (lineAt (at-loop .before .before .args .t .now)) (at-loop .loop .inv .1)
 
 pub up-spec : {M : Type 1} → statement M
-up-spec =
-    tie.close
+up-spec = tie.close
     (tie.spec Inv-loop μ-loop (λ c. search needs) (λ c. search needs) (λ c. search needs) (λ c. search needs) (λ c. search needs) (λ c κs. search needs)
     (λ c κs. search needs) returns sub-r (λ c. search needs) loop-again (λ c κs. search needs) returns-2)

@@ -1,9 +1,6 @@
 -- `text::offsets::walk_down` meets its contract. The invariant of its loop: i stands in row r, which lies above row `to`. The measure is the
 -- text's length less i. Assumes nothing.
-use Prim.Native.Nat.{_-_, _<_}
-use native.Mathlib.Omega.{arith}
-use lib.ListN.{length}
-use borrow.Author.Needs.{needs}
+use Rattle.lists.proofs.Kit.{_-_, _<_, arith, length, needs}
 use Rattle.text.specs.Offsets.{Stands, rowStart}
 use Rattle.text.proofs.At.{on-last}
 use Rattle.text.proofs.Stands.{stands-at, stands-own, reached-row, reached-end, step-char, step-nl}
@@ -39,7 +36,5 @@ returns-2 c =
     reached-end (c .before .before .args .t .now) (at-loop .inv .1) (on-last (stands-at (at-loop .inv .0)) (c .loop-test .left))
 
 pub walk-down-spec : {M : Type 1} → statement M
-walk-down-spec =
-    tie.close
-    (tie.spec Inv-loop μ-loop (λ c. search needs) (λ c. search needs) (λ c. search needs) (λ c. search needs) (λ c. search needs) returns
+walk-down-spec = tie.close (tie.spec Inv-loop μ-loop (λ c. search needs) (λ c. search needs) (λ c. search needs) (λ c. search needs) (λ c. search needs) returns
     (λ c. search needs) loop-again (λ c. search needs) (λ c. search needs) loop-again-2 returns-2)

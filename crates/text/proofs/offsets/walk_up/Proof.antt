@@ -1,9 +1,6 @@
 -- `text::offsets::walk_up` meets its contract. The invariant of its loop: i stands in row r, and `left` rows are still to go up.
 -- The measure is i. Assumes nothing.
-use Prim.Native.Nat.{_+_, _≤_}
-use mathlib.Core.Path.{_≡_, sym}
-use native.Mathlib.Omega.{arith}
-use borrow.Author.Needs.{needs}
+use Rattle.lists.proofs.Kit.{_≡_, sym, _+_, _≤_, arith, needs}
 use Rattle.text.specs.Offsets.{Stands, rowStart}
 use Rattle.text.proofs.Rows.{start-zero}
 use Rattle.text.proofs.Before.{on-first}
@@ -46,8 +43,7 @@ returns-2 c =
     line-eq text-now (sym (start-zero text-now)) (omega (arith, on-first (stands-at (at-loop .loop .inv .0)) (omega arith)))
 
 pub walk-up-spec : {M : Type 1} → statement M
-walk-up-spec =
-    tie.close
+walk-up-spec = tie.close
     (tie.spec Inv-loop μ-loop (λ c. search needs) (λ c. search needs) (λ c. search needs) (λ c. search needs) returns sub-r (λ c. search needs)
     (λ c. search needs)
     loop-again (λ c. search needs) loop-again-2 returns-2)

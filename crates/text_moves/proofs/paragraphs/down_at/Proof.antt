@@ -1,9 +1,6 @@
 -- `paragraphs::down_at` meets its contract: the last row with content has its last column, any other column 0.
 -- Assumes nothing.
-use Prim.Native.Nat.{ℕ, _-_}
-use mathlib.Core.Path.{ap, sym, _∙_}
-use borrow.Author.Needs.{needs}
-use borrow.Author.Tests.{eq-eqb, ne-eqb}
+use Rattle.lists.proofs.Kit.{ap, sym, _∙_, ℕ, _-_, needs, eq-eqb, ne-eqb}
 use Rattle.text.specs.Text.{contentRows, position}
 use Rattle.text_moves.proofs.paragraphs.down_at.Statement.{statement}
 use Rattle.text_moves.proofs.paragraphs.down_at.Tie as tie

@@ -1,10 +1,6 @@
 -- `paragraphs::paragraph_next` meets its contract: the rounds lead to a row, or nowhere.
 -- Assumes nothing.
-use Prim.Native.Nat.{ℕ, _-_}
-use mathlib.Core.Path.{ap, _∙_}
-use mathlib.Core.Bool.{true}
-use native.Mathlib.Omega.{arith}
-use borrow.Author.Needs.{needs}
+use Rattle.lists.proofs.Kit.{ap, _∙_, true, ℕ, _-_, arith, needs}
 use Rattle.text.proofs.Content.{content-near}
 use Rattle.text_moves.specs.Paragraphs.{downAt}
 use Rattle.text_moves.proofs.Led.{led}
@@ -22,7 +18,7 @@ find-paragraph-requires c κs =
 down-at-requires : tie.Need-down-at-requires
 down-at-requires c κs =
     let at-find-paragraph = c .before .before .before in (
-      rw (c .before .l .given .1) at (at-find-paragraph .find-paragraph .ensures .1),
+      rw (c .before .l .given .1) at (at-find-paragraph .find-paragraph .ensures .line),
       ap (λ (n : ℕ). n - 1) (at-find-paragraph .before .before .before .before .pre .content-rows),
     )
 
@@ -31,7 +27,7 @@ returns c =
     let at-find-paragraph = c .before .before .before .before in
     let given = at-find-paragraph .before .before .before .before .args in
     c .down-at .ensures ∙ ap (downAt (given .t .now) (given .p))
-    (led (given .t .now) true (given .p .row) (c .before .before .l .given .1) (at-find-paragraph .find-paragraph .ensures .0)
+    (led (given .t .now) true (given .p .row) (c .before .before .l .given .1) (at-find-paragraph .find-paragraph .ensures .answer)
     (at-find-paragraph .before .most .ensures))
 
 returns-2 : tie.Need-returns-2
@@ -39,11 +35,9 @@ returns-2 c =
     let at-find-paragraph = c .before .before in
     let given = at-find-paragraph .before .before .before .before .args in
     ap (downAt (given .t .now) (given .p))
-    (led (given .t .now) true (given .p .row) (c .enum-told .given .1) (at-find-paragraph .find-paragraph .ensures .0)
+    (led (given .t .now) true (given .p .row) (c .enum-told .given .1) (at-find-paragraph .find-paragraph .ensures .answer)
     (at-find-paragraph .before .most .ensures))
 
 pub paragraph-next-spec : {M : Type 1} → statement M
-paragraph-next-spec =
-    tie.close
-    (tie.spec sub-last (λ c κs. search needs) find-paragraph-requires (λ c. search needs) down-at-requires
+paragraph-next-spec = tie.close (tie.spec sub-last (λ c κs. search needs) find-paragraph-requires (λ c. search needs) down-at-requires
     (λ c. search needs) returns returns-2)

@@ -1,10 +1,6 @@
 -- `paragraphs::paragraph_prev` meets its contract: the rounds lead to a row, or nowhere.
 -- Assumes nothing.
-use Prim.Native.Nat.{ℕ, _-_}
-use mathlib.Core.Path.{ap}
-use mathlib.Core.Bool.{false}
-use native.Mathlib.Omega.{arith}
-use borrow.Author.Needs.{needs}
+use Rattle.lists.proofs.Kit.{ap, false, ℕ, _-_, arith, needs}
 use Rattle.text.proofs.Content.{content-near}
 use Rattle.text_moves.specs.Paragraphs.{upAt}
 use Rattle.text_moves.proofs.Led.{led}
@@ -23,19 +19,15 @@ returns : tie.Need-returns
 returns c =
     let at-find-paragraph = c .before .before .before in
     let given = at-find-paragraph .before .before .before .before .args in
-    ap (upAt (given .p))
-    (led (given .t .now) false (given .p .row) (c .before .l .given .1) (at-find-paragraph .find-paragraph .ensures .0)
+    ap (upAt (given .p)) (led (given .t .now) false (given .p .row) (c .before .l .given .1) (at-find-paragraph .find-paragraph .ensures .answer)
     (at-find-paragraph .before .most .ensures))
 
 returns-2 : tie.Need-returns-2
 returns-2 c =
     let at-find-paragraph = c .before .before in
     let given = at-find-paragraph .before .before .before .before .args in
-    ap (upAt (given .p))
-    (led (given .t .now) false (given .p .row) (c .enum-told .given .1) (at-find-paragraph .find-paragraph .ensures .0)
+    ap (upAt (given .p)) (led (given .t .now) false (given .p .row) (c .enum-told .given .1) (at-find-paragraph .find-paragraph .ensures .answer)
     (at-find-paragraph .before .most .ensures))
 
 pub paragraph-prev-spec : {M : Type 1} → statement M
-paragraph-prev-spec =
-    tie.close
-    (tie.spec sub-last (λ c κs. search needs) find-paragraph-requires (λ c. search needs) (λ c. search needs) returns returns-2)
+paragraph-prev-spec = tie.close (tie.spec sub-last (λ c κs. search needs) find-paragraph-requires (λ c. search needs) (λ c. search needs) returns returns-2)

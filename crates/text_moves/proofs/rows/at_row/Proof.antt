@@ -1,6 +1,5 @@
 -- `rows::at_row` meets its contract: the row found is row `to`. Assumes nothing.
-use mathlib.Core.Path.{ap, _∙_}
-use native.Mathlib.Omega.{arith}
+use Rattle.lists.proofs.Kit.{ap, _∙_, arith}
 use Rattle.text.specs.declared.Line.{Line}
 use Rattle.text.proofs.Stands.{line-there}
 use Rattle.text_moves.specs.Rows.{atRow}
@@ -13,8 +12,7 @@ line-from-requires c κs = let required = c .before .pre in (required .0 .line, 
 at-line-requires : tie.Need-at-line-requires
 at-line-requires c κs =
     let at-start = c .before .before in (
-      line-there (at-start .args .t .now) (c .line-from .result) _ (c .line-from .ensures)
-          (omega (arith, at-start .pre .0 .all-rows, at-start .pre .1)),
+      line-there (at-start .args .t .now) (c .line-from .result) _ (c .line-from .ensures) (omega (arith, at-start .pre .0 .all-rows, at-start .pre .1)),
       at-start .pre .0 .brief,
     )
 

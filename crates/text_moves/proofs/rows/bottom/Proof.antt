@@ -1,10 +1,6 @@
 -- `rows::bottom` meets its contract: the last row with content, or the row of that number.
 -- Assumes nothing.
-use Prim.Native.Nat.{ℕ, _-_, min}
-use mathlib.Core.Path.{ap, _∙_}
-use native.Mathlib.Omega.{arith}
-use borrow.Author.Needs.{needs}
-use borrow.Author.Tests.{eq-eqb, ne-eqb}
+use Rattle.lists.proofs.Kit.{ap, _∙_, ℕ, _-_, min, arith, needs, eq-eqb, ne-eqb}
 use Rattle.positions.proofs.Entered.{accepted-rows}
 use Rattle.text_moves.specs.Rows.{atRow}
 use Rattle.text_moves.proofs.rows.bottom.Statement.{statement}
@@ -29,10 +25,8 @@ returns-2 : tie.Need-returns-2
 returns-2 c =
     let at-start = c .before .before .before .before .before in
     let given = at-start .args in
-    rw (ne-eqb (given .count) 0 (c .before .before .if1 .left))
-    (c .at-row2 .ensures ∙
+    rw (ne-eqb (given .count) 0 (c .before .before .if1 .left)) (c .at-row2 .ensures ∙
     ap (atRow (given .t .now)) (c .before .least .ensures ∙ ap (λ (n : ℕ). min (given .count - 1) (n - 1)) (at-start .pre .content-rows)))
 
 pub bottom-spec : {M : Type 1} → statement M
-bottom-spec =
-    tie.close (tie.spec sub-last at-row-requires returns (λ c. search needs) (λ c κs. search needs) at-row-requires-2 returns-2)
+bottom-spec = tie.close (tie.spec sub-last at-row-requires returns (λ c. search needs) (λ c κs. search needs) at-row-requires-2 returns-2)

@@ -1,10 +1,6 @@
 -- `rows::next_line` meets its contract: from the last row with content on it stays.
 -- Assumes nothing.
-use Prim.Native.Nat.{ℕ, _+_, _-_, min, max}
-use mathlib.Core.Path.{ap, _∙_}
-use native.Mathlib.Omega.{arith}
-use borrow.Author.Needs.{needs}
-use borrow.Author.Tests.{le-leb, lt-leb}
+use Rattle.lists.proofs.Kit.{ap, _∙_, ℕ, _+_, _-_, min, max, arith, needs, le-leb, lt-leb}
 use Rattle.text.specs.Text.{contentRows}
 use Rattle.positions.proofs.Entered.{accepted-rows}
 use Rattle.text_moves.specs.Rows.{atRow}
@@ -35,6 +31,4 @@ returns-2 c =
     ap (λ (n : ℕ). min (given .p .row + max (given .count) 1) (n - 1)) (at-start .pre .content-rows)))
 
 pub next-line-spec : {M : Type 1} → statement M
-next-line-spec =
-    tie.close
-    (tie.spec sub-last returns (λ c κs. search needs) (λ c. search needs) (λ c κs. search needs) at-row-requires returns-2)
+next-line-spec = tie.close (tie.spec sub-last returns (λ c κs. search needs) (λ c. search needs) (λ c κs. search needs) at-row-requires returns-2)

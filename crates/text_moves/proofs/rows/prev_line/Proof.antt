@@ -1,10 +1,6 @@
 -- `rows::prev_line` meets its contract: from row 0 there is no row up.
 -- Assumes nothing.
-use Prim.Native.Nat.{ℕ, _-_}
-use mathlib.Core.Path.{ap, _∙_}
-use native.Mathlib.Omega.{arith}
-use borrow.Author.Needs.{needs}
-use borrow.Author.Tests.{eq-eqb, ne-eqb}
+use Rattle.lists.proofs.Kit.{ap, _∙_, ℕ, _-_, arith, needs, eq-eqb, ne-eqb}
 use Rattle.text_moves.specs.Rows.{atRow}
 use Rattle.text_moves.proofs.rows.prev_line.Statement.{statement}
 use Rattle.text_moves.proofs.rows.prev_line.Tie as tie

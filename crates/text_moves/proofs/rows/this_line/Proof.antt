@@ -1,11 +1,6 @@
 -- `rows::this_line` meets its contract: from the last row with content on it stays, if it was to go down.
 -- Assumes nothing.
-use Prim.Native.Nat.{ℕ, _+_, _-_, min, max}
-use mathlib.Core.Path.{_≡_, ap, _∙_}
-use mathlib.Core.Bool.{Bool, true, false, _&&_}
-use native.Mathlib.Omega.{arith}
-use lib.Dec.{ltb, leb}
-use borrow.Author.Needs.{needs}
+use Rattle.lists.proofs.Kit.{_≡_, ap, _∙_, Bool, true, false, _&&_, ℕ, _+_, _-_, min, max, arith, ltb, leb, needs}
 use Rattle.text.specs.Text.{contentRows}
 use Rattle.positions.proofs.Entered.{accepted-rows}
 use Rattle.text_moves.specs.Rows.{atRow}
@@ -40,12 +35,10 @@ returns-2 c =
     let at-start = at-most .before .before in
     let given = at-start .args in
     rw (stays (given .p .row) (given .count) (given .e .content) (contentRows (given .t .now)) _ false (at-most .most .ensures)
-    (at-start .pre .content-rows) (at-if1 .if1 .left))
-    (c .at-row .ensures ∙ ap (atRow (given .t .now)) (c .before .least .ensures ∙
+    (at-start .pre .content-rows) (at-if1 .if1 .left)) (c .at-row .ensures ∙ ap (atRow (given .t .now)) (c .before .least .ensures ∙
     ap (λ (n : ℕ). min (given .p .row + (n - 1)) (given .e .content - 1)) (at-most .most .ensures) ∙
     ap (λ (n : ℕ). min (given .p .row + (max (given .count) 1 - 1)) (n - 1)) (at-start .pre .content-rows)))
 
 pub this-line-spec : {M : Type 1} → statement M
-this-line-spec =
-    tie.close
+this-line-spec = tie.close
     (tie.spec (λ c κs. search needs) (λ c. search needs) sub-last returns (λ c. search needs) (λ c κs. search needs) at-row-requires returns-2)

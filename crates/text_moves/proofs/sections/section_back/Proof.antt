@@ -1,9 +1,6 @@
 -- `sections::section_back` meets its contract: column 0 of the row that the walk leads to.
 -- Assumes nothing.
-use Prim.Native.Nat.{ℕ}
-use mathlib.Core.Path.{ap, _∙_}
-use native.Mathlib.Omega.{arith}
-use borrow.Author.Needs.{needs}
+use Rattle.lists.proofs.Kit.{ap, _∙_, ℕ, arith, needs}
 use Rattle.text.specs.Text.{position}
 use Rattle.row_walks.specs.Sections.{sectionUp}
 use Rattle.text_moves.proofs.sections.section_back.Statement.{statement}
@@ -18,7 +15,7 @@ section-up-requires c κs =
 returns : tie.Need-returns
 returns c =
     let given = c .before .before .before .args in
-    ap (λ (r : ℕ). position r 0) (c .section-up .ensures .0 ∙
+    ap (λ (r : ℕ). position r 0) (c .section-up .ensures .row ∙
     ap (λ (n : ℕ). sectionUp (given .t .now) (given .x) n (given .p .row)) (c .before .most .ensures))
 
 pub section-back-spec : {M : Type 1} → statement M

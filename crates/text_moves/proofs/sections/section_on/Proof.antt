@@ -1,10 +1,7 @@
 -- `sections::section_on` meets its contract: column 0 of the row that the walk leads to.
 -- Assumes nothing.
-use Prim.Native.Nat.{ℕ, _-_}
+use Rattle.lists.proofs.Kit.{ap, _∙_, ℕ, _-_, arith, needs}
 use Rattle.text.specs.Text.{contentRows, position}
-use mathlib.Core.Path.{ap, _∙_}
-use native.Mathlib.Omega.{arith}
-use borrow.Author.Needs.{needs}
 use Rattle.positions.proofs.Entered.{accepted-rows}
 use Rattle.row_walks.specs.Sections.{sectionDown}
 use Rattle.text_moves.proofs.sections.section_on.Statement.{statement}
@@ -22,7 +19,7 @@ section-down-requires c κs =
 returns : tie.Need-returns
 returns c =
     let given = c .before .before .before .before .args in
-    ap (λ (r : ℕ). position r 0) (c .section-down .ensures .0 ∙
+    ap (λ (r : ℕ). position r 0) (c .section-down .ensures .row ∙
     ap (λ (n : ℕ). sectionDown (given .t .now) (given .x) n (given .p .row) (contentRows (given .t .now) - 1 - given .p .row)) (c .before .most .ensures))
 
 pub section-on-spec : {M : Type 1} → statement M

@@ -1,9 +1,5 @@
--- `moves::go` meets its contract, move by move. Assumes nothing.
-use Prim.Native.Nat.{ℕ}
-use mathlib.Core.List.{List}
-use mathlib.Core.Path.{_≡_, ap, sym, _∙_}
-use native.Mathlib.Omega.{arith}
-use borrow.Author.Needs.{needs}
+-- `moves::go` meets its contract, move by move. Long by its moves: an answer for each. Assumes nothing.
+use Rattle.lists.proofs.Kit.{_≡_, ap, sym, _∙_, List, ℕ, arith, needs}
 use Rattle.text.specs.declared.Position.{Position}
 use Rattle.positions.specs.Positions.{inRow}
 use Rattle.text_moves.specs.declared.Way.{Way}
@@ -51,7 +47,7 @@ returns-7 : tie.Need-returns-7
 returns-7 c =
     let given = c .before .before .before .before .before .before .args in
     told (given .t .now) (given .count) (given .p) _ (c .before .before .enum-told7 .given .1)
-    (c .in-row5 .ensures ∙ ap (inRow (given .p)) (c .before .first-non-blank .ensures .0))
+    (c .in-row5 .ensures ∙ ap (inRow (given .p)) (c .before .first-non-blank .ensures .column))
 
 returns-8 : tie.Need-returns-8
 returns-8 c =
@@ -69,7 +65,7 @@ returns-10 : tie.Need-returns-10
 returns-10 c =
     let given = c .before .before .before .before .before .before .args in
     told (given .t .now) (given .count) (given .p) _ (c .before .before .enum-told10 .given .1)
-    (c .in-row8 .ensures ∙ ap (inRow (given .p)) (c .before .last-non-blank .ensures .0))
+    (c .in-row8 .ensures ∙ ap (inRow (given .p)) (c .before .last-non-blank .ensures .column))
 
 returns-11 : tie.Need-returns-11
 returns-11 c =
@@ -127,15 +123,11 @@ returns-21 c =
     told (given .t .now) (given .count) (given .p) _ (c .before .enum-told21 .given .1) (c .bottom .ensures)
 
 pub go-spec : {M : Type 1} → statement M
-go-spec =
-    tie.close
-    (tie.spec
-    (λ c κs. search needs) (λ c. search needs) (λ c κs. search needs) (λ c κs. search needs)
+go-spec = tie.close (tie.spec (λ c κs. search needs) (λ c. search needs) (λ c κs. search needs) (λ c κs. search needs)
     (λ c. search needs) (λ c. search needs) (λ c κs. search needs) (λ c κs. search needs)
     (λ c. search needs) (λ c. search needs) (λ c κs. search needs) (λ c κs. search needs) (λ c κs. search needs)
     (λ c. search needs) (λ c κs. search needs) (λ c. search needs) (λ c κs. search needs) (λ c. search needs) (λ c κs. search needs)
-    (λ c. search needs) (λ c κs. search needs) (λ c κs. search needs)
-    (λ c. search needs) (λ c κs. search needs) (λ c κs. search needs) (λ c κs. search needs)
+    (λ c. search needs) (λ c κs. search needs) (λ c κs. search needs) (λ c. search needs) (λ c κs. search needs) (λ c κs. search needs) (λ c κs. search needs)
     (λ c. search needs) (λ c κs. search needs) (λ c κs. search needs) (λ c κs. search needs)
     (λ c. search needs) (λ c κs. search needs) (λ c κs. search needs) (λ c. search needs) (λ c κs. search needs)
     (λ c. search needs) (λ c κs. search needs) (λ c. search needs) (λ c κs. search needs) (λ c. search needs) (λ c κs. search needs)

@@ -1,9 +1,6 @@
 -- `decoder::count_on` meets its contract. The invariant of its loop: the code points before i are counted. The measure is what is left up to
 -- `until`. Assumes nothing.
-use Prim.Native.Nat.{_-_, _≤_}
-use native.Mathlib.Omega.{arith}
-use borrow.Author.Needs.{needs}
-use lib.ListN.{length}
+use Rattle.lists.proofs.Kit.{_-_, arith, needs}
 use Rattle.utf8.specs.Walks.{Counts}
 use Rattle.utf8.proofs.Counted.{stepped-good, stepped-bad, counts-on, counts-bad}
 use Rattle.utf8.proofs.decoder.count_on.Statement.{statement}
@@ -33,17 +30,6 @@ returns c =
     counts-bad (c .before .before .before .before .before .loop .inv) by-stepped-bad
 
 pub count-on-spec : {M : Type 1} → statement M
-count-on-spec =
-    tie.close
-    (tie.spec
-    Inv-loop
-    μ-loop
+count-on-spec = tie.close (tie.spec Inv-loop μ-loop (λ c. search needs) (λ c κs. search needs) (λ c. search needs) (λ c. search needs) loop-less loop-again
     (λ c. search needs)
-    (λ c κs. search needs)
-    (λ c. search needs)
-    (λ c. search needs)
-    loop-less
-    loop-again
-    (λ c. search needs)
-    returns
-    (λ c. search needs))
+    returns (λ c. search needs))

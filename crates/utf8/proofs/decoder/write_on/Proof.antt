@@ -1,9 +1,6 @@
 -- `decoder::write_on` meets its contract. The invariant of its loop: the code points before i are written. The measure is what is left up to
 -- `until`. Assumes nothing.
-use Prim.Native.Nat.{_-_, _≤_}
-use native.Mathlib.Omega.{arith}
-use borrow.Author.Needs.{needs}
-use lib.ListN.{length}
+use Rattle.lists.proofs.Kit.{_-_, arith, needs}
 use Rattle.utf8.proofs.Counted.{stepped-good, stepped-bad}
 use Rattle.utf8.proofs.Written.{Going, going-start, going-wrote, going-room, going-on, going-bad}
 use Rattle.utf8.proofs.decoder.write_on.Statement.{statement}
@@ -50,21 +47,7 @@ returns-2 : tie.Need-returns-2 Inv-loop μ-loop
 returns-2 c = going-wrote (c .before .loop .inv) (c .loop-test .left)
 
 pub write-on-spec : {M : Type 1} → statement M
-write-on-spec =
-    tie.close
-    (tie.spec
-    Inv-loop
-    μ-loop
-    loop-holds
-    (λ c κs. search needs)
-    (λ c. search needs)
-    (λ c. search needs)
-    slice-write-points
-    add-n
-    loop-less
-    loop-again
-    (λ c. search needs)
-    (λ c. c .before .before .before .before .before .loop .inv .size)
-    returns
-    (λ c. c .before .loop .inv .size)
+write-on-spec = tie.close (tie.spec Inv-loop μ-loop loop-holds (λ c κs. search needs) (λ c. search needs) (λ c. search needs) slice-write-points add-n loop-less
+    loop-again (λ c. search needs) (λ c. c .before .before .before .before .before .loop .inv .size)
+    returns (λ c. c .before .loop .inv .size)
     returns-2)

@@ -1,8 +1,5 @@
 -- `encoder::encode` meets its contract: each refusal, and the text. Assumes nothing.
-use mathlib.Core.Path.{sym, _∙_}
-use native.Mathlib.Omega.{arith}
-use borrow.Author.Needs.{needs}
-use borrow.Author.Tests.{not-true, not-false}
+use Rattle.lists.proofs.Kit.{sym, _∙_, arith, needs, not-true, not-false}
 use Rattle.utf8.proofs.Encodes.{encode-long, encode-wrong, encode-short, encode-text}
 use Rattle.utf8.proofs.encoder.encode.Statement.{statement}
 use Rattle.utf8.proofs.encoder.encode.Tie as tie
@@ -34,20 +31,10 @@ returns-4 : tie.Need-returns-4
 returns-4 c =
     let counted = c .before .before .before .before .before in
     let scalar = counted .before in
-    let entry = scalar .before .before .before .before .before in
-    encode-text (entry .args .points .now) (entry .args .bytes .now) (scalar .before .before .if1 .left)
+    let at-start = scalar .before .before .before .before .before in
+    encode-text (at-start .args .points .now) (at-start .args .bytes .now) (scalar .before .before .if1 .left)
     (not-true _ (sym (scalar .before .all-scalar .ensures) ∙ not-false _ (scalar .if2 .left))) _ _ (counted .size-all .ensures)
     (omega (arith, counted .size-all .ensures, c .before .before .before .before .if3 .left)) (c .before .before .write .ensures)
 
 pub encode-spec : {M : Type 1} → statement M
-encode-spec =
-    tie.close
-    (tie.spec
-    returns
-    (λ c κs. search needs)
-    returns-2
-    (λ c κs. search needs)
-    returns-3
-    write-requires
-    (λ c. search needs)
-    returns-4)
+encode-spec = tie.close (tie.spec returns (λ c κs. search needs) returns-2 (λ c κs. search needs) returns-3 write-requires (λ c. search needs) returns-4)

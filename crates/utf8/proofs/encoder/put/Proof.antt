@@ -1,7 +1,5 @@
 -- `encoder::put` meets its contract, by the ranges of RFC 3629's table. Assumes nothing.
-use native.Mathlib.Omega.{arith}
-use borrow.Author.Needs.{needs}
-use lib.ListN.{length-set}
+use Rattle.lists.proofs.Kit.{arith, length-set, needs}
 use Rattle.utf8.proofs.Encodings.{size-one, size-two, size-three, size-four}
 use Rattle.utf8.proofs.Puts.{put-one, put-two, put-three, put-four}
 use Rattle.utf8.proofs.encoder.put.Statement.{statement}
@@ -54,14 +52,10 @@ returns-4 : tie.Need-returns-4
 returns-4 c = put-four _ _ _ (c .if3 .left)
 
 pub put-spec : {M : Type 1} → statement M
-put-spec =
-    tie.close
-    (tie.spec
-    (λ c. search needs) slice-write-bytes (λ c. search needs) (λ c. search needs) returns
+put-spec = tie.close (tie.spec (λ c. search needs) slice-write-bytes (λ c. search needs) (λ c. search needs) returns
     (λ c. search needs) (λ c. search needs) slice-write-bytes-2
     (λ c. search needs) (λ c. search needs) (λ c. search needs) slice-write-bytes-3 (λ c. search needs) (λ c. search needs) returns-2
-    (λ c. search needs) (λ c. search needs) slice-write-bytes-4
-    (λ c. search needs) (λ c. search needs) (λ c. search needs) slice-write-bytes-5
+    (λ c. search needs) (λ c. search needs) slice-write-bytes-4 (λ c. search needs) (λ c. search needs) (λ c. search needs) slice-write-bytes-5
     (λ c. search needs) (λ c. search needs) (λ c. search needs) slice-write-bytes-6 (λ c. search needs) (λ c. search needs) returns-3
     (λ c. search needs) (λ c. omega (arith, c .before .before .before .pre .0)) slice-write-bytes-7
     (λ c. search needs) (λ c. search needs) (λ c. search needs) slice-write-bytes-8

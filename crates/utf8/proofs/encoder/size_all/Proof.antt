@@ -1,10 +1,6 @@
 -- `encoder::size_all` meets its contract. The invariant of its loop: the bytes counted, and those to come. The measure is the length less i.
 -- Assumes nothing.
-use Prim.Native.Nat.{_+_, _*_, _-_, _≤_}
-use mathlib.Core.Path.{_≡_, ap, sym, _∙_}
-use native.Mathlib.Omega.{arith}
-use borrow.Author.Needs.{needs}
-use lib.ListN.{length, getD, drop, length-append}
+use Rattle.lists.proofs.Kit.{_≡_, ap, _+_, _*_, _-_, _≤_, arith, length, getD, drop, length-append, needs}
 use Rattle.utf8.specs.Encoding.{encoding, utf8}
 use Rattle.utf8.proofs.Encodings.{size-most}
 use Rattle.utf8.proofs.Puts.{utf8-at, utf8-end}
@@ -44,17 +40,7 @@ returns c =
     omega (arith, c .before .loop .inv .2, ap length (utf8-end points-now (c .before .loop .i) (c .loop-test .left)))
 
 pub size-all-spec : {M : Type 1} → statement M
-size-all-spec =
-    tie.close
-    (tie.spec
-    Inv-loop
-    μ-loop
-    loop-holds
-    (λ c. search needs)
-    (λ c. search needs)
-    (λ c κs. search needs)
-    add-n
-    (λ c. search needs)
+size-all-spec = tie.close (tie.spec Inv-loop μ-loop loop-holds (λ c. search needs) (λ c. search needs) (λ c κs. search needs) add-n (λ c. search needs)
     (λ c. search needs)
     loop-again
     returns)

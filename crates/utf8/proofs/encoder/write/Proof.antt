@@ -1,10 +1,6 @@
 -- `encoder::write` meets its contract. The invariant of its loop: what is written, with what is left of the text, comes to the whole. The measure
 -- is the length less i. Assumes nothing.
-use Prim.Native.Nat.{_-_}
-use mathlib.Core.Path.{refl}
-use native.Mathlib.Omega.{arith}
-use borrow.Author.Needs.{needs}
-use lib.ListN.{length}
+use Rattle.lists.proofs.Kit.{refl, _-_, arith, length, needs}
 use Rattle.utf8.proofs.Puts.{Laying, laying-room, laying-on, laying-end}
 use Rattle.utf8.proofs.encoder.write.Statement.{statement}
 use Rattle.utf8.proofs.encoder.write.Tie as tie
@@ -33,17 +29,6 @@ returns : tie.Need-returns Inv-loop μ-loop
 returns c = laying-end (c .before .loop .inv) (c .loop-test .left)
 
 pub write-spec : {M : Type 1} → statement M
-write-spec =
-    tie.close
-    (tie.spec
-    Inv-loop
-    μ-loop
-    loop-holds
-    (λ c. search needs)
-    (λ c. search needs)
-    put-requires
-    (λ c. search needs)
-    (λ c. search needs)
-    loop-again
-    (λ c. c .before .loop .inv .size)
+write-spec = tie.close (tie.spec Inv-loop μ-loop loop-holds (λ c. search needs) (λ c. search needs) put-requires (λ c. search needs) (λ c. search needs)
+    loop-again (λ c. c .before .loop .inv .size)
     returns)

@@ -1,9 +1,6 @@
 -- `sequences::follow` meets its contract. The invariant of its loop: what is read is what is read from here on, with so many bytes left. The
 -- measure is their number. Assumes nothing.
-use native.Mathlib.Omega.{arith}
-use mathlib.Core.Path.{refl}
-use borrow.Author.Needs.{needs}
-use lib.ListN.{drop}
+use Rattle.lists.proofs.Kit.{refl, arith, drop, needs}
 use Rattle.utf8.specs.Decoding.{ended, reading}
 use Rattle.utf8.proofs.Steps.{Follows, bits-most, follows-cut, follows-low, follows-high, follows-on, follows-end}
 use Rattle.utf8.proofs.sequences.follow.Statement.{statement}
@@ -59,22 +56,7 @@ returns-4 : tie.Need-returns-4 Inv-loop μ-loop
 returns-4 c = let invariant = c .before .loop .inv in (follows-end invariant (c .loop-test .left), invariant .onward, invariant .begun .within)
 
 pub follow-spec : {M : Type 1} → statement M
-follow-spec =
-    tie.close
-    (tie.spec
-    Inv-loop
-    μ-loop
-    loop-holds
-    returns
-    (λ c. search needs)
-    returns-2
-    returns-3
-    mul-bits
-    sub-bits
-    (λ c. search needs)
-    add-bits
-    (λ c. search needs)
-    (λ c. search needs)
-    (λ c. search needs)
+follow-spec = tie.close (tie.spec Inv-loop μ-loop loop-holds returns (λ c. search needs) returns-2 returns-3 mul-bits sub-bits (λ c. search needs) add-bits
+    (λ c. search needs) (λ c. search needs) (λ c. search needs)
     loop-again
     returns-4)

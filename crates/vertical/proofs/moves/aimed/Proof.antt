@@ -1,7 +1,4 @@
--- `vertical::moves::aimed` meets its contract. Assumes nothing.
-use mathlib.Core.Path.{_≡_, ap, _∙_}
-use native.Mathlib.Omega.{arith}
-use borrow.Author.Needs.{needs}
+use Rattle.lists.proofs.Kit.{_≡_, ap, _∙_, arith, needs}
 use Rattle.text.specs.Text.{rowAt}
 use Rattle.text.specs.declared.Line.{Line}
 use Rattle.text.proofs.Stands.{line-there}
@@ -34,6 +31,4 @@ returns c =
     rw (← own, ← at-char-col-in .char-col-in .ensures, ← c .before .minus .ensures) (c .least .ensures)
 
 pub aimed-spec : {M : Type 1} → statement M
-aimed-spec =
-    tie.close
-    (tie.spec line-from-requires row-requires char-col-in-requires (λ c. search needs) (λ c κs. search needs) (λ c κs. search needs) returns)
+aimed-spec = tie.close (tie.spec line-from-requires row-requires char-col-in-requires (λ c. search needs) (λ c κs. search needs) (λ c κs. search needs) returns)

@@ -1,7 +1,4 @@
--- `vertical::moves::move_rows` meets its contract. Assumes nothing.
-use mathlib.Core.Path.{ap, _∙_}
-use native.Mathlib.Omega.{arith}
-use borrow.Author.Needs.{needs}
+use Rattle.lists.proofs.Kit.{ap, _∙_, arith, needs}
 use lib.IntN.{ℤ}
 use Rattle.chars.specs.Width.{widthBy}
 use Rattle.vertical.specs.Moves.{moveVertical}

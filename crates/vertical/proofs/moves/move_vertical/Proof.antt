@@ -1,8 +1,6 @@
 -- `vertical::moves::move_vertical` meets its contract: the row stays and so does the column, or the column is sought in the new row.
 -- Assumes nothing.
-use mathlib.Core.Path.{_∙_}
-use native.Mathlib.Omega.{arith}
-use borrow.Author.Needs.{needs}
+use Rattle.lists.proofs.Kit.{_∙_, arith, needs}
 use mir.Facts.{toZ-ofZ}
 use Rattle.chars.specs.Width.{widthBy}
 use Rattle.text.proofs.Parts.{count-le}
@@ -28,7 +26,8 @@ returns c =
     let at-start = at-wanted .before .before .before .before .before in
     let given = at-start .args in
     let width = widthBy (given .zeros .now) (given .doubles .now) in
-    let to = at-vertical-row .vertical-row .ensures .0 ∙ reached (given .folds .now) (given .l .row) (at-start .pre .1 .1) (toZ-ofZ (at-start .fits .delta)) in
+    let to = at-vertical-row .vertical-row .ensures .row ∙
+    reached (given .folds .now) (given .l .row) (at-start .pre .1 .1) (toZ-ofZ (at-start .fits .delta)) in
     stays-is width (given .t .now) (given .tabstop) (given .l .row) (given .col) (at-wanted .wanted .ensures) to (c .if1 .taken)
 
 -- the row reached is one of the text
@@ -41,7 +40,7 @@ aimed-requires c κs =
         at-start .pre .0,
         record {
           brief = required .row-good .brief;
-          in-rows = omega (arith, at-vertical-row .vertical-row .ensures .1, at-start .pre .1 .1);
+          in-rows = omega (arith, at-vertical-row .vertical-row .ensures .inside, at-start .pre .1 .1);
           stop = required .row-good .stop;
         },
       ),
@@ -55,10 +54,9 @@ returns-2 c =
     let at-start = at-wanted .before .before .before .before .before in
     let given = at-start .args in
     let width = widthBy (given .zeros .now) (given .doubles .now) in
-    let to = at-vertical-row .vertical-row .ensures .0 ∙ reached (given .folds .now) (given .l .row) (at-start .pre .1 .1) (toZ-ofZ (at-start .fits .delta)) in
+    let to = at-vertical-row .vertical-row .ensures .row ∙
+    reached (given .folds .now) (given .l .row) (at-start .pre .1 .1) (toZ-ofZ (at-start .fits .delta)) in
     lands-is width (given .t .now) (given .tabstop) (given .l .row) (given .col) (at-wanted .wanted .ensures) to (c .before .if1 .left) (c .aimed .ensures)
 
 pub move-vertical-spec : {M : Type 1} → statement M
-move-vertical-spec =
-    tie.close
-    (tie.spec (λ c κs. search needs) vertical-row-requires returns aimed-requires returns-2)
+move-vertical-spec = tie.close (tie.spec (λ c κs. search needs) vertical-row-requires returns aimed-requires returns-2)

@@ -1,8 +1,4 @@
--- `vertical::moves::wanted` meets its contract. Assumes nothing.
-use mathlib.Core.Path.{ap, sym, _∙_}
-use mathlib.Core.List.{List}
-use Prim.Native.Nat.{ℕ}
-use borrow.Author.Needs.{needs}
+use Rattle.lists.proofs.Kit.{ap, sym, _∙_, List, ℕ, needs}
 use Rattle.chars.specs.Width.{widthBy}
 use Rattle.row_columns.specs.Columns.{cursorCol}
 use Rattle.vertical.specs.Moves.{wantedCol}
@@ -33,6 +29,4 @@ returns-2 c =
     sym (ap (wantedCol width (given .t .now) (given .tabstop) (given .l .row) (given .col)) (at-row .before .enum-told .given .1))
 
 pub wanted-spec : {M : Type 1} → statement M
-wanted-spec =
-    tie.close
-    (tie.spec (λ c. search needs) (λ c. search needs) (λ c κs. search needs) cursor-col-in-requires returns returns-2)
+wanted-spec = tie.close (tie.spec (λ c. search needs) (λ c. search needs) (λ c κs. search needs) cursor-col-in-requires returns returns-2)

@@ -1,6 +1,5 @@
 -- `vertical::viewport::bottom_row` meets its contract: a text has a row with content. Assumes nothing.
-use native.Mathlib.Omega.{arith}
-use borrow.Author.Needs.{needs}
+use Rattle.lists.proofs.Kit.{arith, needs}
 use Rattle.text.proofs.Content.{content-near}
 use Rattle.vertical.proofs.viewport.bottom_row.Statement.{statement}
 use Rattle.vertical.proofs.viewport.bottom_row.Tie as tie

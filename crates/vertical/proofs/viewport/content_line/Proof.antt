@@ -1,8 +1,5 @@
 -- `vertical::viewport::content_line` meets its contract: a text has a row with content. Assumes nothing.
-use Prim.Native.Nat.{ℕ, _-_, min}
-use mathlib.Core.Path.{ap, _∙_}
-use native.Mathlib.Omega.{arith}
-use borrow.Author.Needs.{needs}
+use Rattle.lists.proofs.Kit.{ap, _∙_, ℕ, _-_, min, arith, needs}
 use Rattle.text.specs.Offsets.{lineAt}
 use Rattle.text.proofs.Content.{content-near}
 use Rattle.vertical.proofs.viewport.content_line.Statement.{statement}

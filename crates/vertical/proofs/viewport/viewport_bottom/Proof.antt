@@ -1,4 +1,3 @@
--- `vertical::viewport::viewport_bottom` meets its contract. Assumes nothing.
 use borrow.Author.Needs.{needs}
 use Rattle.vertical.proofs.viewport.viewport_bottom.Statement.{statement}
 use Rattle.vertical.proofs.viewport.viewport_bottom.Tie as tie

@@ -1,8 +1,5 @@
 -- `viewport::viewport_line` meets its contract, edge by edge. Assumes nothing.
-use mathlib.Core.Path.{_≡_, ap, sym, _∙_}
-use mathlib.Core.List.{List}
-use Prim.Native.Nat.{ℕ}
-use borrow.Author.Needs.{needs}
+use Rattle.lists.proofs.Kit.{_≡_, ap, sym, _∙_, List, ℕ, needs}
 use Rattle.text.specs.Offsets.{lineAt}
 use Rattle.text.specs.declared.Line.{Line}
 use Rattle.vertical.specs.declared.Edge.{Edge}
@@ -30,7 +27,5 @@ returns-3 c =
     at-edge (given .t .now) (given .top) (given .height) (given .offset) (given .edge) _ _ (c .before .enum-told3 .given .1) (c .viewport-bottom .ensures)
 
 pub viewport-line-spec : {M : Type 1} → statement M
-viewport-line-spec =
-    tie.close
-    (tie.spec (λ c. search needs) (λ c κs. search needs) (λ c. search needs) (λ c κs. search needs) (λ c. search needs)
+viewport-line-spec = tie.close (tie.spec (λ c. search needs) (λ c κs. search needs) (λ c. search needs) (λ c κs. search needs) (λ c. search needs)
     (λ c κs. search needs) returns returns-2 returns-3)

@@ -1,4 +1,3 @@
--- `vertical::viewport::viewport_middle` meets its contract. Assumes nothing.
 use borrow.Author.Needs.{needs}
 use Rattle.vertical.proofs.viewport.viewport_middle.Statement.{statement}
 use Rattle.vertical.proofs.viewport.viewport_middle.Tie as tie

@@ -1,10 +1,6 @@
 -- `vim_reader::VimSpec::holds` meets its contract. The invariant of its loop: the tokens before i have said `is`. The measure is the table's
 -- length less i. Assumes nothing.
-use Prim.Native.Nat.{_-_, _≤_}
-use mathlib.Core.Path.{_≡_, refl, sym, _∙_}
-use native.Mathlib.Omega.{arith}
-use borrow.Author.Needs.{needs}
-use lib.ListN.{length, take, drop}
+use Rattle.lists.proofs.Kit.{_≡_, sym, _∙_, _-_, _≤_, arith, length, take, drop, needs}
 use Rattle.vim_grammar.specs.Tokens.{inVim, decided}
 use Rattle.list_tokens.proofs.Lists.{places}
 use Rattle.vim_reader.proofs.TableLaws.{decided-said, decided-on, decided-end}
@@ -17,12 +13,6 @@ Inv-loop c self letter n is₀ i₀ is i = (i ≤ n) × (inVim (take n (self .to
 abbrev μ-loop : tie.MeasureT-loop
 μ-loop c self letter n is₀ i₀ is i = n - i
 
-loop-holds : tie.Need-loop-holds Inv-loop μ-loop
-loop-holds c = (omega arith, refl)
-
-speaks-requires : tie.Need-speaks-requires Inv-loop μ-loop
-speaks-requires c κs = c .before .before .before .is-letter .ensures
-
 -- the token at i speaks of c
 loop-again : tie.Need-loop-again Inv-loop μ-loop
 loop-again c =
@@ -31,8 +21,7 @@ loop-again c =
     let size-is : length (at-start.args.t1.tokens) ≡ 128 = search (needs, places) in
     let hit = sym (c .before .before .speaks .ensures) ∙ c .before .if1 .taken in (
       omega arith,
-      at-loop.inv .1
-          ∙ decided-said at-start.args.t1.tokens at-start.args.t1.len at-loop.i at-start.args.c at-loop.is (omega arith) (omega arith) hit,
+      at-loop.inv .1 ∙ decided-said at-start.args.t1.tokens at-start.args.t1.len at-loop.i at-start.args.c at-loop.is (omega arith) (omega arith) hit,
     )
 
 -- it does not
@@ -43,8 +32,7 @@ loop-again-2 c =
     let size-is : length (at-start.args.t1.tokens) ≡ 128 = search (needs, places) in
     let miss = sym (c .before .speaks .ensures) ∙ c .if1 .left in (
       omega arith,
-      at-loop.inv .1
-          ∙ decided-on at-start.args.t1.tokens at-start.args.t1.len at-loop.i at-start.args.c at-loop.is (omega arith) (omega arith) miss,
+      at-loop.inv .1 ∙ decided-on at-start.args.t1.tokens at-start.args.t1.len at-loop.i at-start.args.c at-loop.is (omega arith) (omega arith) miss,
     )
 
 returns : tie.Need-returns Inv-loop μ-loop
@@ -55,20 +43,5 @@ returns c =
     sym (at-loop.inv .1 ∙ decided-end at-start.args.t1.tokens at-start.args.t1.len at-loop.i at-start.args.c at-loop.is (c .loop-test .left) (omega arith))
 
 pub holds-spec : {M : Type 1} → statement M
-holds-spec =
-    tie.close
-    (tie.spec
-    Inv-loop
-    μ-loop
-    (λ c κs. search needs)
-    loop-holds
-    (λ c. search needs)
-    (λ c. search needs)
-    speaks-requires
-    (λ c. search needs)
-    (λ c. search needs)
-    loop-again
-    (λ c. search needs)
-    (λ c. search needs)
-    loop-again-2
-    returns)
+holds-spec = tie.close (tie.spec Inv-loop μ-loop (λ c κs. search needs) (λ c. search needs) (λ c. search needs) (λ c. search needs) (λ c κs. search needs)
+    (λ c. search needs) (λ c. search needs) loop-again (λ c. search needs) (λ c. search needs) loop-again-2 returns)

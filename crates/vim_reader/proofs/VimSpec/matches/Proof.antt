@@ -1,7 +1,5 @@
 -- `vim_reader::VimSpec::matches` meets its contract: refusal 2, then 8, then the answer. Assumes nothing.
-use mathlib.Core.Path.{ap, sym, _∙_}
-use borrow.Author.Needs.{needs}
-use borrow.Author.Tests.{le-leb, lt-leb}
+use Rattle.lists.proofs.Kit.{ap, sym, _∙_, needs, le-leb, lt-leb}
 use Rattle.vim_reader.specs.declared.VimMatched.the-variants.{Is}
 use Rattle.vim_reader.proofs.Answers.{matched-refused}
 use Rattle.vim_reader.proofs.VimSpec.matches.Statement.{statement}
@@ -14,8 +12,7 @@ returns-2 : tie.Need-returns-2
 returns-2 c = rw (sym (c .before .before .before .refused-char .ensures) ∙ c .before .before .if1 .left, lt-leb _ _ (c .if2 .taken))
 
 returns-3 : tie.Need-returns-3
-returns-3 c =
-    rw (sym (c .before .before .before .before .refused-char .ensures) ∙ c .before .before .before .if1 .left, le-leb _ _ (c .before .if2 .left))
+returns-3 c = rw (sym (c .before .before .before .before .refused-char .ensures) ∙ c .before .before .before .if1 .left, le-leb _ _ (c .before .if2 .left))
     (ap Is (c .holds .ensures))
 
 pub matches-spec : {M : Type 1} → statement M

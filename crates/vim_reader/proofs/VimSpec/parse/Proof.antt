@@ -1,7 +1,5 @@
 -- `vim_reader::VimSpec::parse` meets its contract: refusal 7, then what reading the list gives. Assumes nothing.
-use mathlib.Core.Path.{sym, _∙_}
-use borrow.Author.Needs.{needs}
-use borrow.Author.Tests.{ne-eqb}
+use Rattle.lists.proofs.Kit.{sym, _∙_, needs, ne-eqb}
 use Rattle.vim_reader.proofs.VimSpec.parse.Statement.{statement}
 use Rattle.vim_reader.proofs.VimSpec.parse.Tie as tie
 

@@ -1,7 +1,5 @@
 -- `machine::first` meets its contract: a digit, another character of ASCII, or neither. Assumes nothing.
-use mathlib.Core.Path.{sym, _∙_}
-use native.Mathlib.Omega.{arith}
-use borrow.Author.Needs.{needs}
+use Rattle.lists.proofs.Kit.{sym, _∙_, arith, needs}
 use Rattle.vim_reader.proofs.MachineLaws.{digit-low, first-digit, first-sign, first-dead}
 use Rattle.vim_reader.proofs.machine.first.Statement.{statement}
 use Rattle.vim_reader.proofs.machine.first.Tie as tie

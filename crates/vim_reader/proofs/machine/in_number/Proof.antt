@@ -1,8 +1,5 @@
 -- `machine::in_number` meets its contract: what is no digit ends the number, and a digit goes on with it up to 255. Assumes nothing.
-use mathlib.Core.Path.{sym, _∙_}
-use native.Mathlib.Omega.{arith}
-use borrow.Author.Needs.{needs}
-use borrow.Author.Tests.{not-true, not-false}
+use Rattle.lists.proofs.Kit.{sym, _∙_, arith, needs, not-true, not-false}
 use Rattle.vim_reader.proofs.MachineLaws.{digit-low, digit-high, number-behind, number-on, number-dead}
 use Rattle.vim_reader.proofs.machine.in_number.Statement.{statement}
 use Rattle.vim_reader.proofs.machine.in_number.Tie as tie

@@ -1,13 +1,7 @@
 -- `machine::is_digit` meets its contract: by the branches. Assumes nothing.
-use borrow.Author.Tests.{le-leb, lt-leb}
+use Rattle.lists.proofs.Kit.{needs, le-leb, lt-leb}
 use Rattle.vim_reader.proofs.machine.is_digit.Statement.{statement}
 use Rattle.vim_reader.proofs.machine.is_digit.Tie as tie
 
-returns : tie.Need-returns
-returns c = rw (lt-leb _ _ (c .if1 .taken))
-
-returns-2 : tie.Need-returns-2
-returns-2 c = rw (le-leb _ _ (c .if1 .left))
-
 pub is-digit-spec : {M : Type 1} → statement M
-is-digit-spec = tie.close (tie.spec returns returns-2)
+is-digit-spec = tie.close (tie.spec (λ c. search (needs, lt-leb)) (λ c. search (needs, le-leb)))

@@ -1,14 +1,8 @@
 -- `machine::second` meets its contract: by the branches. Assumes nothing.
-use mathlib.Core.Path.{sym}
-use borrow.Author.Needs.{needs}
-use mathlib.Core.Path.{subst, _≡_}
-use Prim.Native.Nat.{ℕ, _≤_, _<_}
+use Rattle.lists.proofs.Kit.{sym, needs}
 use Rattle.vim_reader.proofs.MachineLaws.{second-over, second-below, second-taken}
 use Rattle.vim_reader.proofs.machine.second.Statement.{statement}
 use Rattle.vim_reader.proofs.machine.second.Tie as tie
-
-returns : tie.Need-returns
-returns c = sym (second-over _ _ _ _ (c .if1 .taken))
 
 returns-2 : tie.Need-returns-2
 returns-2 c = let most-told =
@@ -19,4 +13,4 @@ returns-3 c = let most-told =
     c .before .most .ensures in let left = c .if2 .left in sym (second-taken _ _ _ _ (c .before .before .if1 .left) (rw most-told at left))
 
 pub second-spec : {M : Type 1} → statement M
-second-spec = tie.close (tie.spec returns (λ c κs. search needs) returns-2 returns-3)
+second-spec = tie.close (tie.spec (λ c. search (needs, second-over)) (λ c κs. search needs) returns-2 returns-3)

@@ -1,6 +1,5 @@
 -- `machine::sign_of` meets its contract: `@`, or any other character. Assumes nothing.
-use borrow.Author.Tests.{eq-eqb, ne-eqb}
-use borrow.Author.Needs.{needs}
+use Rattle.lists.proofs.Kit.{needs, eq-eqb, ne-eqb}
 use Rattle.vim_reader.specs.Machine.{signToken}
 use Rattle.vim_reader.proofs.machine.sign_of.Statement.{statement}
 use Rattle.vim_reader.proofs.machine.sign_of.Tie as tie

@@ -1,14 +1,9 @@
 -- `vim_reader::is_vim_char` meets its contract: refusal 2, then those of the list, then the answer by its table. Assumes nothing.
-use mathlib.Core.Path.{ap, sym, _∙_}
-use Prim.Native.Nat.{ℕ, _≤_}
-use borrow.Author.Needs.{needs}
+use Rattle.lists.proofs.Kit.{ap, _∙_, needs}
 use Rattle.vim_reader.specs.declared.VimTested.the-variants.{Is}
 use Rattle.vim_reader.proofs.Answers.{read-few, tested-bad, tested-refused, tested-is, tested-first, tested-list}
 use Rattle.vim_reader.proofs.vim_spec.is_vim_char.Statement.{statement}
 use Rattle.vim_reader.proofs.vim_spec.is_vim_char.Tie as tie
-
-returns : tie.Need-returns
-returns c = tested-first (c .before .before .before .args .c) (c .before .before .before .args .list .now) _ (c .before .refused-char .ensures) (c .if1 .taken)
 
 returns-2 : tie.Need-returns-2
 returns-2 c =
@@ -37,17 +32,8 @@ returns-4 c =
     let at-refused-char = at-if1 .before in
     let at-start = at-refused-char .before .before in
     ap Is (c .holds .ensures) ∙ tested-is _ (at-parse .parse .result) (c .before .before .if3 .left)
-    ∙ tested-list (at-start .args .c) (at-start .args .list .now) _ (at-refused-char .refused-char .ensures) (at-if1 .if1 .left) _
-    (at-parse .parse .ensures)
+    ∙ tested-list (at-start .args .c) (at-start .args .list .now) _ (at-refused-char .refused-char .ensures) (at-if1 .if1 .left) _ (at-parse .parse .ensures)
 
 pub is-vim-char-spec : {M : Type 1} → statement M
-is-vim-char-spec =
-    tie.close
-    (tie.spec
-    (λ c κs. search needs)
-    returns
-    (λ c κs. search needs)
-    returns-2
-    returns-3
-    holds-requires
-    returns-4)
+is-vim-char-spec = tie.close
+    (tie.spec (λ c κs. search needs) (λ c. search (needs, tested-first)) (λ c κs. search needs) returns-2 returns-3 holds-requires returns-4)

@@ -1,9 +1,5 @@
 -- `vim_words::by_vim::word_by_vim` meets its contract: each refusal in its turn, and else the motion by the list's table. Assumes nothing.
-use mathlib.Core.Path.{_≡_, refl, ap, sym, _∙_}
-use mathlib.Core.List.{List}
-use Prim.Native.Nat.{ℕ}
-use lib.ListN.{take}
-use borrow.Author.Needs.{needs}
+use Rattle.lists.proofs.Kit.{ap, sym, _∙_, List, ℕ, take, needs}
 use Rattle.vim_grammar.specs.Tokens.{inVim}
 use Rattle.vim_reader.specs.declared.VimRead.{VimRead}
 use Rattle.vim_reader.specs.Table.{kept}
@@ -15,7 +11,7 @@ use Rattle.vim_words.proofs.by_vim.word_by_vim.Statement.{statement}
 use Rattle.vim_words.proofs.by_vim.word_by_vim.Tie as tie
 
 slice-aggregate-own : tie.Need-slice-aggregate-own
-slice-aggregate-own c = part-count (c .before .before .before .before .before .args .folds .now) (c .before .taken .ensures .0)
+slice-aggregate-own c = part-count (c .before .before .before .before .before .args .folds .now) (c .before .taken .ensures .inside)
 
 -- text, caret or folds
 returns : tie.Need-returns
@@ -25,7 +21,7 @@ returns c =
     let at-own = at-entry .before .before in
     let given = at-own .before .before .before .before .args in
     let folds = foldsOf (given .m) (given .folds .now) in
-    let by-entered-number = entered-number (given .t .now) _ folds (given .k) _ (at-entry .enter .ensures) (at-own .taken .ensures .1)
+    let by-entered-number = entered-number (given .t .now) _ folds (given .k) _ (at-entry .enter .ensures) (at-own .taken .ensures .part)
     (at-folds .or-folds .ensures) in
     answer-first (given .t .now) folds (given .list .now) (given .big) (given .m) (given .stop) (given .count) (given .k) _ by-entered-number (c .if1 .taken)
 
@@ -39,7 +35,7 @@ returns-2 c =
     let at-own = at-entry .before .before in
     let given = at-own .before .before .before .before .args in
     let folds = foldsOf (given .m) (given .folds .now) in
-    let by-entered-number = entered-number (given .t .now) _ folds (given .k) _ (at-entry .enter .ensures) (at-own .taken .ensures .1)
+    let by-entered-number = entered-number (given .t .now) _ folds (given .k) _ (at-entry .enter .ensures) (at-own .taken .ensures .part)
     (at-folds .or-folds .ensures) in
     answer-bad (given .t .now) folds (given .list .now) (given .big) (given .m) (given .stop) (given .count) (given .k) _ by-entered-number (at-test .if1 .left)
     (at-parse .parse .result) (at-parse .parse .ensures) (c .if2 .taken)
@@ -55,11 +51,10 @@ returns-3 c =
     let at-own = at-entry .before .before in
     let given = at-own .before .before .before .before .args in
     let folds = foldsOf (given .m) (given .folds .now) in
-    let by-entered-number = entered-number (given .t .now) _ folds (given .k) _ (at-entry .enter .ensures) (at-own .taken .ensures .1)
+    let by-entered-number = entered-number (given .t .now) _ folds (given .k) _ (at-entry .enter .ensures) (at-own .taken .ensures .part)
     (at-folds .or-folds .ensures) in
     answer-refused (given .t .now) folds (given .list .now) (given .big) (given .m) (given .stop) (given .count) (given .k) _ by-entered-number
-    (at-test .if1 .left)
-    (at-parse .parse .result) (at-parse .parse .ensures) (at-bad .if2 .left) (c .if3 .taken)
+    (at-test .if1 .left) (at-parse .parse .result) (at-parse .parse .ensures) (at-bad .if2 .left) (c .if3 .taken)
 
 to-word-requires : tie.Need-to-word-requires
 to-word-requires c κs =
@@ -83,19 +78,16 @@ returns-4 c =
     let at-own = at-entry .before .before in
     let given = at-own .before .before .before .before .args in
     let folds = foldsOf (given .m) (given .folds .now) in
-    let by-entered-number = entered-number (given .t .now) _ folds (given .k) _ (at-entry .enter .ensures) (at-own .taken .ensures .1)
+    let by-entered-number = entered-number (given .t .now) _ folds (given .k) _ (at-entry .enter .ensures) (at-own .taken .ensures .part)
     (at-folds .or-folds .ensures) in
     answer-given (given .t .now) folds (given .list .now) (given .big) (given .m) (given .stop) (given .count) (given .k) _ by-entered-number
-    (at-test .if1 .left)
-    (at-parse .parse .result) (at-parse .parse .ensures) _ (at-last .if3 .left)
-    (c .to-word .ensures
+    (at-test .if1 .left) (at-parse .parse .result) (at-parse .parse .ensures) _ (at-last .if3 .left) (c .to-word .ensures
     ∙ ap (λ (r : VimRead). wordCaret (given .t .now) (take (at-own .taken .result) (given .folds .now)) (inVim (kept (r .spec))) (given .big) (given .m)
     (given .stop) (given .count) (given .k)) (at-parse .parse .ensures)
     ∙ ap (λ (own : List ℕ). wordCaret (given .t .now) own (inVimList (given .list .now)) (given .big) (given .m) (given .stop) (given .count) (given .k))
-    (at-own .taken .ensures .1))
+    (at-own .taken .ensures .part))
 
 pub word-by-vim-spec : {M : Type 1} → statement M
-word-by-vim-spec =
-    tie.close
+word-by-vim-spec = tie.close
     (tie.spec (λ c κs. search needs) slice-aggregate-own (λ c κs. search needs) (λ c κs. search needs) returns (λ c κs. search needs) returns-2
     returns-3 to-word-requires returns-4)

@@ -1,10 +1,8 @@
 -- `vim_words::once::prepare_vim` meets its contract: the flags and the letters above hold what the table's tokens hold. Assumes nothing.
-use mathlib.Core.Path.{refl, sym, _∙_}
-use native.Mathlib.Omega.{arith}
+use Rattle.lists.proofs.Kit.{refl, sym, _∙_, arith, needs}
 use Rattle.vim_reader.specs.Table.{kept}
 use Rattle.words.proofs.Letters.{no-letters}
 use Rattle.vim_words.proofs.Above.{kinds-flagged}
-use borrow.Author.Needs.{needs}
 use Rattle.vim_words.proofs.once.prepare_vim.Statement.{statement}
 use Rattle.vim_words.proofs.once.prepare_vim.Tie as tie
 
@@ -12,11 +10,10 @@ returns : tie.Need-returns
 returns c =
     let at-letters = c .before in
     let at-flags = at-letters .before in
-    let start = at-flags .before .before in
-    let given = start .args in
+    let at-start = at-flags .before .before in
+    let given = at-start .args in
     record {
-      kinds =
-          kinds-flagged (kept (given .spec)) (at-flags .flags-of .result) (at-letters .letters-of .result) (given .big) (start .pre .1)
+      kinds = kinds-flagged (kept (given .spec)) (at-flags .flags-of .result) (at-letters .letters-of .result) (given .big) (at-start .pre .1)
           (at-flags .flags-of .ensures) (at-letters .letters-of .ensures);
       room = omega arith;
       is-big = refl;

@@ -1,6 +1,6 @@
 -- `vim_words::once::vim_motion` meets its contract: what was made is what the walk goes by. Assumes nothing.
-use mathlib.Core.Path.{_∙_}
 use Rattle.word_kinds.specs.Spots.{placeOf}
+use Rattle.word_kinds.proofs.Telling.{tells-too}
 use Rattle.words.proofs.Made.{made-folded, made-motion}
 use borrow.Author.Needs.{needs}
 use Rattle.vim_words.proofs.once.vim_motion.Statement.{statement}
@@ -18,7 +18,7 @@ returns c =
     let given = prepared .before .before .before .args in
     let from = placeOf (given .t .now) (given .p) in
     let motion = made-motion (prepared .prepare-vim .ensures) (given .folds .now) (given .m) (given .stop) (given .count) from in
-    (c .walk-made .ensures .0 ∙ motion, c .walk-made .ensures .1)
+    tells-too (c .walk-made .ensures) motion
 
 pub vim-motion-spec : {M : Type 1} → statement M
 vim-motion-spec = tie.close (tie.spec (λ c κs. search needs) walk-made-requires returns)

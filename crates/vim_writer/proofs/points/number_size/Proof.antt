@@ -1,6 +1,5 @@
 -- `points::number_size` meets its contract: ten places are enough for a number, and writing it tells how many it takes. Assumes nothing.
-use native.Mathlib.Omega.{arith}
-use borrow.Author.Needs.{needs}
+use Rattle.lists.proofs.Kit.{arith, needs}
 use Rattle.print.proofs.Laws.{length-decimal}
 use Rattle.vim_writer.proofs.points.number_size.Statement.{statement}
 use Rattle.vim_writer.proofs.points.number_size.Tie as tie

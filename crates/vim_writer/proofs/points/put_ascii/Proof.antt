@@ -1,14 +1,9 @@
 -- `points::put_ascii` meets its contract. The invariant of its loop: the first i characters are written. The measure is the length less i.
 -- Assumes nothing.
-use Prim.Native.Nat.{ℕ, _+_, _-_, _≤_}
-use native.Mathlib.Omega.{arith}
-use native.Mathlib.Nat.{add-zero}
-use borrow.Author.Needs.{needs}
-use lib.ListN.{length, take}
+use Rattle.lists.proofs.Kit.{_≡_, ap, ℕ, _+_, _-_, _≤_, add-zero, arith, take, needs}
 use Rattle.print.specs.Print.{Wrote}
 use Rattle.print.proofs.Laws.{wrote-none, wrote-byte}
-use Rattle.vim_writer.proofs.WrittenLaws.{wrote-as}
-use mathlib.Core.Path.{_≡_, ap}
+use Rattle.vim_writer.proofs.RoomLaws.{wrote-as}
 use Rattle.vim_writer.proofs.points.put_ascii.Statement.{statement}
 use Rattle.vim_writer.proofs.points.put_ascii.Tie as tie
 
@@ -17,9 +12,6 @@ Inv-loop out₀ at s n i₀ out i = (i ≤ n) × Wrote out₀ at (take i s) (at 
 
 abbrev μ-loop : tie.MeasureT-loop
 μ-loop out₀ at s n i₀ out i = n - i
-
-loop-holds : tie.Need-loop-holds Inv-loop μ-loop
-loop-holds c = (omega arith, rw add-zero (wrote-none _ _))
 
 cast-out : tie.Need-cast-out Inv-loop μ-loop
 cast-out c = omega (arith, c .shared-slice-known .given (c .before .before .loop .i))
@@ -36,20 +28,6 @@ returns c =
     wrote-as (ap (λ (k : ℕ). take k (c .before .before .args .s .now)) i-is) (at-loop.inv .1)
 
 pub put-ascii-spec : {M : Type 1} → statement M
-put-ascii-spec =
-    tie.close
-    (tie.spec
-    Inv-loop
-    μ-loop
-    loop-holds
-    (λ c. search needs)
-    cast-out
-    (λ c. search needs)
-    (λ c. search needs)
-    (λ c. search needs)
-    (λ c. search needs)
-    (λ c. search needs)
-    loop-again
-    (λ c. search needs)
-    (λ c. search needs)
-    returns)
+put-ascii-spec = tie.close
+    (tie.spec Inv-loop μ-loop (λ c. search (needs, add-zero, wrote-none)) (λ c. search needs) cast-out (λ c. search needs) (λ c. search needs)
+    (λ c. search needs) (λ c. search needs) (λ c. search needs) loop-again (λ c. search needs) (λ c. search needs) returns)

@@ -1,10 +1,7 @@
 -- `points::put_number` meets its contract: its digits go into ten places, and from there into the room. Assumes nothing.
-use mathlib.Core.Path.{ap, sym, _∙_}
-use native.Mathlib.Omega.{arith}
-use borrow.Author.Needs.{needs}
-use lib.ListN.{length}
+use Rattle.lists.proofs.Kit.{arith, needs}
 use Rattle.print.proofs.Laws.{length-decimal}
-use Rattle.vim_writer.proofs.WrittenLaws.{wrote-as, wrote-front}
+use Rattle.vim_writer.proofs.RoomLaws.{wrote-as, wrote-front}
 use Rattle.vim_writer.proofs.points.put_number.Statement.{statement}
 use Rattle.vim_writer.proofs.points.put_number.Tie as tie
 
@@ -17,11 +14,6 @@ put-ascii-requires c κs =
     let put-decimal-told = c .before .before .before .put-decimal .ensures in
     (omega (arith, length-decimal (at-start .args .n), put-decimal-told .next, put-decimal-told .size), omega (arith, put-decimal-told .next))
 
-returns : tie.Need-returns
-returns c =
-    let at-put-decimal = c .before .before .before .before .before .before in
-    let at-start = at-put-decimal .before .before .before in
-    wrote-as (wrote-front (at-put-decimal .put-decimal .ensures) (length-decimal (at-start .args .n))) (c .before .before .put-ascii .ensures)
-
 pub put-number-spec : {M : Type 1} → statement M
-put-number-spec = tie.close (tie.spec (λ c. search needs) put-decimal-requires (λ c. search needs) put-ascii-requires (λ c. search needs) returns)
+put-number-spec = tie.close (tie.spec (λ c. search needs) put-decimal-requires (λ c. search needs) put-ascii-requires (λ c. search needs)
+    (λ c. search (needs, length-decimal, wrote-as, wrote-front)))

@@ -1,22 +1,8 @@
 -- `tokens::item_size` meets its contract: kind by kind. Assumes nothing.
-use mathlib.Core.Path.{ap, sym, _∙_}
-use native.Mathlib.Omega.{arith}
-use borrow.Author.Needs.{needs}
-use lib.ListN.{length}
-use Rattle.vim_writer.proofs.WrittenLaws.{end-most, item-none, item-letters, item-one, range-length}
+use Rattle.lists.proofs.Kit.{arith, needs}
+use Rattle.vim_writer.proofs.TokenLaws.{end-most, item-none, item-letters, item-one, range-length}
 use Rattle.vim_writer.proofs.tokens.item_size.Statement.{statement}
 use Rattle.vim_writer.proofs.tokens.item_size.Tie as tie
-
-returns : tie.Need-returns
-returns c = sym (ap length (item-none (c .before .before .args .t) (c .if1 .taken)))
-
-returns-2 : tie.Need-returns-2
-returns-2 c = sym (ap length (item-letters (c .before .before .before .before .args .t) (c .if2 .taken)))
-
-returns-3 : tie.Need-returns-3
-returns-3 c =
-    let at-start = c .before .before .before .before .before .before .before in
-    c .end-size .ensures ∙ sym (ap length (item-one (at-start .args .t) (c .before .if3 .taken)))
 
 add-result : tie.Need-add-result
 add-result c =
@@ -46,5 +32,5 @@ returns-4 c =
     )
 
 pub item-size-spec : {M : Type 1} → statement M
-item-size-spec =
-    tie.close (tie.spec returns returns-2 (λ c κs. search needs) returns-3 (λ c κs. search needs) (λ c κs. search needs) add-result add-result-2 returns-4)
+item-size-spec = tie.close (tie.spec (λ c. search (needs, item-none)) (λ c. search (needs, item-letters)) (λ c κs. search needs) (λ c. search (needs, item-one))
+    (λ c κs. search needs) (λ c κs. search needs) add-result add-result-2 returns-4)

@@ -1,10 +1,8 @@
 -- `tokens::put_token` meets its contract: with its `^`, or without. Assumes nothing.
-use mathlib.Core.Path.{ap, sym, _∙_}
-use native.Mathlib.Omega.{arith}
-use borrow.Author.Needs.{needs}
-use lib.ListN.{length}
+use Rattle.lists.proofs.Kit.{ap, sym, arith, length, needs}
 use Rattle.print.proofs.Laws.{wrote-then}
-use Rattle.vim_writer.proofs.WrittenLaws.{token-out, token-in, wrote-as}
+use Rattle.vim_writer.proofs.TokenLaws.{token-out, token-in}
+use Rattle.vim_writer.proofs.RoomLaws.{wrote-as}
 use Rattle.vim_writer.proofs.tokens.put_token.Statement.{statement}
 use Rattle.vim_writer.proofs.tokens.put_token.Tie as tie
 
@@ -31,10 +29,6 @@ returns c =
 put-item-requires-2 : tie.Need-put-item-requires-2
 put-item-requires-2 c κs = omega (arith, ap length (token-in (c .before .before .before .args .t) (c .before .if1 .left)))
 
-returns-2 : tie.Need-returns-2
-returns-2 c =
-    let at-start = c .before .before .before .before .before .before in
-    wrote-as (sym (token-in (at-start .args .t) (c .before .before .before .before .if1 .left))) (c .before .before .put-item2 .ensures)
-
 pub put-token-spec : {M : Type 1} → statement M
-put-token-spec = tie.close (tie.spec put-requires put-item-requires (λ c. search needs) returns put-item-requires-2 (λ c. search needs) returns-2)
+put-token-spec = tie.close (tie.spec put-requires put-item-requires (λ c. search needs) returns put-item-requires-2 (λ c. search needs)
+    (λ c. search (needs, token-in, wrote-as)))

@@ -1,9 +1,6 @@
 -- `tokens::token_size` meets its contract: with its `^`, or without. Assumes nothing.
-use mathlib.Core.Path.{ap, sym, _∙_}
-use native.Mathlib.Omega.{arith}
-use borrow.Author.Needs.{needs}
-use lib.ListN.{length}
-use Rattle.vim_writer.proofs.WrittenLaws.{item-most, token-out, token-in}
+use Rattle.lists.proofs.Kit.{ap, arith, length, needs}
+use Rattle.vim_writer.proofs.TokenLaws.{item-most, token-out, token-in}
 use Rattle.vim_writer.proofs.tokens.token_size.Statement.{statement}
 use Rattle.vim_writer.proofs.tokens.token_size.Tie as tie
 
@@ -13,8 +10,5 @@ add-result c = omega (arith, c .before .item-size .ensures, item-most (c .before
 returns : tie.Need-returns
 returns c = omega (arith, c .before .item-size .ensures, ap length (token-out (c .before .before .args .t) (c .if1 .taken)))
 
-returns-2 : tie.Need-returns-2
-returns-2 c = c .before .item-size .ensures ∙ sym (ap length (token-in (c .before .before .args .t) (c .if1 .left)))
-
 pub token-size-spec : {M : Type 1} → statement M
-token-size-spec = tie.close (tie.spec (λ c κs. search needs) add-result returns returns-2)
+token-size-spec = tie.close (tie.spec (λ c κs. search needs) add-result returns (λ c. search (needs, token-in)))

@@ -1,14 +1,11 @@
 -- `writer::list_size` meets its contract. The invariant of its loop: n is the length of the first i tokens' list. The measure is the table's length
 -- less i. Assumes nothing.
-use Prim.Native.Nat.{_-_, _≤_}
-use mathlib.Core.Path.{_≡_, refl, ap, sym, _∙_}
-use native.Mathlib.Omega.{arith}
-use borrow.Author.Needs.{needs}
-use lib.ListN.{length, take, getD}
+use Rattle.lists.proofs.Kit.{_≡_, refl, ap, sym, _∙_, _-_, _≤_, arith, length, take, getD, needs}
 use Rattle.list_tokens.proofs.Lists.{places}
 use Rattle.vim_grammar.specs.Tokens.{noToken}
 use Rattle.vim_writer.specs.Written.{written}
-use Rattle.vim_writer.proofs.WrittenLaws.{token-most, take-most, written-first, next-length}
+use Rattle.vim_writer.proofs.TokenLaws.{token-most}
+use Rattle.vim_writer.proofs.WrittenLaws.{take-most, written-first, next-length}
 use Rattle.vim_writer.proofs.writer.list_size.Statement.{statement}
 use Rattle.vim_writer.proofs.writer.list_size.Tie as tie
 
@@ -65,24 +62,10 @@ returns c =
     rw (← i-is) (at-loop.inv .1)
 
 pub list-size-spec : {M : Type 1} → statement M
-list-size-spec =
-    tie.close
-    (tie.spec
-    Inv-loop
-    μ-loop
-    loop-holds
-    (λ c. search needs)
-    (λ c. search needs)
-    (λ c κs. search needs)
-    (λ c. search needs)
+list-size-spec = tie.close (tie.spec Inv-loop μ-loop loop-holds (λ c. search needs) (λ c. search needs) (λ c κs. search needs) (λ c. search needs)
     (λ c. search needs)
     loop-again
-    add-n
-    (λ c. search needs)
-    (λ c. search needs)
-    (λ c κs. search needs)
-    add-n-2
-    (λ c. search needs)
-    (λ c. search needs)
+    add-n (λ c. search needs) (λ c. search needs) (λ c κs. search needs)
+    add-n-2 (λ c. search needs) (λ c. search needs)
     loop-again-2
     returns)

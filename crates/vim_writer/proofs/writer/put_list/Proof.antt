@@ -1,15 +1,11 @@
 -- `writer::put_list` meets its contract. The invariant of its loop: the list of the first i tokens is written. The measure is the table's length
 -- less i. Assumes nothing.
-use Prim.Native.Nat.{_-_, _≤_}
-use mathlib.Core.Path.{_≡_, refl, ap, sym, _∙_}
-use native.Mathlib.Omega.{arith}
-use borrow.Author.Needs.{needs}
-use lib.ListN.{length, take, getD}
+use Rattle.lists.proofs.Kit.{_≡_, _-_, _≤_, arith, length, take, needs}
 use Rattle.print.specs.Print.{Wrote}
 use Rattle.print.proofs.Laws.{wrote-none}
 use Rattle.list_tokens.proofs.Lists.{places}
 use Rattle.vim_writer.specs.Written.{written}
-use Rattle.vim_writer.proofs.WrittenLaws.{put-first, put-next, room-first, room-next}
+use Rattle.vim_writer.proofs.RoomLaws.{put-first, put-next, room-first, room-next}
 use Rattle.vim_writer.proofs.writer.put_list.Statement.{statement}
 use Rattle.vim_writer.proofs.writer.put_list.Tie as tie
 
@@ -94,22 +90,10 @@ returns c =
     rw (← i-is) (at-loop.inv .1)
 
 pub put-list-spec : {M : Type 1} → statement M
-put-list-spec =
-    tie.close
-    (tie.spec
-    Inv-loop
-    μ-loop
-    loop-holds
-    (λ c. search needs)
-    (λ c. search needs)
-    put-token-requires
-    (λ c. search needs)
+put-list-spec = tie.close (tie.spec Inv-loop μ-loop loop-holds (λ c. search needs) (λ c. search needs) put-token-requires (λ c. search needs)
     (λ c. search needs)
     loop-again
     put-requires
-    put-token-requires-2
-    (λ c. search needs)
-    (λ c. search needs)
-    loop-again-2
-    (λ c. search needs)
+    put-token-requires-2 (λ c. search needs) (λ c. search needs)
+    loop-again-2 (λ c. search needs)
     returns)

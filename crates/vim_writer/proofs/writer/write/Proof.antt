@@ -1,8 +1,6 @@
 -- `writer::write` meets its contract: refusal 8, then 14, then the list at the front of the room. Assumes nothing.
-use mathlib.Core.Path.{ap, sym, _∙_}
-use native.Mathlib.Omega.{arith}
-use borrow.Author.Needs.{needs}
-use Rattle.vim_writer.proofs.WrittenLaws.{write-8, write-14, write-made}
+use Rattle.lists.proofs.Kit.{arith, needs}
+use Rattle.vim_writer.proofs.RoomLaws.{write-8, write-14, write-made}
 use Rattle.vim_writer.proofs.writer.write.Statement.{statement}
 use Rattle.vim_writer.proofs.writer.write.Tie as tie
 
@@ -14,9 +12,6 @@ returns-2 c =
     let given = c .before .before .before .before .before .args in
     write-14 given.spec given.room.now (c .before .before .if1 .left) (omega (arith, c .before .list-size .ensures))
 
-put-list-requires : tie.Need-put-list-requires
-put-list-requires c κs = (c .before .before .before .if1 .left, omega (arith, c .before .before .list-size .ensures))
-
 returns-3 : tie.Need-returns-3
 returns-3 c =
     let given = c .before .before .before .before .before .before .before .before .before .args in
@@ -25,4 +20,4 @@ returns-3 c =
     (c .before .before .put-list .ensures)
 
 pub write-spec : {M : Type 1} → statement M
-write-spec = tie.close (tie.spec returns (λ c κs. search needs) returns-2 put-list-requires (λ c. search needs) returns-3)
+write-spec = tie.close (tie.spec returns (λ c κs. search needs) returns-2 (λ c κs. search needs) (λ c. search needs) returns-3)

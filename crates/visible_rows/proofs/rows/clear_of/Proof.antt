@@ -1,7 +1,6 @@
 -- `visible_rows::rows::clear_of` meets its contract: a fold that is open or lies behind hides nothing, one ahead nothing before its first hidden row.
 -- Assumes nothing.
-use native.Mathlib.Omega.{arith}
-use borrow.Author.Needs.{needs}
+use Rattle.lists.proofs.Kit.{arith, needs}
 use Rattle.visible_rows.proofs.Free.{clear-open, clear-behind, clear-ahead, clear-behind-up, clear-ahead-up}
 use Rattle.visible_rows.proofs.rows.clear_of.Statement.{statement}
 use Rattle.visible_rows.proofs.rows.clear_of.Tie as tie
@@ -22,7 +21,5 @@ returns-5 : tie.Need-returns-5
 returns-5 c = clear-ahead-up (c .before .before .before .if2 .left) (omega arith)
 
 pub clear-of-spec : {M : Type 1} → statement M
-clear-of-spec =
-    tie.close
-    (tie.spec returns returns-2 (λ c κs. search needs) (λ c κs. search needs) returns-3 (λ c. search needs) returns-4
+clear-of-spec = tie.close (tie.spec returns returns-2 (λ c κs. search needs) (λ c κs. search needs) returns-3 (λ c. search needs) returns-4
     (λ c. search needs) (λ c κs. search needs) (λ c κs. search needs) returns-5)

@@ -1,7 +1,5 @@
 -- `visible_rows::rows::delta_of` meets its contract: the count, and its negative for the way up. Assumes nothing.
-use mathlib.Core.Path.{_∙_, ap}
-use native.Mathlib.Omega.{arith}
-use borrow.Author.Needs.{needs}
+use Rattle.lists.proofs.Kit.{_∙_, ap, arith, needs}
 use lib.IntN.{pos, negℤ}
 use Rattle.visible_rows.proofs.Signed.{read-pos, neg-asked, read-neg}
 use Rattle.visible_rows.proofs.rows.delta_of.Statement.{statement}
@@ -15,8 +13,7 @@ negated-requires c κs =
 returns : tie.Need-returns
 returns c =
     let at-signed = c .before in
-    rw (c .if1 .taken)
-    (read-pos (at-signed .signed .result) (at-signed .before .most .result) (omega arith) (at-signed .signed .ensures)
+    rw (c .if1 .taken) (read-pos (at-signed .signed .result) (at-signed .before .most .result) (omega arith) (at-signed .signed .ensures)
     ∙ ap pos (at-signed .before .most .ensures))
 
 returns-2 : tie.Need-returns-2

@@ -1,10 +1,6 @@
 -- `visible_rows::rows::free_rows` meets its contract. The invariant of its loop: the folds before i hide none of the next `free` rows.
 -- The measure is the folds' length less i. Assumes nothing.
-use Prim.Native.Nat.{_+_, _-_, _≤_}
-use mathlib.Core.Path.{refl}
-use native.Mathlib.Omega.{arith}
-use borrow.Author.Needs.{needs}
-use lib.ListN.{length}
+use Rattle.lists.proofs.Kit.{refl, _+_, _-_, _≤_, arith, length, needs}
 use Rattle.visible_rows.proofs.Free.{FreeTo, free-step, free-end}
 use Rattle.visible_rows.proofs.rows.free_rows.Statement.{statement}
 use Rattle.visible_rows.proofs.rows.free_rows.Tie as tie
@@ -27,8 +23,6 @@ returns : tie.Need-returns Inv-loop μ-loop
 returns c = free-end (c .before .loop .inv .0) (omega arith)
 
 pub free-rows-spec : {M : Type 1} → statement M
-free-rows-spec =
-    tie.close
-    (tie.spec Inv-loop μ-loop (λ c κs. search needs) loop-holds (λ c. search needs) (λ c. search needs)
+free-rows-spec = tie.close (tie.spec Inv-loop μ-loop (λ c κs. search needs) loop-holds (λ c. search needs) (λ c. search needs)
     (λ c. search needs) (λ c. search needs) (λ c. search needs) (λ c. search needs) (λ c. search needs)
     (λ c. search needs) (λ c. search needs) (λ c κs. search needs) (λ c. search needs) (λ c. search needs) loop-again returns)

@@ -1,6 +1,4 @@
--- `visible_rows::rows::hop` meets its contract. Assumes nothing.
-use mathlib.Core.Path.{sym, _∙_}
-use borrow.Author.Needs.{needs}
+use Rattle.lists.proofs.Kit.{sym, _∙_, needs}
 use Rattle.visible_rows.proofs.Visible.{toward-within, hop-free, hop-past, hop-none}
 use Rattle.visible_rows.proofs.rows.hop.Statement.{statement}
 use Rattle.visible_rows.proofs.rows.hop.Tie as tie
@@ -22,7 +20,5 @@ returns-3 : tie.Need-returns-3
 returns-3 c = hop-none (sym (c .before .before .visible-row .ensures) ∙ c .enum-told .given .1)
 
 pub hop-spec : {M : Type 1} → statement M
-hop-spec =
-    tie.close
-    (tie.spec (λ c κs. search needs) (λ c. search needs) returns (λ c κs. search needs) (λ c. search needs) free-rows-requires
+hop-spec = tie.close (tie.spec (λ c κs. search needs) (λ c. search needs) returns (λ c κs. search needs) (λ c. search needs) free-rows-requires
     (λ c. search needs) returns-2 returns-3)

@@ -1,4 +1,3 @@
--- `visible_rows::rows::negated` meets its contract. Assumes nothing.
 use Rattle.visible_rows.proofs.Signed.{minus-fits, minus-back}
 use Rattle.visible_rows.proofs.rows.negated.Statement.{statement}
 use Rattle.visible_rows.proofs.rows.negated.Tie as tie

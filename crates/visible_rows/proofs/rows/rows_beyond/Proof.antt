@@ -1,4 +1,3 @@
--- `visible_rows::rows::rows_beyond` meets its contract. Assumes nothing.
 use borrow.Author.Needs.{needs}
 use Rattle.visible_rows.proofs.rows.rows_beyond.Statement.{statement}
 use Rattle.visible_rows.proofs.rows.rows_beyond.Tie as tie

@@ -1,24 +1,21 @@
 -- `visible_rows::rows::rows_on` meets its contract. The invariant of its loop: the n rounds from the first row are the `left` rounds from r.
 -- The measure is `left`. Assumes nothing.
-use Prim.Native.Nat.{_<_}
-use mathlib.Core.Path.{_≡_, refl, sym, ap, _∙_}
-use native.Mathlib.Omega.{arith}
-use borrow.Author.Needs.{needs}
+use Rattle.lists.proofs.Kit.{refl, sym, ap, _∙_, arith, needs}
 use Rattle.lists.specs.Rounds.{rounds}
 use Rattle.visible_rows.specs.Visible.{stepRow, toward}
 use Rattle.lists.proofs.Rounds.{rounds-none}
-use Rattle.visible_rows.proofs.Visible.{toward-within, shift-within, shift-small, free-rounds, free-hop, free-edge}
+use Rattle.visible_rows.proofs.Visible.{Owes, toward-within, shift-within, shift-small, free-rounds, free-hop, free-edge}
 use Rattle.visible_rows.proofs.rows.rows_on.Statement.{statement}
 use Rattle.visible_rows.proofs.rows.rows_on.Tie as tie
 
 abbrev Inv-loop : tie.InvT-loop
-Inv-loop folds rows down row n r₀ left₀ r left = (rounds (stepRow folds rows down) n row ≡ rounds (stepRow folds rows down) left r) × (r < rows)
+Inv-loop folds rows down row n r₀ left₀ r left = Owes folds rows down (rounds (stepRow folds rows down) n row) r left
 
 abbrev μ-loop : tie.MeasureT-loop
 μ-loop folds rows down row n r₀ left₀ r left = left
 
 loop-holds : tie.Need-loop-holds Inv-loop μ-loop
-loop-holds c = (refl, c .before .pre .1)
+loop-holds c = record { same = refl; inside = c .before .pre .1 }
 
 -- the rows that no fold hides are the text's
 shifted-requires : tie.Need-shifted-requires Inv-loop μ-loop
@@ -28,7 +25,7 @@ shifted-requires c κs =
     let at-start = at-loop .before .before in
     omega (
       arith,
-      shift-small (at-start .args .down) (at-start .args .rows) (at-loop .loop .r) (at-free-rows .free-rows .result) (at-loop .loop .inv .1)
+      shift-small (at-start .args .down) (at-start .args .rows) (at-loop .loop .r) (at-free-rows .free-rows .result) (at-loop .loop .inv .inside)
           (at-free-rows .free-rows .ensures .within),
       c .if1 .taken,
       at-start .pre .2,
@@ -38,11 +35,13 @@ returns : tie.Need-returns Inv-loop μ-loop
 returns c =
     let at-free-rows = c .before .before in
     let at-loop = at-free-rows .before .before in
-    let at-start = at-loop .before .before in (
-      c .shifted .ensures ∙ sym (at-loop .loop .inv .0 ∙ free-rounds (at-free-rows .free-rows .ensures) (at-loop .loop .left) (c .before .if1 .taken)),
-      rw (c .shifted .ensures) (shift-within (at-start .args .down) (at-start .args .rows) (at-loop .loop .r) (at-loop .loop .left) (at-loop .loop .inv .1)
-          (omega (arith, c .before .if1 .taken, at-free-rows .free-rows .ensures .within))),
-    )
+    let at-start = at-loop .before .before in
+    record {
+      row = c .shifted .ensures ∙ sym (at-loop .loop .inv .same ∙ free-rounds (at-free-rows .free-rows .ensures) (at-loop .loop .left) (c .before .if1 .taken));
+      inside = rw (c .shifted .ensures)
+          (shift-within (at-start .args .down) (at-start .args .rows) (at-loop .loop .r) (at-loop .loop .left) (at-loop .loop .inv .inside)
+          (omega (arith, c .before .if1 .taken, at-free-rows .free-rows .ensures .within)));
+    }
 
 shifted-requires-2 : tie.Need-shifted-requires-2 Inv-loop μ-loop
 shifted-requires-2 c κs =
@@ -51,7 +50,7 @@ shifted-requires-2 c κs =
     let at-start = at-loop .before .before in
     omega (
       arith,
-      shift-small (at-start .args .down) (at-start .args .rows) (at-loop .loop .r) (at-free-rows .free-rows .result) (at-loop .loop .inv .1)
+      shift-small (at-start .args .down) (at-start .args .rows) (at-loop .loop .r) (at-free-rows .free-rows .result) (at-loop .loop .inv .inside)
           (at-free-rows .free-rows .ensures .within),
       at-start .pre .2,
     )
@@ -63,7 +62,7 @@ visible-row-requires c κs =
     let at-start = at-loop .before .before in (
       at-start .pre .0,
       rw (c .shifted2 .ensures)
-          (shift-within (at-start .args .down) (at-start .args .rows) (at-loop .loop .r) (at-free-rows .free-rows .result) (at-loop .loop .inv .1)
+          (shift-within (at-start .args .down) (at-start .args .rows) (at-loop .loop .r) (at-free-rows .free-rows .result) (at-loop .loop .inv .inside)
           (at-free-rows .free-rows .ensures .within)),
     )
 
@@ -77,13 +76,14 @@ loop-again c =
     let given = at-start .args in
     let found = ap (toward (given .folds .now) (given .rows) (given .down)) (sym (at-visible-row .before .shifted2 .ensures))
     ∙ sym (at-visible-row .visible-row .ensures) ∙
-    c .before .x .given .1 in (
-      at-loop .loop .inv .0
-          ∙ free-hop (at-free-rows .free-rows .ensures) (at-loop .loop .left) (omega (arith, at-visible-row .before .before .if1 .left)) _ found,
-      toward-within (given .folds .now) (given .rows) (given .down) _ _
-          (shift-within (given .down) (given .rows) (at-loop .loop .r) (at-free-rows .free-rows .result) (at-loop .loop .inv .1)
-          (at-free-rows .free-rows .ensures .within)) found,
-    )
+    c .before .x .given .1 in
+    record {
+      same = at-loop .loop .inv .same
+          ∙ free-hop (at-free-rows .free-rows .ensures) (at-loop .loop .left) (omega (arith, at-visible-row .before .before .if1 .left)) _ found;
+      inside = toward-within (given .folds .now) (given .rows) (given .down) _ _
+          (shift-within (given .down) (given .rows) (at-loop .loop .r) (at-free-rows .free-rows .result) (at-loop .loop .inv .inside)
+          (at-free-rows .free-rows .ensures .within)) found;
+    }
 
 -- none does
 returns-2 : tie.Need-returns-2 Inv-loop μ-loop
@@ -95,21 +95,20 @@ returns-2 c =
     let given = at-start .args in
     let none = ap (toward (given .folds .now) (given .rows) (given .down)) (sym (at-visible-row .before .shifted2 .ensures))
     ∙ sym (at-visible-row .visible-row .ensures) ∙
-    c .enum-told .given .1 in (
-      at-visible-row .before .shifted2 .ensures ∙ sym (at-loop .loop .inv .0 ∙ free-edge (at-free-rows .free-rows .ensures) (at-loop .loop .left)
-          (omega (arith, at-visible-row .before .before .if1 .left)) none),
-      rw (at-visible-row .before .shifted2 .ensures)
-          (shift-within (given .down) (given .rows) (at-loop .loop .r) (at-free-rows .free-rows .result) (at-loop .loop .inv .1)
-          (at-free-rows .free-rows .ensures .within)),
-    )
+    c .enum-told .given .1 in
+    record {
+      row = at-visible-row .before .shifted2 .ensures ∙ sym (at-loop .loop .inv .same ∙ free-edge (at-free-rows .free-rows .ensures) (at-loop .loop .left)
+          (omega (arith, at-visible-row .before .before .if1 .left)) none);
+      inside = rw (at-visible-row .before .shifted2 .ensures)
+          (shift-within (given .down) (given .rows) (at-loop .loop .r) (at-free-rows .free-rows .result) (at-loop .loop .inv .inside)
+          (at-free-rows .free-rows .ensures .within));
+    }
 
 returns-3 : tie.Need-returns-3 Inv-loop μ-loop
 returns-3 c =
     let at-loop = c .before .loop in
-    (sym (at-loop .inv .0 ∙ rounds-none _ (at-loop .left) (at-loop .r) (omega (arith, c .loop-test .left))), at-loop .inv .1)
+    record { row = sym (at-loop .inv .same ∙ rounds-none _ (at-loop .left) (at-loop .r) (omega (arith, c .loop-test .left))); inside = at-loop .inv .inside }
 
 pub rows-on-spec : {M : Type 1} → statement M
-rows-on-spec =
-    tie.close
-    (tie.spec Inv-loop μ-loop loop-holds (λ c κs. search needs) shifted-requires returns shifted-requires-2 visible-row-requires
+rows-on-spec = tie.close (tie.spec Inv-loop μ-loop loop-holds (λ c κs. search needs) shifted-requires returns shifted-requires-2 visible-row-requires
     (λ c. search needs) (λ c. search needs) (λ c. search needs) (λ c. search needs) loop-again (λ c. search needs) returns-2 returns-3)

@@ -1,4 +1,3 @@
--- `visible_rows::rows::shifted` meets its contract. Assumes nothing.
 use borrow.Author.Needs.{needs}
 use Rattle.visible_rows.proofs.rows.shifted.Statement.{statement}
 use Rattle.visible_rows.proofs.rows.shifted.Tie as tie

@@ -1,6 +1,4 @@
--- `visible_rows::rows::signed` meets its contract. Assumes nothing.
-use native.Mathlib.Omega.{arith}
-use borrow.Author.Needs.{needs}
+use Rattle.lists.proofs.Kit.{arith, needs}
 use mir.Syntax.{w64}
 use mir.Facts.{toZ-pos}
 use Rattle.visible_rows.proofs.rows.signed.Statement.{statement}

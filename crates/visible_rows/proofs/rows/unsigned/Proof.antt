@@ -1,4 +1,3 @@
--- `visible_rows::rows::unsigned` meets its contract. Assumes nothing.
 use borrow.Author.Needs.{needs}
 use Rattle.visible_rows.proofs.Signed.{unsigned-fits}
 use Rattle.visible_rows.proofs.rows.unsigned.Statement.{statement}

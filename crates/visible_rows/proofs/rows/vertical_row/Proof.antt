@@ -1,7 +1,5 @@
 -- `visible_rows::rows::vertical_row` meets its contract: a step below 0 goes up from the row that shows, any other down. Assumes nothing.
-use mathlib.Core.Path.{ap, _∙_}
-use mathlib.Core.Bool.{false}
-use borrow.Author.Needs.{needs}
+use Rattle.lists.proofs.Kit.{ap, _∙_, false, needs}
 use Rattle.lists.specs.Rounds.{rounds}
 use Rattle.visible_rows.specs.Visible.{stepRow}
 use Rattle.visible_rows.proofs.Signed.{goes-down, counts-up, goes-up}
@@ -22,27 +20,26 @@ returns c =
     let at-negated = at-unsigned .before in
     let at-if1 = at-negated .before .before in
     let at-start = at-if1 .before .before in
-    let given = at-start .args in (
-      c .rows-on .ensures .0 ∙
-          ap (rounds (stepRow (given .folds .now) (given .rows) false) (at-unsigned .unsigned .result)) (at-negated .before .shown-row .ensures .0) ∙
+    let given = at-start .args in
+    record {
+      row = c .rows-on .ensures .row ∙
+          ap (rounds (stepRow (given .folds .now) (given .rows) false) (at-unsigned .unsigned .result)) (at-negated .before .shown-row .ensures .row) ∙
           goes-up (given .folds .now) (given .rows) (given .row) (given .delta) (at-start .fits .delta) (at-start .pre .3) (at-if1 .if1 .taken) _
-          (at-negated .negated .ensures) _ (at-unsigned .unsigned .ensures),
-      c .rows-on .ensures .1,
-    )
+          (at-negated .negated .ensures) _ (at-unsigned .unsigned .ensures);
+      inside = c .rows-on .ensures .inside;
+    }
 
 returns-2 : tie.Need-returns-2
 returns-2 c =
     let at-if1 = c .before .before in
     let at-start = at-if1 .before .before in
-    let given = at-start .args in (
-      c .rows-on2 .ensures .0
-          ∙ goes-down (given .folds .now) (given .rows) (given .row) (given .delta) (at-start .fits .delta) (at-if1 .if1 .left) _
-          (c .before .unsigned2 .ensures),
-      c .rows-on2 .ensures .1,
-    )
+    let given = at-start .args in
+    record {
+      row = c .rows-on2 .ensures .row ∙ goes-down (given .folds .now) (given .rows) (given .row) (given .delta) (at-start .fits .delta) (at-if1 .if1 .left) _
+          (c .before .unsigned2 .ensures);
+      inside = c .rows-on2 .ensures .inside;
+    }
 
 pub vertical-row-spec : {M : Type 1} → statement M
-vertical-row-spec =
-    tie.close
-    (tie.spec (λ c κs. search needs) (λ c κs. search needs) unsigned-requires (λ c κs. search needs) returns (λ c κs. search needs)
+vertical-row-spec = tie.close (tie.spec (λ c κs. search needs) (λ c κs. search needs) unsigned-requires (λ c κs. search needs) returns (λ c κs. search needs)
     (λ c κs. search needs) returns-2)

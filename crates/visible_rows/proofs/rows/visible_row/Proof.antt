@@ -1,4 +1,3 @@
--- `visible_rows::rows::visible_row` meets its contract. Assumes nothing.
 use borrow.Author.Needs.{needs}
 use Rattle.visible_rows.proofs.rows.visible_row.Statement.{statement}
 use Rattle.visible_rows.proofs.rows.visible_row.Tie as tie

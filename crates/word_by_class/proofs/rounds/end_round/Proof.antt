@@ -1,8 +1,5 @@
 -- `word_by_class::rounds::end_round` meets its contract, held or not. Assumes nothing.
-use mathlib.Core.Path.{ap, sym, _∙_}
-use Rattle.word_places.specs.declared.Reach.{Reach}
-use Rattle.word_by_class.specs.Rounds.{turn}
-use borrow.Author.Needs.{needs}
+use Rattle.lists.proofs.Kit.{sym, _∙_, needs}
 use Rattle.word_by_class.proofs.rounds.end_round.Statement.{statement}
 use Rattle.word_by_class.proofs.rounds.end_round.Tie as tie
 
@@ -18,7 +15,5 @@ returns-3 : tie.Need-returns-3
 returns-3 c = rw (c .before .before .if1 .left, ← c .before .next-end2 .ensures) (c .turned2 .ensures)
 
 pub end-round-spec : {M : Type 1} → statement M
-end-round-spec =
-    tie.close
-    (tie.spec (λ c κs. search needs) returns (λ c κs. search needs) (λ c κs. search needs) returns-2 (λ c κs. search needs) (λ c κs. search needs)
-    returns-3)
+end-round-spec = tie.close
+    (tie.spec (λ c κs. search needs) returns (λ c κs. search needs) (λ c κs. search needs) returns-2 (λ c κs. search needs) (λ c κs. search needs) returns-3)

@@ -1,6 +1,4 @@
 -- `word_by_class::rounds::round` meets its contract, motion by motion. Assumes nothing.
-use mathlib.Core.Path.{sym, _∙_}
-use native.Mathlib.Omega.{arith}
 use Rattle.word_by_class.specs.Rounds.{roundOf}
 use Rattle.word_by_class.proofs.Fits.{fwd-in, back-in}
 use borrow.Author.Needs.{needs}
@@ -9,13 +7,13 @@ use Rattle.word_by_class.proofs.rounds.round.Tie as tie
 
 prev-start-requires : tie.Need-prev-start-requires
 prev-start-requires c κs =
-    let start = c .before .before .before .before .before in
-    rw (c .jump-back .ensures) (back-in (start .pre .classes) (start .args .folds .now) (start .args .p .at) (start .pre .inside))
+    let at-start = c .before .before .before .before .before in
+    rw (c .jump-back .ensures) (back-in (at-start .pre .classes) (at-start .args .folds .now) (at-start .args .p .at) (at-start .pre .inside))
 
 end-round-requires : tie.Need-end-round-requires
 end-round-requires c κs =
-    let start = c .before .before .before .before .before in
-    rw (c .jump-fwd2 .ensures) (fwd-in (start .pre .classes) (start .args .folds .now) (start .args .p .at) (start .pre .inside))
+    let at-start = c .before .before .before .before .before in
+    rw (c .jump-fwd2 .ensures) (fwd-in (at-start .pre .classes) (at-start .args .folds .now) (at-start .args .p .at) (at-start .pre .inside))
 
 returns : tie.Need-returns
 unfolding roundOf
@@ -40,8 +38,7 @@ unfolding roundOf
 returns-4 c = rw (c .before .before .enum-told4 .given .1, ← c .before .prev-end .ensures) (c .turned3 .ensures)
 
 pub round-spec : {M : Type 1} → statement M
-round-spec =
-    tie.close
+round-spec = tie.close
     (tie.spec (λ c. search needs) (λ c κs. search needs) (λ c κs. search needs) (λ c κs. search needs) (λ c. search needs) (λ c κs. search needs)
     prev-start-requires (λ c κs. search needs) (λ c. search needs) (λ c κs. search needs) end-round-requires (λ c. search needs)
     (λ c κs. search needs) (λ c κs. search needs) returns returns-2 returns-3 returns-4)

@@ -1,21 +1,19 @@
 -- `word_by_class::rounds::round_near` meets its contract: in the stretch a round without folds is the same. Assumes nothing.
-use mathlib.Core.Path.{_∙_}
-use mathlib.Core.Bool.{false}
+use Rattle.lists.proofs.Kit.{_∙_, false, needs}
 use Rattle.word_by_class.proofs.Bare.{round-bare, ready-bare}
-use borrow.Author.Needs.{needs}
 use Rattle.word_by_class.proofs.rounds.round_near.Statement.{statement}
 use Rattle.word_by_class.proofs.rounds.round_near.Tie as tie
 
 round-requires : tie.Need-round-requires
-round-requires c κs = let start = c .before .before .before .before .before .before .before .before in ready-bare (start .pre .0)
+round-requires c κs = let at-start = c .before .before .before .before .before .before .before .before in ready-bare (at-start .pre .0)
 
 returns : tie.Need-returns
 returns c =
     let at-if = c .before .before in
-    let start = at-if .before .before .before .before .before .before .before in
-    let given = start .args in
+    let at-start = at-if .before .before .before .before .before .before .before in
+    let given = at-start .args in
     c .round .ensures ∙
-    round-bare (given .c .now) (given .folds .now) (start .pre .1) (given .p .at) (given .p .row) (start .pre .0 .stands .row-is) (at-if .if1 .taken)
+    round-bare (given .c .now) (given .folds .now) (at-start .pre .1) (given .p .at) (given .p .row) (at-start .pre .0 .stands .row-is) (at-if .if1 .taken)
     (given .big) (given .m) false
 
 pub round-near-spec : {M : Type 1} → statement M

@@ -1,10 +1,6 @@
 -- `word_by_class::rounds::start_of` meets its contract: behind the end of the row before. Assumes nothing.
-use mathlib.Core.Path.{_≡_, refl, ap, sym, _∙_}
-use Prim.Native.Nat.{ℕ, _+_, _-_}
-use native.Mathlib.Omega.{arith}
-use Rattle.word_class_rows.specs.Rows.{rowOf, startOf}
+use Rattle.lists.proofs.Kit.{ap, sym, _∙_, ℕ, _+_, _-_, arith, needs}
 use Rattle.word_class_rows.proofs.Counting.{row-first, end-there, start-next}
-use borrow.Author.Needs.{needs}
 use Rattle.word_by_class.proofs.rounds.start_of.Statement.{statement}
 use Rattle.word_by_class.proofs.rounds.start_of.Tie as tie
 
@@ -13,20 +9,18 @@ returns c = rw (c .if1 .taken)
 
 row-end-requires : tie.Need-row-end-requires
 row-end-requires c κs =
-    let start = c .before .before in
-    (record { within = omega arith; row-is = sym (row-first (start .args .c .now)) }, omega arith, omega (arith, start .pre))
+    let at-start = c .before .before in
+    (record { within = omega arith; row-is = sym (row-first (at-start .args .c .now)) }, omega arith, omega (arith, at-start .pre))
 
 add-result : tie.Need-add-result
 add-result c =
-    let start = c .before .before .before in
-    omega (arith, c .row-end .ensures, end-there (start .args .c .now) (start .args .row - 1) (omega (arith, start .pre)) .0)
+    let at-start = c .before .before .before in
+    omega (arith, c .row-end .ensures, end-there (at-start .args .c .now) (at-start .args .row - 1) (omega (arith, at-start .pre)) .0)
 
 returns-2 : tie.Need-returns-2
 returns-2 c =
-    let start = c .before .before .before in
-    ap (λ (x : ℕ). x + 1) (c .row-end .ensures) ∙ start-next (start .args .c .now) (start .args .row) (omega (arith, c .before .if1 .left))
+    let at-start = c .before .before .before in
+    ap (λ (x : ℕ). x + 1) (c .row-end .ensures) ∙ start-next (at-start .args .c .now) (at-start .args .row) (omega (arith, c .before .if1 .left))
 
 pub start-of-spec : {M : Type 1} → statement M
-start-of-spec =
-    tie.close
-    (tie.spec returns (λ c. search needs) row-end-requires add-result returns-2)
+start-of-spec = tie.close (tie.spec returns (λ c. search needs) row-end-requires add-result returns-2)

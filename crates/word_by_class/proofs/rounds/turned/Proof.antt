@@ -1,6 +1,3 @@
--- `word_by_class::rounds::turned` meets its contract. Assumes nothing.
-use mathlib.Core.Path.{ap, sym}
-use Rattle.word_by_class.specs.Rounds.{turn}
 use borrow.Author.Needs.{needs}
 use Rattle.word_by_class.proofs.rounds.turned.Statement.{statement}
 use Rattle.word_by_class.proofs.rounds.turned.Tie as tie
@@ -12,6 +9,4 @@ returns-2 : tie.Need-returns-2
 returns-2 c = rw (c .enum-told .given .1)
 
 pub turned-spec : {M : Type 1} → statement M
-turned-spec =
-    tie.close
-    (tie.spec (λ c. search needs) (λ c. search needs) returns returns-2)
+turned-spec = tie.close (tie.spec (λ c. search needs) (λ c. search needs) returns returns-2)

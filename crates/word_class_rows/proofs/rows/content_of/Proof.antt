@@ -1,7 +1,4 @@
--- `word_class_rows::rows::content_of` meets its contract. Assumes nothing.
-use Prim.Native.Nat.{ℕ, _-_}
-use mathlib.Core.Path.{ap, sym, _∙_}
-use borrow.Author.Needs.{needs}
+use Rattle.lists.proofs.Kit.{ap, sym, _∙_, ℕ, _-_, needs}
 use Rattle.word_class_rows.proofs.rows.content_of.Statement.{statement}
 use Rattle.word_class_rows.proofs.rows.content_of.Tie as tie
 

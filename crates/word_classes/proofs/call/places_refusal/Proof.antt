@@ -1,4 +1,3 @@
--- `word_classes::call::places_refusal` meets its contract. Assumes nothing.
 use borrow.Author.Tests.{lt-ltb, le-ltb}
 use Rattle.word_classes.specs.Call.{placesRefusal}
 use Rattle.word_classes.proofs.call.places_refusal.Statement.{statement}

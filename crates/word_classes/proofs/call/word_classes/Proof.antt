@@ -1,8 +1,5 @@
 -- `word_classes::call::word_classes` meets its contract: each refusal in its turn, and else the classes are written. Assumes nothing.
-use mathlib.Core.Path.{_≡_, ap, sym, _∙_}
-use mathlib.Core.List.{List}
-use native.Mathlib.Omega.{arith}
-use borrow.Author.Needs.{needs}
+use Rattle.lists.proofs.Kit.{ap, sym, _∙_, List, needs}
 use Rattle.list_tokens.specs.declared.Token.{Token}
 use Rattle.list_tokens.specs.Tokens.{anyToken}
 use Rattle.keywords.specs.declared.Parsed.{Parsed}
@@ -82,17 +79,6 @@ returns-4 c =
     )
 
 pub word-classes-spec : {M : Type 1} → statement M
-word-classes-spec =
-    tie.close
-    (tie.spec
-    (λ c κs. search needs)
-    returns
-    (λ c κs. search needs)
-    returns-2
-    (λ c κs. search needs)
-    (λ c. search needs)
-    returns-3
-    write-classes-requires
-    (λ c. search needs)
-    (λ c. search needs)
+word-classes-spec = tie.close (tie.spec (λ c κs. search needs) returns (λ c κs. search needs) returns-2 (λ c κs. search needs) (λ c. search needs) returns-3
+    write-classes-requires (λ c. search needs) (λ c. search needs)
     returns-4)

@@ -1,7 +1,6 @@
 -- `word_classes::classes::char_class` meets its contract: the tests stand in the definition's order. Assumes nothing.
-use mathlib.Core.Path.{sym, _∙_}
+use Rattle.lists.proofs.Kit.{sym, _∙_, needs}
 use Rattle.word_classes.specs.Classes.{charClass}
-use borrow.Author.Needs.{needs}
 use Rattle.word_classes.proofs.classes.char_class.Statement.{statement}
 use Rattle.word_classes.proofs.classes.char_class.Tie as tie
 

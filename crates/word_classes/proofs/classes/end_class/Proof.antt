@@ -1,4 +1,3 @@
--- `word_classes::classes::end_class` meets its contract. Assumes nothing.
 use Rattle.word_classes.specs.Classes.{endClass}
 use Rattle.word_classes.proofs.classes.end_class.Statement.{statement}
 use Rattle.word_classes.proofs.classes.end_class.Tie as tie

@@ -1,10 +1,5 @@
 -- `word_classes::classes::is_word` meets its contract: a scalar value and a table of at most 128 tokens are not refused. Assumes nothing.
-use mathlib.Core.Path.{_≡_, sym, _∙_}
-use mathlib.Core.Bool.{Bool, true}
-use Prim.Native.Nat.{ℕ, _≤_}
-use native.Mathlib.Omega.{arith}
-use borrow.Author.Needs.{needs}
-use borrow.Author.Tests.{le-leb}
+use Rattle.lists.proofs.Kit.{_≡_, sym, _∙_, true, ℕ, _≤_, arith, needs, le-leb}
 use Rattle.chars.specs.Scalar.{isScalar}
 use Rattle.list_tokens.specs.Tokens.{anyToken}
 use Rattle.keywords.specs.declared.KeywordSpec.{KeywordSpec}
@@ -19,15 +14,15 @@ answered spec x s h = rw (s, le-leb (spec .len) 128 h)
 returns : tie.Need-returns
 returns c =
     let at-call = c .before .before .before in
-    let start = at-call .before in
-    cc (sym (c .before .held .given .1) ∙ at-call .matches .ensures ∙ answered (start .args .spec) (start .args .x) (start .pre .0) (start .pre .1))
+    let at-start = at-call .before in
+    cc (sym (c .before .held .given .1) ∙ at-call .matches .ensures ∙ answered (at-start .args .spec) (at-start .args .x) (at-start .pre .0) (at-start .pre .1))
 
 returns-2 : tie.Need-returns-2
 returns-2 c =
     let at-call = c .before .before .before in
-    let start = at-call .before in
+    let at-start = at-call .before in
     let never : _≡_ {A = ℕ} 0 1 =
-    cc (sym (c .before .f .given .1) ∙ at-call .matches .ensures ∙ answered (start .args .spec) (start .args .x) (start .pre .0) (start .pre .1)) in
+    cc (sym (c .before .f .given .1) ∙ at-call .matches .ensures ∙ answered (at-start .args .spec) (at-start .args .x) (at-start .pre .0) (at-start .pre .1)) in
     absurd (omega arith)
 
 pub is-word-spec : {M : Type 1} → statement M

@@ -1,9 +1,6 @@
 -- `word_classes::classes::write_classes` meets its contract. The invariant of its loop: the places before i are written. The measure is the text's
 -- length less i. Assumes nothing.
-use Prim.Native.Nat.{_-_}
-use native.Mathlib.Omega.{arith}
-use borrow.Author.Needs.{needs}
-use lib.ListN.{length}
+use Rattle.lists.proofs.Kit.{_-_, arith, length, needs}
 use Rattle.list_tokens.specs.Tokens.{anyToken}
 use Rattle.keywords.specs.Table.{kept}
 use Rattle.word_classes.proofs.Writing.{Writing, writing-start, writing-end, writing-char, written, scalar-there}
@@ -29,8 +26,8 @@ loop-again c =
 char-class-requires : tie.Need-char-class-requires Inv-loop μ-loop
 char-class-requires c κs =
     let in-loop = c .before .before in
-    let start = in-loop .before .before .before .before in
-    (scalar-there (start .args .t .now) _ (start .pre .0) (omega (arith, in-loop .loop-test .taken)), start .pre .1)
+    let at-start = in-loop .before .before .before .before in
+    (scalar-there (at-start .args .t .now) _ (at-start .pre .0) (omega (arith, in-loop .loop-test .taken)), at-start .pre .1)
 
 -- a character
 loop-again-2 : tie.Need-loop-again-2 Inv-loop μ-loop
@@ -43,29 +40,13 @@ loop-again-2 c =
 returns : tie.Need-returns Inv-loop μ-loop
 returns c =
     let at-loop = c .before .before in
-    let start = at-loop .before .before .before in
-    written (at-loop .loop .inv) (c .before .loop-test .left) (start .pre .2) (c .end-class2 .ensures)
+    let at-start = at-loop .before .before .before in
+    written (at-loop .loop .inv) (c .before .loop-test .left) (at-start .pre .2) (c .end-class2 .ensures)
 
 pub write-classes-spec : {M : Type 1} → statement M
-write-classes-spec =
-    tie.close
-    (tie.spec
-    Inv-loop
-    μ-loop
-    loop-holds
-    (λ c. omega arith)
-    (λ c. search needs)
-    (λ c κs. search needs)
-    (λ c. omega (arith, c .before .before .before .before .loop .inv .long))
-    (λ c. search needs)
-    (λ c. search needs)
+write-classes-spec = tie.close (tie.spec Inv-loop μ-loop loop-holds (λ c. omega arith) (λ c. search needs) (λ c κs. search needs)
+    (λ c. omega (arith, c .before .before .before .before .loop .inv .long)) (λ c. search needs) (λ c. search needs)
     loop-again
-    char-class-requires
-    (λ c. omega (arith, c .before .before .before .before .loop .inv .long))
-    (λ c. search needs)
-    (λ c. search needs)
-    loop-again-2
-    (λ c κs. search needs)
-    (λ c. omega (arith, c .before .before .loop .inv .long))
-    (λ c. search needs)
+    char-class-requires (λ c. omega (arith, c .before .before .before .before .loop .inv .long)) (λ c. search needs) (λ c. search needs)
+    loop-again-2 (λ c κs. search needs) (λ c. omega (arith, c .before .before .loop .inv .long)) (λ c. search needs)
     returns)

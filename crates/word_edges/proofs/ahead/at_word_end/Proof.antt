@@ -1,9 +1,7 @@
 -- `word_edges::ahead::at_word_end` meets its contract: a place with a class is on a character, so that the next place is in its row. Assumes nothing.
-use mathlib.Core.Path.{_∙_}
-use borrow.Author.Tests.{eq-eqb, ne-eqb}
+use Rattle.lists.proofs.Kit.{_∙_, needs, eq-eqb, ne-eqb}
 use Rattle.word_edges.specs.Words.{atWordEnd}
 use Rattle.word_kinds.proofs.Ahead.{class-there, char-spot, char-col}
-use borrow.Author.Needs.{needs}
 use Rattle.word_edges.proofs.ahead.at_word_end.Statement.{statement}
 use Rattle.word_edges.proofs.ahead.at_word_end.Tie as tie
 
@@ -35,6 +33,4 @@ returns-2 c =
     )
 
 pub at-word-end-spec : {M : Type 1} → statement M
-at-word-end-spec =
-    tie.close
-    (tie.spec (λ c κs. search needs) returns (λ c. search needs) cls-requires-2 returns-2)
+at-word-end-spec = tie.close (tie.spec (λ c κs. search needs) returns (λ c. search needs) cls-requires-2 returns-2)

@@ -1,5 +1,4 @@
--- `word_edges::behind::end_from` meets its contract. Assumes nothing.
-use Rattle.word_loops.proofs.Walking.{halt-done, halt-stood, done-in, stood-in}
+use Rattle.word_kinds.proofs.Telling.{tells-as, tells-too}
 use Rattle.word_edges.proofs.Starts.{ready-at}
 use borrow.Author.Needs.{needs}
 use Rattle.word_edges.proofs.behind.end_from.Statement.{statement}
@@ -9,26 +8,17 @@ back-over-space-requires : tie.Need-back-over-space-requires
 back-over-space-requires c κs =
     let at-back = c .before .before .before in
     let at-start = at-back .before .before .before .before in
-    let found = c .before .q .given in
-    ready-at at-start.pre _ (done-in at-start.args.t.now (found .0 .0) (found .1) (at-back .back .ensures .1))
+    ready-at at-start.pre _ (tells-as (at-back .back .ensures) (c .before .q .given .1) .inside)
 
 returns : tie.Need-returns
 returns c =
-    let at-back = c .before .before .before .before in
-    let at-start = at-back .before .before .before .before in
-    let found = c .before .before .q .given in
-    (rw (halt-done at-start.args.t.now (found .0 .0) (found .1) (at-back .back .ensures .0)) (c .back-over-space .ensures .0), c .back-over-space .ensures .1)
+    let found = tells-as (c .before .before .before .before .back .ensures) (c .before .before .q .given .1) in
+    tells-too (c .back-over-space .ensures) (rw (← found .place))
 
 returns-2 : tie.Need-returns-2
 returns-2 c =
-    let at-back = c .before .before .before in
-    let at-start = at-back .before .before .before .before in
-    let q2-given = c .before .q2 .given in (
-      rw (halt-stood at-start.args.t.now (q2-given .0 .0) (q2-given .1) (at-back .back .ensures .0)),
-      stood-in at-start.args.t.now (q2-given .0 .0) (q2-given .1) (at-back .back .ensures .1),
-    )
+    let found = tells-as (c .before .before .before .back .ensures) (c .before .q2 .given .1) in
+    record { place = rw (← found .place); inside = found .inside }
 
 pub end-from-spec : {M : Type 1} → statement M
-end-from-spec =
-    tie.close
-    (tie.spec (λ c κs. search needs) (λ c. search needs) back-over-space-requires (λ c. search needs) returns returns-2)
+end-from-spec = tie.close (tie.spec (λ c κs. search needs) (λ c. search needs) back-over-space-requires (λ c. search needs) returns returns-2)

@@ -1,7 +1,6 @@
 -- `word_hops::back::back_from` meets its contract, by where the walk ended. Assumes nothing.
-use mathlib.Core.Path.{ap, sym, _∙_}
+use Rattle.lists.proofs.Kit.{ap, sym, _∙_, needs}
 use Rattle.word_hops.specs.Hops.{backFrom}
-use borrow.Author.Needs.{needs}
 use Rattle.word_hops.proofs.back.back_from.Statement.{statement}
 use Rattle.word_hops.proofs.back.back_from.Tie as tie
 
@@ -18,6 +17,4 @@ returns-2 c =
     ap (backFrom (given .c .now) (given .big)) (sym (c .before .j2 .given .1) ∙ at-walk .back .ensures)
 
 pub back-from-spec : {M : Type 1} → statement M
-back-from-spec =
-    tie.close
-    (tie.spec (λ c κs. search needs) (λ c. search needs) (λ c κs. search needs) (λ c. search needs) returns returns-2)
+back-from-spec = tie.close (tie.spec (λ c κs. search needs) (λ c. search needs) (λ c κs. search needs) (λ c. search needs) returns returns-2)

@@ -1,7 +1,6 @@
 -- `word_hops::back::back_over_space` meets its contract, by where the walk ended. Assumes nothing.
-use mathlib.Core.Path.{ap, sym, _∙_}
+use Rattle.lists.proofs.Kit.{ap, sym, _∙_, needs}
 use Rattle.word_hops.specs.Hops.{landed}
-use borrow.Author.Needs.{needs}
 use Rattle.word_hops.proofs.back.back_over_space.Statement.{statement}
 use Rattle.word_hops.proofs.back.back_over_space.Tie as tie
 
@@ -12,6 +11,4 @@ returns-2 : tie.Need-returns-2
 returns-2 c = ap landed (sym (c .before .j2 .given .1) ∙ c .before .before .before .back .ensures)
 
 pub back-over-space-spec : {M : Type 1} → statement M
-back-over-space-spec =
-    tie.close
-    (tie.spec (λ c κs. search needs) (λ c. search needs) (λ c. search needs) returns returns-2)
+back-over-space-spec = tie.close (tie.spec (λ c κs. search needs) (λ c. search needs) (λ c. search needs) returns returns-2)

@@ -1,8 +1,7 @@
 -- `word_hops::back::prev_end` meets its contract, in the order of its tests. Assumes nothing.
-use borrow.Author.Tests.{eq-eqb, ne-eqb}
+use Rattle.lists.proofs.Kit.{needs, eq-eqb, ne-eqb}
 use Rattle.word_places.proofs.Walking.{backward-none, backward-on}
 use Rattle.word_hops.specs.Hops.{prevEnd}
-use borrow.Author.Needs.{needs}
 use Rattle.word_hops.proofs.back.prev_end.Statement.{statement}
 use Rattle.word_hops.proofs.back.prev_end.Tie as tie
 
@@ -23,6 +22,5 @@ returns-3 c =
     rw (backward-on _ (at-kind .before .if1 .left), ← at-kind .soft .ensures, ne-eqb _ _ (c .before .if2 .left)) (c .back-from .ensures)
 
 pub prev-end-spec : {M : Type 1} → statement M
-prev-end-spec =
-    tie.close
+prev-end-spec = tie.close
     (tie.spec returns (λ c κs. search needs) (λ c. search needs) (λ c κs. search needs) returns-2 (λ c. search needs) (λ c κs. search needs) returns-3)

@@ -1,4 +1,3 @@
--- `word_hops::back::prev_start` meets its contract. Assumes nothing.
 use Rattle.word_places.proofs.Walking.{backward-none, backward-on}
 use Rattle.word_hops.specs.Hops.{prevStart}
 use borrow.Author.Needs.{needs}
@@ -14,6 +13,4 @@ unfolding prevStart
 returns-2 c = rw (backward-on _ (c .before .if1 .left)) (c .start-from .ensures)
 
 pub prev-start-spec : {M : Type 1} → statement M
-prev-start-spec =
-    tie.close
-    (tie.spec returns (λ c. search needs) (λ c κs. search needs) returns-2)
+prev-start-spec = tie.close (tie.spec returns (λ c. search needs) (λ c κs. search needs) returns-2)

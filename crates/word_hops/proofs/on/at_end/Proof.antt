@@ -1,8 +1,6 @@
 -- `word_hops::on::at_end` meets its contract, in the order of its tests. Assumes nothing.
-use native.Mathlib.Omega.{arith}
-use borrow.Author.Tests.{eq-eqb, ne-eqb}
+use Rattle.lists.proofs.Kit.{needs, eq-eqb, ne-eqb}
 use Rattle.word_hops.specs.Hops.{atEnd}
-use borrow.Author.Needs.{needs}
 use Rattle.word_hops.proofs.on.at_end.Statement.{statement}
 use Rattle.word_hops.proofs.on.at_end.Tie as tie
 
@@ -15,6 +13,4 @@ unfolding atEnd
 returns-2 c = rw (← c .soft2 .ensures, ← c .before .before .soft .ensures, ne-eqb _ _ (c .before .if1 .left))
 
 pub at-end-spec : {M : Type 1} → statement M
-at-end-spec =
-    tie.close
-    (tie.spec (λ c κs. search needs) returns (λ c. search needs) (λ c κs. search needs) returns-2)
+at-end-spec = tie.close (tie.spec (λ c κs. search needs) returns (λ c. search needs) (λ c κs. search needs) returns-2)

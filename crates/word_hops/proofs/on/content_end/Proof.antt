@@ -1,9 +1,7 @@
 -- `word_hops::on::content_end` meets its contract: the row before an empty last one ends one place before it. Assumes nothing.
-use mathlib.Core.Path.{sym, _∙_}
-use native.Mathlib.Omega.{arith}
+use Rattle.lists.proofs.Kit.{sym, _∙_, arith, needs}
 use Rattle.word_hops.specs.Hops.{contentEnd}
 use Rattle.word_hops.proofs.Hopping.{last-there}
-use borrow.Author.Needs.{needs}
 use Rattle.word_hops.proofs.on.content_end.Statement.{statement}
 use Rattle.word_hops.proofs.on.content_end.Tie as tie
 
@@ -21,6 +19,4 @@ unfolding contentEnd
 returns-2 c = rw (sym (c .before .last-empty .ensures) ∙ c .if1 .left) (c .before .before .text-end .ensures)
 
 pub content-end-spec : {M : Type 1} → statement M
-content-end-spec =
-    tie.close
-    (tie.spec (λ c κs. search needs) (λ c κs. search needs) sub-result returns returns-2)
+content-end-spec = tie.close (tie.spec (λ c κs. search needs) (λ c κs. search needs) sub-result returns returns-2)

@@ -1,8 +1,7 @@
 -- `word_hops::on::end_from` meets its contract, by where the walk ended. Assumes nothing.
-use mathlib.Core.Path.{ap, sym, _∙_}
-use Rattle.word_places.specs.declared.Reach.the-variants.{At}
+use Rattle.lists.proofs.Kit.{ap, sym, _∙_, needs}
+use Rattle.word_places.specs.declared.Step.the-variants.{To}
 use Rattle.word_hops.specs.Hops.{endFrom}
-use borrow.Author.Needs.{needs}
 use Rattle.word_hops.proofs.on.end_from.Statement.{statement}
 use Rattle.word_hops.proofs.on.end_from.Tie as tie
 
@@ -10,7 +9,7 @@ returns : tie.Need-returns
 returns c =
     let at-walk = c .before .before .before .before in
     let given = at-walk .before .before .args in
-    ap At (c .run-end .ensures) ∙ ap (endFrom (given .c .now) (given .big)) (sym (c .before .before .j .given .1) ∙ at-walk .over .ensures)
+    ap To (c .run-end .ensures) ∙ ap (endFrom (given .c .now) (given .big)) (sym (c .before .before .j .given .1) ∙ at-walk .over .ensures)
 
 returns-2 : tie.Need-returns-2
 returns-2 c =
@@ -19,6 +18,4 @@ returns-2 c =
     ap (endFrom (given .c .now) (given .big)) (sym (c .before .j2 .given .1) ∙ at-walk .over .ensures)
 
 pub end-from-spec : {M : Type 1} → statement M
-end-from-spec =
-    tie.close
-    (tie.spec (λ c κs. search needs) (λ c. search needs) (λ c κs. search needs) (λ c. search needs) returns returns-2)
+end-from-spec = tie.close (tie.spec (λ c κs. search needs) (λ c. search needs) (λ c κs. search needs) (λ c. search needs) returns returns-2)

@@ -1,9 +1,7 @@
 -- `word_hops::on::from_end` meets its contract: small words go on at once, big ones over the row ends first. Assumes nothing.
-use mathlib.Core.Path.{ap, sym, _∙_}
-use borrow.Author.Tests.{not-true, not-false}
+use Rattle.lists.proofs.Kit.{ap, sym, _∙_, needs, not-true, not-false}
 use Rattle.word_hops.specs.Hops.{thenSpace}
 use Rattle.word_hops.proofs.Hopping.{from-small, from-big}
-use borrow.Author.Needs.{needs}
 use Rattle.word_hops.proofs.on.from_end.Statement.{statement}
 use Rattle.word_hops.proofs.on.from_end.Tie as tie
 
@@ -16,8 +14,7 @@ returns-2 : tie.Need-returns-2
 returns-2 c =
     let at-walk = c .before .before .before .before in
     let given = at-walk .before .before .before .args in
-    c .over-space2 .ensures
-    ∙ ap (thenSpace (given .c .now) (given .big)) (sym (c .before .before .j .given .1) ∙ at-walk .over .ensures)
+    c .over-space2 .ensures ∙ ap (thenSpace (given .c .now) (given .big)) (sym (c .before .before .j .given .1) ∙ at-walk .over .ensures)
     ∙ from-big (given .c .now) (given .big) (given .i) (not-false _ (at-walk .before .if1 .left))
 
 returns-3 : tie.Need-returns-3
@@ -28,6 +25,5 @@ returns-3 c =
     ∙ from-big (given .c .now) (given .big) (given .i) (not-false _ (at-walk .before .if1 .left))
 
 pub from-end-spec : {M : Type 1} → statement M
-from-end-spec =
-    tie.close
+from-end-spec = tie.close
     (tie.spec (λ c κs. search needs) returns (λ c κs. search needs) (λ c. search needs) (λ c κs. search needs) (λ c. search needs) returns-2 returns-3)

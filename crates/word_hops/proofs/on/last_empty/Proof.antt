@@ -1,7 +1,4 @@
--- `word_hops::on::last_empty` meets its contract. Assumes nothing.
-use native.Mathlib.Omega.{arith}
-use borrow.Author.Tests.{lt-ltb, le-ltb}
-use borrow.Author.Needs.{needs}
+use Rattle.lists.proofs.Kit.{arith, needs, lt-ltb, le-ltb}
 use Rattle.word_hops.proofs.on.last_empty.Statement.{statement}
 use Rattle.word_hops.proofs.on.last_empty.Tie as tie
 
@@ -16,6 +13,4 @@ returns-2 c =
     rw (← at-end .text-end .ensures, lt-ltb 0 (at-end .text-end .result) (omega (arith, c .before .if1 .left)), ← c .class-at .ensures)
 
 pub last-empty-spec : {M : Type 1} → statement M
-last-empty-spec =
-    tie.close
-    (tie.spec (λ c κs. search needs) returns (λ c κs. search needs) returns-2)
+last-empty-spec = tie.close (tie.spec (λ c κs. search needs) returns (λ c κs. search needs) returns-2)

@@ -1,7 +1,5 @@
--- `word_hops::on::next_end` meets its contract. Assumes nothing.
-use mathlib.Core.Path.{sym, _∙_}
+use Rattle.lists.proofs.Kit.{sym, _∙_, needs}
 use Rattle.word_hops.specs.Hops.{nextEnd}
-use borrow.Author.Needs.{needs}
 use Rattle.word_hops.proofs.on.next_end.Statement.{statement}
 use Rattle.word_hops.proofs.on.next_end.Tie as tie
 
@@ -14,6 +12,4 @@ unfolding nextEnd
 returns-2 c = rw (sym (c .before .before .forward .ensures) ∙ c .enum-told .given .1)
 
 pub next-end-spec : {M : Type 1} → statement M
-next-end-spec =
-    tie.close
-    (tie.spec (λ c κs. search needs) (λ c. search needs) (λ c κs. search needs) (λ c. search needs) returns returns-2)
+next-end-spec = tie.close (tie.spec (λ c κs. search needs) (λ c. search needs) (λ c κs. search needs) (λ c. search needs) returns returns-2)

@@ -1,8 +1,7 @@
 -- `word_hops::on::next_start` meets its contract, from a row's end and from a character. Assumes nothing.
-use mathlib.Core.Path.{ap, sym, _∙_}
-use Rattle.word_places.specs.declared.Reach.the-variants.{At}
+use Rattle.lists.proofs.Kit.{ap, sym, _∙_, needs}
+use Rattle.word_places.specs.declared.Step.the-variants.{To}
 use Rattle.word_hops.specs.Hops.{nextStart}
-use borrow.Author.Needs.{needs}
 use Rattle.word_hops.proofs.on.next_start.Statement.{statement}
 use Rattle.word_hops.proofs.on.next_start.Tie as tie
 
@@ -42,11 +41,10 @@ returns-4 c =
       sym (at-test .before .is-end .ensures) ∙ at-test .if1 .left,
       ← at-run .run-end .ensures,
       sym (at-step .forward2 .ensures) ∙ c .before .enum-told2 .given .1,
-    ) (ap At (c .content-end .ensures))
+    ) (ap To (c .content-end .ensures))
 
 pub next-start-spec : {M : Type 1} → statement M
-next-start-spec =
-    tie.close
+next-start-spec = tie.close
     (tie.spec (λ c κs. search needs) (λ c κs. search needs) (λ c. search needs) (λ c κs. search needs) returns (λ c. search needs) returns-2
     (λ c κs. search needs) (λ c κs. search needs) (λ c. search needs) (λ c κs. search needs) (λ c. search needs) (λ c κs. search needs) returns-3
     returns-4)

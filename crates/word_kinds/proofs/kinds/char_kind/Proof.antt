@@ -1,7 +1,6 @@
 -- `word_kinds::kinds::char_kind` meets its contract: the tests stand in the definition's order. Assumes nothing.
-use mathlib.Core.Path.{sym, _∙_}
+use Rattle.lists.proofs.Kit.{sym, _∙_, needs}
 use Rattle.word_kinds.specs.Places.{kindOf}
-use borrow.Author.Needs.{needs}
 use Rattle.word_kinds.proofs.kinds.char_kind.Statement.{statement}
 use Rattle.word_kinds.proofs.kinds.char_kind.Tie as tie
 
@@ -28,6 +27,4 @@ returns-4 c =
     rw (sym (at-is-white .is-white .ensures) ∙ at-if1 .if1 .left, c .before .before .if2 .left, sym (c .before .is-word .ensures) ∙ c .if3 .left)
 
 pub char-kind-spec : {M : Type 1} → statement M
-char-kind-spec =
-    tie.close
-    (tie.spec (λ c κs. search needs) returns returns-2 (λ c κs. search needs) returns-3 returns-4)
+char-kind-spec = tie.close (tie.spec (λ c κs. search needs) returns returns-2 (λ c κs. search needs) returns-3 returns-4)

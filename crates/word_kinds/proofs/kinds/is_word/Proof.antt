@@ -1,7 +1,5 @@
 -- `word_kinds::kinds::is_word` meets its contract: by flags, or else the letters first, where they count, and then the bounds. Assumes nothing.
-use mathlib.Core.Path.{sym, _∙_}
-use borrow.Author.Tests.{not-true, not-false, le-leb}
-use borrow.Author.Needs.{needs}
+use Rattle.lists.proofs.Kit.{sym, _∙_, needs, not-true, not-false, le-leb}
 use Rattle.word_kinds.proofs.kinds.is_word.Statement.{statement}
 use Rattle.word_kinds.proofs.kinds.is_word.Tie as tie
 
@@ -12,8 +10,8 @@ returns c = rw (c .before .if1 .taken) (c .is-flagged .ensures)
 holds-requires : tie.Need-holds-requires
 holds-requires c κs =
     let at-high = c .before in
-    let start = at-high .before .before .before .before in
-    (start .pre .room, start .pre .lent (le-leb _ _ (at-high .if2 .taken)))
+    let at-start = at-high .before .before .before .before in
+    (at-start .pre .room, at-start .pre .lent (le-leb _ _ (at-high .if2 .taken)))
 
 returns-2 : tie.Need-returns-2
 returns-2 c = rw (c .before .before .before .if1 .left) (c .holds .ensures)
@@ -22,27 +20,25 @@ returns-3 : tie.Need-returns-3
 returns-3 c =
     let at-letters = c .before .before in
     let at-flags = at-letters .before .before .before in
-    let start = at-flags .before .before .before in
-    rw (at-flags .if1 .left, not-true start.args.s.letters (at-letters .if3 .taken)) (c .in-bounds .ensures)
+    let at-start = at-flags .before .before .before in
+    rw (at-flags .if1 .left, not-true at-start.args.s.letters (at-letters .if3 .taken)) (c .in-bounds .ensures)
 
 returns-4 : tie.Need-returns-4
 returns-4 c =
     let at-letters = c .before .before in
     let at-flags = at-letters .before .before .before in
-    let start = at-flags .before .before .before in
-    rw (at-flags .if1 .left, not-false start.args.s.letters (at-letters .if3 .left), sym (c .before .is-letter .ensures) ∙ c .if4 .taken)
+    let at-start = at-flags .before .before .before in
+    rw (at-flags .if1 .left, not-false at-start.args.s.letters (at-letters .if3 .left), sym (c .before .is-letter .ensures) ∙ c .if4 .taken)
 
 returns-5 : tie.Need-returns-5
 returns-5 c =
     let at-letter = c .before .before in
     let at-letters = at-letter .before .before in
     let at-flags = at-letters .before .before .before in
-    let start = at-flags .before .before .before in
-    rw (at-flags .if1 .left, not-false start.args.s.letters (at-letters .if3 .left), sym (at-letter .before .is-letter .ensures) ∙ at-letter .if4 .left)
+    let at-start = at-flags .before .before .before in
+    rw (at-flags .if1 .left, not-false at-start.args.s.letters (at-letters .if3 .left), sym (at-letter .before .is-letter .ensures) ∙ at-letter .if4 .left)
     (c .in-bounds2 .ensures)
 
 pub is-word-spec : {M : Type 1} → statement M
-is-word-spec =
-    tie.close
-    (tie.spec (λ c κs. search needs) returns holds-requires returns-2 (λ c κs. search needs) returns-3 (λ c κs. search needs) returns-4
+is-word-spec = tie.close (tie.spec (λ c κs. search needs) returns holds-requires returns-2 (λ c κs. search needs) returns-3 (λ c κs. search needs) returns-4
     (λ c κs. search needs) returns-5)

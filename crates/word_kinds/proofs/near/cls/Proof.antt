@@ -1,7 +1,4 @@
--- `word_kinds::near::cls` meets its contract. Assumes nothing.
-use mathlib.Core.Path.{sym, _∙_}
-use borrow.Author.Tests.{ne-eqb}
-use borrow.Author.Needs.{needs}
+use Rattle.lists.proofs.Kit.{sym, _∙_, needs, ne-eqb}
 use Rattle.word_kinds.proofs.near.cls.Statement.{statement}
 use Rattle.word_kinds.proofs.near.cls.Tie as tie
 
@@ -12,6 +9,4 @@ returns-2 : tie.Need-returns-2
 returns-2 c = rw (← c .before .kind-at .ensures, ne-eqb _ _ (c .if1 .left))
 
 pub cls-spec : {M : Type 1} → statement M
-cls-spec =
-    tie.close
-    (tie.spec (λ c κs. search needs) returns returns-2)
+cls-spec = tie.close (tie.spec (λ c κs. search needs) returns returns-2)

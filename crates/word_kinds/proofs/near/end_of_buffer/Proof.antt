@@ -1,8 +1,7 @@
 -- `word_kinds::near::end_of_buffer` meets its contract, by the last code point. Assumes nothing.
-use native.Mathlib.Omega.{arith}
+use Rattle.lists.proofs.Kit.{arith, needs}
 use Rattle.text.proofs.Content.{content-near}
 use Rattle.word_kinds.proofs.Back.{end-nl, end-char}
-use borrow.Author.Needs.{needs}
 use Rattle.word_kinds.proofs.near.end_of_buffer.Statement.{statement}
 use Rattle.word_kinds.proofs.near.end_of_buffer.Tie as tie
 
@@ -37,6 +36,4 @@ returns-3 c =
     rw at-start.pre (end-char at-start.args.t.now (λ h. c .if2 .left))
 
 pub end-of-buffer-spec : {M : Type 1} → statement M
-end-of-buffer-spec =
-    tie.close
-    (tie.spec sub-t6 returns (λ c. search needs) (λ c. search needs) (λ c. search needs) sub-t10 returns-2 sub-t7 returns-3)
+end-of-buffer-spec = tie.close (tie.spec sub-t6 returns (λ c. search needs) (λ c. search needs) (λ c. search needs) sub-t10 returns-2 sub-t7 returns-3)

@@ -1,10 +1,8 @@
 -- `word_kinds::near::kind_at` meets its contract: at the end of the text, on a separator, on a character. Assumes nothing.
-use mathlib.Core.Path.{_∙_}
-use native.Mathlib.Omega.{arith}
+use Rattle.lists.proofs.Kit.{_∙_, arith, needs}
 use Rattle.word_kinds.specs.Lent.{isHigh}
 use Rattle.lists.proofs.Any.{any-there}
 use Rattle.word_kinds.proofs.Ahead.{end-kind, nl-kind, char-kind}
-use borrow.Author.Needs.{needs}
 use Rattle.word_kinds.proofs.near.kind_at.Statement.{statement}
 use Rattle.word_kinds.proofs.near.kind_at.Tie as tie
 
@@ -34,6 +32,4 @@ returns-3 c =
     c .char-kind .ensures ∙ char-kind at-start.args.t.now at-start.args.p (at-start .pre .1) (omega (arith, at-if1 .if1 .left)) (c .before .if2 .left) _
 
 pub kind-at-spec : {M : Type 1} → statement M
-kind-at-spec =
-    tie.close
-    (tie.spec returns (λ c. search needs) (λ c. search needs) returns-2 char-kind-requires returns-3)
+kind-at-spec = tie.close (tie.spec returns (λ c. search needs) (λ c. search needs) returns-2 char-kind-requires returns-3)

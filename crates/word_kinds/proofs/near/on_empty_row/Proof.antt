@@ -1,10 +1,7 @@
 -- `word_kinds::near::on_empty_row` meets its contract: the place is the first of its row, and then its last too. Assumes nothing.
-use mathlib.Core.Path.{refl, sym, _∙_}
-use native.Mathlib.Omega.{arith}
-use borrow.Author.Tests.{not-true, not-false, eqb-true}
+use Rattle.lists.proofs.Kit.{refl, sym, _∙_, arith, needs, not-true, not-false, eqb-true}
 use Rattle.word_kinds.specs.Places.{onEmptyRow}
 use Rattle.word_kinds.proofs.Ahead.{end-empty, empty-row}
-use borrow.Author.Needs.{needs}
 use Rattle.word_kinds.proofs.near.on_empty_row.Statement.{statement}
 use Rattle.word_kinds.proofs.near.on_empty_row.Tie as tie
 
@@ -23,10 +20,7 @@ returns-3 c =
     let at-starts-row = c .before .before .before in
     let at-start = at-starts-row .before .before in
     empty-row at-start.args.t.now at-start.args.p at-start.pre _
-    (eqb-true _ _ (sym (at-starts-row .starts-row .ensures) ∙ not-false _ (c .before .before .if1 .left)))
-    (omega (arith, c .before .if2 .left)) refl
+    (eqb-true _ _ (sym (at-starts-row .starts-row .ensures) ∙ not-false _ (c .before .before .if1 .left))) (omega (arith, c .before .if2 .left)) refl
 
 pub on-empty-row-spec : {M : Type 1} → statement M
-on-empty-row-spec =
-    tie.close
-    (tie.spec (λ c κs. search needs) returns returns-2 (λ c. search needs) (λ c. search needs) returns-3)
+on-empty-row-spec = tie.close (tie.spec (λ c κs. search needs) returns returns-2 (λ c. search needs) (λ c. search needs) returns-3)

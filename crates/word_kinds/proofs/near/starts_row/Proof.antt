@@ -1,8 +1,6 @@
 -- `word_kinds::near::starts_row` meets its contract, by the code point before the place. Assumes nothing.
-use mathlib.Core.Path.{refl}
-use native.Mathlib.Omega.{arith}
+use Rattle.lists.proofs.Kit.{refl, arith, needs}
 use Rattle.word_kinds.proofs.Back.{starts-first, starts-by}
-use borrow.Author.Needs.{needs}
 use Rattle.word_kinds.proofs.near.starts_row.Statement.{statement}
 use Rattle.word_kinds.proofs.near.starts_row.Tie as tie
 
@@ -17,6 +15,4 @@ returns-2 c =
     starts-by at-start.args.t.now at-start.args.p at-start.pre _ (omega (arith, c .before .if1 .left)) refl
 
 pub starts-row-spec : {M : Type 1} → statement M
-starts-row-spec =
-    tie.close
-    (tie.spec returns (λ c. search needs) (λ c. search needs) (λ c. search needs) returns-2)
+starts-row-spec = tie.close (tie.spec returns (λ c. search needs) (λ c. search needs) (λ c. search needs) returns-2)

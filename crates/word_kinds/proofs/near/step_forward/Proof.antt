@@ -1,32 +1,26 @@
 -- `word_kinds::near::step_forward` meets its contract, by the code point at the place and the one after it. Assumes nothing.
-use Prim.Native.Nat.{_+_}
-use mathlib.Core.Path.{_∙_}
-use native.Mathlib.Omega.{arith}
-use lib.ListN.{length}
+use Rattle.lists.proofs.Kit.{arith, needs}
 use Rattle.word_kinds.proofs.Ahead.{end-forward, nl-forward, last-forward, row-forward, char-forward, char-spot}
-use Rattle.word_kinds.proofs.Back.{step-low}
-use borrow.Author.Needs.{needs}
+use Rattle.word_kinds.proofs.Telling.{tells-too, steps-to, steps-nowhere, steps-low}
 use Rattle.word_kinds.proofs.near.step_forward.Statement.{statement}
 use Rattle.word_kinds.proofs.near.step_forward.Tie as tie
 
 returns : tie.Need-returns
 returns c =
     let at-start = c .before .before in
-    (end-forward at-start.args.t.now at-start.args.p at-start.pre (c .if1 .taken), tt)
+    steps-nowhere (end-forward at-start.args.t.now at-start.args.p at-start.pre (c .if1 .taken))
 
 returns-2 : tie.Need-returns-2
 returns-2 c =
     let at-if1 = c .before .before .before in
-    let at-start = at-if1 .before .before in (
-      c .next-row .ensures .0 ∙ nl-forward at-start.args.t.now at-start.args.p at-start.pre (omega (arith, at-if1 .if1 .left)) (c .before .if2 .taken),
-      c .next-row .ensures .1,
-    )
+    let at-start = at-if1 .before .before in
+    tells-too (c .next-row .ensures) (nl-forward at-start.args.t.now at-start.args.p at-start.pre (omega (arith, at-if1 .if1 .left)) (c .before .if2 .taken))
 
 returns-3 : tie.Need-returns-3
 returns-3 c =
     let at-if1 = c .before .before .before in
     let at-start = at-if1 .before .before in
-    (last-forward at-start.args.t.now at-start.args.p at-start.pre (omega (arith, at-if1 .if1 .left)) (c .before .if2 .left) (c .if3 .taken), tt)
+    steps-nowhere (last-forward at-start.args.t.now at-start.args.p at-start.pre (omega (arith, at-if1 .if1 .left)) (c .before .if2 .left) (c .if3 .taken))
 
 -- the separator behind the character ends the row
 next-row-requires-2 : tie.Need-next-row-requires-2
@@ -45,32 +39,20 @@ returns-4 c =
     let at-if3 = c .before .before .before in
     let at-if2 = at-if3 .before in
     let at-if1 = at-if2 .before .before in
-    let at-start = at-if1 .before .before in (
-      c .next-row2 .ensures .0 ∙
-          row-forward at-start.args.t.now at-start.args.p at-start.pre (omega (arith, at-if1 .if1 .left)) (at-if2 .if2 .left)
-          (omega (arith, at-if3 .if3 .left)) (c .before .if4 .taken),
-      step-low at-start.args.t.now (at-start .args .p .at + 1 + 1) (at-start .args .p .at + 1) (length at-start.args.t.now + 1) (c .next-row2 .result)
-          (c .next-row2 .ensures .1)
-          (omega arith),
-    )
+    let at-start = at-if1 .before .before in
+    tells-too (steps-low (c .next-row2 .result) (c .next-row2 .ensures) (omega arith))
+    (row-forward at-start.args.t.now at-start.args.p at-start.pre (omega (arith, at-if1 .if1 .left)) (at-if2 .if2 .left)
+    (omega (arith, at-if3 .if3 .left)) (c .before .if4 .taken))
 
 returns-5 : tie.Need-returns-5
 returns-5 c =
     let at-if2 = c .before .before .before in
     let at-if1 = at-if2 .before .before in
     let at-start = at-if1 .before .before in
-    let left = at-if1 .if1 .left in (
-      char-forward at-start.args.t.now at-start.args.p at-start.pre (omega (arith, left)) (at-if2 .if2 .left)
-          (omega (arith, c .before .before .if3 .left)) (c .if4 .left),
-      (
-        char-spot at-start.args.t.now at-start.args.p at-start.pre (omega (arith, left)) (at-if2 .if2 .left),
-        omega arith,
-        omega (arith, c .before .before .if3 .left),
-      ),
-    )
+    steps-to (char-forward at-start.args.t.now at-start.args.p at-start.pre (omega (arith, at-if1 .if1 .left)) (at-if2 .if2 .left)
+    (omega (arith, c .before .before .if3 .left)) (c .if4 .left)) (omega arith) (omega (arith, c .before .before .if3 .left))
 
 pub step-forward-spec : {M : Type 1} → statement M
-step-forward-spec =
-    tie.close
+step-forward-spec = tie.close
     (tie.spec returns (λ c. search needs) (λ c. search needs) (λ c κs. search needs) returns-2 (λ c. search needs) returns-3 (λ c. search needs)
     (λ c. search needs) next-row-requires-2 returns-4 returns-5)

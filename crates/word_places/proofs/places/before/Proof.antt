@@ -1,6 +1,4 @@
--- `word_places::places::before` meets its contract. Assumes nothing.
 use borrow.Author.Tests.{lt-ltb, le-ltb}
-use borrow.Author.Needs.{needs}
 use Rattle.word_places.proofs.places.before.Statement.{statement}
 use Rattle.word_places.proofs.places.before.Tie as tie
 

@@ -1,9 +1,6 @@
 -- `word_places::places::class_at` meets its contract: within the slice it does not matter what is read behind it. Assumes nothing.
-use native.Mathlib.Omega.{arith}
-use mathlib.Core.Path.{sym}
-use lib.ListN.{List·getD-eq-default}
+use Rattle.lists.proofs.Kit.{sym, arith, List·getD-eq-default, needs}
 use Rattle.word_places.proofs.Walking.{read-any}
-use borrow.Author.Needs.{needs}
 use Rattle.word_places.proofs.places.class_at.Statement.{statement}
 use Rattle.word_places.proofs.places.class_at.Tie as tie
 

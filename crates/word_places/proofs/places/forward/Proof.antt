@@ -1,8 +1,6 @@
 -- `word_places::places::forward` meets its contract, by whether the step goes over a row's end. Assumes nothing.
-use mathlib.Core.Path.{sym, _∙_}
-use native.Mathlib.Omega.{arith}
+use Rattle.lists.proofs.Kit.{sym, _∙_, arith, needs}
 use Rattle.word_places.proofs.Walking.{forward-none, forward-over, forward-next}
-use borrow.Author.Needs.{needs}
 use Rattle.word_places.proofs.places.forward.Statement.{statement}
 use Rattle.word_places.proofs.places.forward.Tie as tie
 

@@ -1,7 +1,4 @@
--- `word_places::places::is_end` meets its contract. Assumes nothing.
-use mathlib.Core.Path.{ap}
-use lib.Dec.{leb}
-use borrow.Author.Needs.{needs}
+use Rattle.lists.proofs.Kit.{ap, leb, needs}
 use Rattle.word_places.proofs.places.is_end.Statement.{statement}
 use Rattle.word_places.proofs.places.is_end.Tie as tie
 

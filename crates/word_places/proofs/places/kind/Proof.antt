@@ -1,7 +1,6 @@
 -- `word_places::places::kind` meets its contract: the tests stand in the definition's order. Assumes nothing.
-use borrow.Author.Tests.{eq-eqb, ne-eqb}
+use Rattle.lists.proofs.Kit.{needs, eq-eqb, ne-eqb}
 use Rattle.word_places.specs.Places.{kindFor}
-use borrow.Author.Needs.{needs}
 use Rattle.word_places.proofs.places.kind.Statement.{statement}
 use Rattle.word_places.proofs.places.kind.Tie as tie
 

@@ -1,6 +1,4 @@
--- `word_places::places::soft` meets its contract. Assumes nothing.
-use borrow.Author.Tests.{eq-eqb, ne-eqb}
-use borrow.Author.Needs.{needs}
+use Rattle.lists.proofs.Kit.{needs, eq-eqb, ne-eqb}
 use Rattle.word_places.proofs.places.soft.Statement.{statement}
 use Rattle.word_places.proofs.places.soft.Tie as tie
 

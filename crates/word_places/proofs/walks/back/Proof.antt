@@ -1,14 +1,8 @@
 -- `word_places::walks::back` meets its contract. The invariant of its loop: the walk stands at `cur`, with turns enough for the places behind.
 -- The measure is the place. Assumes nothing.
-use Prim.Native.Nat.{_+_, _-_}
-use mathlib.Core.Path.{sym}
-use mathlib.Core.Bool.{_&&_, not}
-use native.Mathlib.Omega.{arith}
-use borrow.Author.Tests.{not-true, not-false}
-use lib.Dec.{eqb}
+use Rattle.lists.proofs.Kit.{sym, _&&_, not, _+_, arith, eqb, needs, not-true, not-false}
 use Rattle.word_places.specs.Places.{isEmpty, soft, backward}
 use Rattle.word_places.proofs.Walking.{Walking, walking-start, walking-on, walking-off, walking-stuck, backward-none, backward-on}
-use borrow.Author.Needs.{needs}
 use Rattle.word_places.proofs.walks.back.Statement.{statement}
 use Rattle.word_places.proofs.walks.back.Tie as tie
 
@@ -40,7 +34,8 @@ loop-again c =
     let at-class = c .before .before in
     let at-soft = at-class .before in
     walking-on (at-soft .before .loop .inv) _ _
-    (rw (← at-soft .soft .ensures, ← at-class .class-at .ensures) (not-false _ (c .before .if1 .left))) (backward-on _ (c .if2 .left)) (omega (arith, c .if2 .left))
+    (rw (← at-soft .soft .ensures, ← at-class .class-at .ensures) (not-false _ (c .before .if1 .left))) (backward-on _ (c .if2 .left))
+    (omega (arith, c .if2 .left))
 
 pub back-spec : {M : Type 1} → statement M
 back-spec = tie.close (

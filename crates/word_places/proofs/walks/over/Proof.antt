@@ -1,21 +1,13 @@
 -- `word_places::walks::over` meets its contract. The invariant of its loop: the walk stands at `cur`, with turns enough for the places ahead.
 -- The measure is the length of the slice less the place. Assumes nothing.
-use Prim.Native.Nat.{_+_, _-_}
-use mathlib.Core.Path.{sym, _∙_}
-use mathlib.Core.Bool.{_||_}
-use native.Mathlib.Omega.{arith}
-use borrow.Author.Tests.{not-true, not-false}
-use lib.Dec.{eqb}
-use lib.ListN.{length}
+use Rattle.lists.proofs.Kit.{sym, _∙_, _||_, _+_, _-_, arith, length, eqb, needs, not-true, not-false}
 use Rattle.word_places.specs.Places.{kind, forward}
 use Rattle.word_places.proofs.Walking.{Walking, walking-start, walking-on, walking-off, walking-stuck, forward-on}
-use borrow.Author.Needs.{needs}
 use Rattle.word_places.proofs.walks.over.Statement.{statement}
 use Rattle.word_places.proofs.walks.over.Tie as tie
 
 abbrev Inv-loop : tie.InvT-loop
-Inv-loop c big a b i cur₀ cur =
-    Walking (λ j. eqb (kind c big j) a || eqb (kind c big j) b) (forward c) (length c + 1) i (length c - cur) cur
+Inv-loop c big a b i cur₀ cur = Walking (λ j. eqb (kind c big j) a || eqb (kind c big j) b) (forward c) (length c + 1) i (length c - cur) cur
 
 abbrev μ-loop : tie.MeasureT-loop
 μ-loop c big a b i cur₀ cur = length c - cur

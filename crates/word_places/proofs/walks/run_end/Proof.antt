@@ -1,20 +1,15 @@
 -- `word_places::walks::run_end` meets its contract. The invariant of its loop: the walk stands at `cur`, with turns enough for the places ahead.
 -- The measure is the length of the slice less the place. Assumes nothing.
-use Prim.Native.Nat.{_+_, _-_}
-use mathlib.Core.Path.{refl, ap, sym, _∙_}
-use native.Mathlib.Omega.{arith}
-use borrow.Author.Tests.{eq-eqb, ne-eqb, lt-ltb, le-ltb}
-use lib.ListN.{length}
-use Rattle.word_places.specs.declared.Reach.the-variants.{At}
+use Rattle.lists.proofs.Kit.{refl, ap, sym, _+_, _-_, arith, length, needs, eq-eqb, ne-eqb, lt-ltb, le-ltb}
+use Rattle.word_places.specs.declared.Step.the-variants.{To}
 use Rattle.word_places.specs.Places.{kind}
 use Rattle.word_places.specs.Walks.{runs, place}
 use Rattle.word_places.proofs.Walking.{Walking, walking-start, walking-on, walking-off}
-use borrow.Author.Needs.{needs}
 use Rattle.word_places.proofs.walks.run_end.Statement.{statement}
 use Rattle.word_places.proofs.walks.run_end.Tie as tie
 
 abbrev Inv-loop : tie.InvT-loop
-Inv-loop c big i end k cur₀ cur = Walking (runs c big (kind c big i)) (λ j. At (j + 1)) (length c + 1) i (length c - cur) cur
+Inv-loop c big i end k cur₀ cur = Walking (runs c big (kind c big i)) (λ j. To (j + 1)) (length c + 1) i (length c - cur) cur
 
 abbrev μ-loop : tie.MeasureT-loop
 μ-loop c big i end k cur₀ cur = length c - cur
@@ -27,8 +22,7 @@ returns : tie.Need-returns Inv-loop μ-loop
 returns c =
     let in-loop = c .before .before in
     let at-kind = in-loop .before .before in
-    sym (ap place (walking-off (in-loop .before .loop .inv)
-    (rw (
+    sym (ap place (walking-off (in-loop .before .loop .inv) (rw (
       ← c .before .kind2 .ensures,
       ← at-kind .kind .ensures,
       ← at-kind .before .text-end .ensures,
@@ -45,8 +39,7 @@ loop-again : tie.Need-loop-again Inv-loop μ-loop
 loop-again c =
     let in-loop = c .before .before in
     let at-kind = in-loop .before .before in
-    walking-on (in-loop .before .loop .inv) _ _
-    (rw (
+    walking-on (in-loop .before .loop .inv) _ _ (rw (
       ← c .before .kind2 .ensures,
       ← at-kind .kind .ensures,
       ← at-kind .before .text-end .ensures,

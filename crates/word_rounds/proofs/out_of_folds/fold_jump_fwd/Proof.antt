@@ -1,50 +1,31 @@
--- `word_rounds::out_of_folds::fold_jump_fwd` meets its contract. Assumes nothing.
-use mathlib.Core.Path.{ap, _∙_}
-use native.Mathlib.Omega.{arith}
-use Rattle.text.proofs.Content.{content-near}
+-- `word_rounds::out_of_folds::fold_jump_fwd` meets its contract: the last row of the fold is one of the text. Assumes nothing.
 use Rattle.word_rounds.specs.Rounds.{toLast}
 use Rattle.word_kinds.specs.Spots.{placeOf}
-use Rattle.word_rounds.proofs.Folding.{span-rows, jump-fwd}
+use Rattle.word_kinds.proofs.Telling.{lands-here}
+use Rattle.word_rounds.proofs.Folding.{fold-asked, span-rows, jump-lands}
 use borrow.Author.Needs.{needs}
 use Rattle.word_rounds.proofs.out_of_folds.fold_jump_fwd.Statement.{statement}
 use Rattle.word_rounds.proofs.out_of_folds.fold_jump_fwd.Tie as tie
 
-closed-fold-at-requires : tie.Need-closed-fold-at-requires
-closed-fold-at-requires c κs =
-    let required = c .before .before .pre in (
-      required .good,
-      omega (arith, required .all-rows, required .spot .in-row),
-      omega (arith, required .content-rows, content-near (c .before .before .args .t .now)),
-    )
-
 row-last-requires : tie.Need-row-last-requires
 row-last-requires c κs =
-    let at-closed-fold-at = c .before .before .before in
-    let at-start = at-closed-fold-at .before .before .before in (
-      at-start .pre .spot,
-      span-rows at-start.args.t.now at-start.args.folds.now at-start.args.rows at-start.args.content at-start.args.p at-start.pre
-          (at-closed-fold-at .closed-fold-at .ensures) _ _
-          (c .before .first .given .1) .1,
-    )
+    let at-fold = c .before .before .before in
+    let required = at-fold .before .before .before .pre in
+    (required .spot, span-rows required (at-fold .closed-fold-at .ensures) (c .before .first .given .1) .1)
 
 returns : tie.Need-returns
 returns c =
-    let at-closed-fold-at = c .before .before .before .before in
-    let at-start = at-closed-fold-at .before .before .before in
-    let by-jump-fwd = jump-fwd at-start.args.t.now at-start.args.folds.now at-start.args.rows at-start.args.content at-start.args.p at-start.pre
-    (at-closed-fold-at .closed-fold-at .ensures)
-    (ap (toLast at-start.args.t.now (placeOf at-start.args.t.now at-start.args.p)) (c .before .before .first .given .1)) in
-    (c .row-last .ensures .0 ∙ by-jump-fwd, c .row-last .ensures .1)
+    let at-fold = c .before .before .before .before in
+    let at-start = at-fold .before .before .before in
+    jump-lands at-start.pre (at-fold .closed-fold-at .ensures) (toLast at-start.args.t.now (placeOf at-start.args.t.now at-start.args.p))
+    (c .before .before .first .given .1) (c .row-last .ensures)
 
 returns-2 : tie.Need-returns-2
 returns-2 c =
     let at-start = c .before .before .before .before .before in
-    let by-jump-fwd = jump-fwd at-start.args.t.now at-start.args.folds.now at-start.args.rows at-start.args.content at-start.args.p at-start.pre
-    (c .before .before .closed-fold-at .ensures)
-    (ap (toLast at-start.args.t.now (placeOf at-start.args.t.now at-start.args.p)) (c .enum-told .given .1)) in
-    (by-jump-fwd, at-start .pre .spot)
+    jump-lands at-start.pre (c .before .before .closed-fold-at .ensures) (toLast at-start.args.t.now (placeOf at-start.args.t.now at-start.args.p))
+    (c .enum-told .given .1) (lands-here (at-start .pre .spot))
 
 pub fold-jump-fwd-spec : {M : Type 1} → statement M
-fold-jump-fwd-spec =
-    tie.close
-    (tie.spec closed-fold-at-requires (λ c. search needs) row-last-requires (λ c. search needs) returns returns-2)
+fold-jump-fwd-spec = tie.close
+    (tie.spec (λ c κs. fold-asked (c .before .before .pre)) (λ c. search needs) row-last-requires (λ c. search needs) returns returns-2)

@@ -1,7 +1,5 @@
--- `word_rounds::out_of_folds::row_first` meets its contract. Assumes nothing.
-use native.Mathlib.Omega.{arith}
+use Rattle.lists.proofs.Kit.{arith, needs}
 use Rattle.word_rounds.proofs.Folding.{row-place}
-use borrow.Author.Needs.{needs}
 use Rattle.word_rounds.proofs.out_of_folds.row_first.Statement.{statement}
 use Rattle.word_rounds.proofs.out_of_folds.row_first.Tie as tie
 
@@ -11,6 +9,4 @@ returns c =
     row-place at-start.args.t.now at-start.args.row (at-start .pre .1) (c .line-to .result) (c .line-to .ensures) 0 _ (omega arith) (omega arith)
 
 pub row-first-spec : {M : Type 1} → statement M
-row-first-spec =
-    tie.close
-    (tie.spec (λ c κs. search needs) returns)
+row-first-spec = tie.close (tie.spec (λ c κs. search needs) returns)

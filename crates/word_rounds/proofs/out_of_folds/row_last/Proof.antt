@@ -1,10 +1,7 @@
--- `word_rounds::out_of_folds::row_last` meets its contract. Assumes nothing.
-use Prim.Native.Nat.{_-_}
-use native.Mathlib.Omega.{arith}
+use Rattle.lists.proofs.Kit.{_-_, arith, needs}
 use Rattle.text.specs.Text.{rowLen}
 use Rattle.text.proofs.Stands.{line-there}
 use Rattle.word_rounds.proofs.Folding.{row-place, line-length, line-fits}
-use borrow.Author.Needs.{needs}
 use Rattle.word_rounds.proofs.out_of_folds.row_last.Statement.{statement}
 use Rattle.word_rounds.proofs.out_of_folds.row_last.Tie as tie
 
@@ -17,11 +14,9 @@ returns : tie.Need-returns
 returns c =
     let at-start = c .before .before .before .before in
     let by-line-length = line-length at-start.args.t.now at-start.args.row (at-start .pre .1) (c .before .before .line-to .result)
-    (c .before .before .line-to .ensures)
-    (c .before .row-len .ensures) in
+    (c .before .before .line-to .ensures) (c .before .row-len .ensures) in
     row-place at-start.args.t.now at-start.args.row (at-start .pre .1) (c .before .before .line-to .result) (c .before .before .line-to .ensures)
-    (rowLen at-start.args.t.now at-start.args.row - 1) _ (omega arith)
-    (omega (arith, by-line-length, c .if1 .taken))
+    (rowLen at-start.args.t.now at-start.args.row - 1) _ (omega arith) (omega (arith, by-line-length, c .if1 .taken))
 
 add-t8 : tie.Need-add-t8
 add-t8 c =
@@ -42,10 +37,7 @@ returns-2 c =
     let by-line-length = line-length at-start.args.t.now at-start.args.row (at-start .pre .1) (at-line-to .line-to .result)
     (at-line-to .line-to .ensures) (c .before .before .row-len .ensures) in
     row-place at-start.args.t.now at-start.args.row (at-start .pre .1) (at-line-to .line-to .result) (at-line-to .line-to .ensures)
-    (rowLen at-start.args.t.now at-start.args.row - 1) _ (omega arith)
-    (omega (arith, by-line-length))
+    (rowLen at-start.args.t.now at-start.args.row - 1) _ (omega arith) (omega (arith, by-line-length))
 
 pub row-last-spec : {M : Type 1} → statement M
-row-last-spec =
-    tie.close
-    (tie.spec (λ c κs. search needs) row-len-requires returns (λ c. search needs) add-t8 returns-2)
+row-last-spec = tie.close (tie.spec (λ c κs. search needs) row-len-requires returns (λ c. search needs) add-t8 returns-2)

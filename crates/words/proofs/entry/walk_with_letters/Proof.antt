@@ -1,7 +1,6 @@
 -- `words::entry::walk_with_letters` meets its contract: the consts are the starts and the lengths of the letters' ranges. Assumes nothing.
-use mathlib.Core.Path.{refl}
+use Rattle.lists.proofs.Kit.{refl, needs}
 use Rattle.letters.specs.Letters.{letters}
-use borrow.Author.Needs.{needs}
 use Rattle.words.proofs.entry.walk_with_letters.Statement.{statement}
 use Rattle.words.proofs.entry.walk_with_letters.Tie as tie
 
@@ -12,6 +11,4 @@ walk-requires c κs =
     record { lent = record { room = at-start .pre .0; lent = λ h. record { starts-are = refl; lengths-are = refl } }; folded = at-start .pre .1 }
 
 pub walk-with-letters-spec : {M : Type 1} → statement M
-walk-with-letters-spec =
-    tie.close
-    (tie.spec (λ c. search needs) (λ c. search needs) walk-requires (λ c. search needs))
+walk-with-letters-spec = tie.close (tie.spec (λ c. search needs) (λ c. search needs) walk-requires (λ c. search needs))

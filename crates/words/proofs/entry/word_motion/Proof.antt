@@ -1,6 +1,6 @@
 -- `words::entry::word_motion` meets its contract: what was made is what the walk goes by. Assumes nothing.
-use mathlib.Core.Path.{_∙_}
 use Rattle.word_kinds.specs.Spots.{placeOf}
+use Rattle.word_kinds.proofs.Telling.{tells-too}
 use Rattle.words.proofs.Made.{made-folded, made-motion}
 use borrow.Author.Needs.{needs}
 use Rattle.words.proofs.entry.word_motion.Statement.{statement}
@@ -17,7 +17,7 @@ returns c =
     let prepared = c .before .before .before .before in
     let given = prepared .before .before .before .args in
     let motion = made-motion (prepared .prepare .ensures) (given .folds .now) (given .m) (given .stop) (given .count) (placeOf (given .t .now) (given .p)) in
-    (c .walk-made .ensures .0 ∙ motion, c .walk-made .ensures .1)
+    tells-too (c .walk-made .ensures) motion
 
 pub word-motion-spec : {M : Type 1} → statement M
 word-motion-spec = tie.close (tie.spec (λ c κs. search needs) walk-made-requires returns)

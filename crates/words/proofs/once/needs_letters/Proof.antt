@@ -1,7 +1,5 @@
 -- `words::once::needs_letters` meets its contract: a long text, or one that was looked through. Assumes nothing.
-use mathlib.Core.Path.{_∙_}
-use borrow.Author.Needs.{needs}
-use borrow.Author.Tests.{lt-ltb, le-ltb}
+use Rattle.lists.proofs.Kit.{_∙_, needs, lt-ltb, le-ltb}
 use Rattle.words.specs.Prepared.{needsLetters}
 use Rattle.words.proofs.once.needs_letters.Statement.{statement}
 use Rattle.words.proofs.once.needs_letters.Tie as tie

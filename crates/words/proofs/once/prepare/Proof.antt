@@ -1,11 +1,8 @@
 -- `words::once::prepare` meets its contract: the bounds of the table hold what its tokens hold. Assumes nothing.
-use mathlib.Core.Path.{_≡_, refl, sym, _∙_}
-use native.Mathlib.Omega.{arith}
-use lib.ListN.{length}
+use Rattle.lists.proofs.Kit.{_≡_, refl, sym, _∙_, arith, length, needs}
 use Rattle.list_tokens.proofs.Lists.{places}
 use Rattle.words.proofs.Classes.{kinds-by}
 use Rattle.words.proofs.Letters.{no-letters}
-use borrow.Author.Needs.{needs}
 use Rattle.words.proofs.once.prepare.Statement.{statement}
 use Rattle.words.proofs.once.prepare.Tie as tie
 
@@ -17,8 +14,7 @@ returns c =
     let given = at-start .args in
     let size-is : length (given .spec .tokens) ≡ 128 = search (needs, places) in
     record {
-      kinds =
-          kinds-by (given .spec) (omega (arith, at-start .pre)) (given .big) (bounds-of-call .result) (letters-of-call .result)
+      kinds = kinds-by (given .spec) (omega (arith, at-start .pre)) (given .big) (bounds-of-call .result) (letters-of-call .result)
           (bounds-of-call .ensures) (letters-of-call .ensures);
       room = search needs;
       is-big = refl;

@@ -7,7 +7,7 @@ rounds-from-requires : tie.Need-rounds-from-requires
 rounds-from-requires c κs = (c .before .before .before .before .before .pre, c .around .ensures)
 
 returns : tie.Need-returns
-returns c = let rounds-from-told = c .before .rounds-from .ensures in (rounds-from-told .place, rounds-from-told .spot)
+returns c = c .before .rounds-from .ensures .lands
 
 pub rounds-spec : {M : Type 1} → statement M
 rounds-spec = tie.close (tie.spec (λ c κs. search needs) rounds-from-requires returns)

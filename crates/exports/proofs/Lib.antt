@@ -1,0 +1,2 @@
+-- Laws that the proofs of the exports cite.
+pub mod Parts
