@@ -1,5 +1,8 @@
 //! What the proved library answers to a case of the oracle's, in the oracle's terms.
 
+pub mod differ;
+pub mod options;
+
 use oracle::Outcome;
 use oracle::case::{Case, FILLER, FILLER_CLASS};
 use tsivareza::{

@@ -1,6 +1,6 @@
 //! The proved library against the given Rust, case by case. `./compare --help` says how.
 
-use compare::port;
+use compare::{options, port};
 use oracle::Outcome;
 use oracle::case::{Call, Case};
 use oracle::generate::{self, Dice};
@@ -49,21 +49,17 @@ struct Wanted {
 fn wanted(words: &[String]) -> Result<Wanted, String> {
     let mut wanted = Wanted { cases: 20_000, seed: 1, small: None, scalars: false, calls: Vec::new() };
     let mut names = Vec::new();
-    let mut words = words.iter();
-    while let Some(word) = words.next() {
-        let mut number = || -> Result<u64, String> {
-            let value = words.next().ok_or(format!("{word} wants a number"))?;
-            value.parse().map_err(|_| format!("`{value}` is no number"))
-        };
-        match word.as_str() {
-            "--cases" => wanted.cases = number()?,
-            "--seed" => wanted.seed = number()?,
-            "--small" => wanted.small = Some(number()? as usize),
+    options::read(words, HELP, |word, behind| {
+        match word {
+            "--cases" => wanted.cases = behind.number(word)?,
+            "--seed" => wanted.seed = behind.number(word)?,
+            "--small" => wanted.small = Some(behind.number(word)? as usize),
             "--scalars" => wanted.scalars = true,
-            word if word.starts_with('-') => return Err(format!("`{word}` is not known\n{HELP}")),
-            word => names.push(word.to_string()),
+            _ if word.starts_with('-') => return Ok(false),
+            _ => names.push(word.to_string()),
         }
-    }
+        Ok(true)
+    })?;
     wanted.calls = generate::calls(&names)?;
     Ok(wanted)
 }
@@ -104,26 +100,13 @@ fn main() -> ExitCode {
             eprintln!("{news}");
         }
     }));
-    let words: Vec<String> = std::env::args().skip(1).collect();
-    let same = match words.first().map(String::as_str) {
-        Some("--help") => {
-            println!("{HELP}");
-            Ok(true)
-        }
+    options::program("compare", HELP, |words| match words.first().map(String::as_str) {
         Some("--case") => words[1..].join(" ").parse::<Case>().and_then(|case| {
             let answer = port(&case, Some(&mut Room::new(1_060_000)));
             let expected = case.answer();
             println!("the given Rust: {expected}\nthe library:    {answer}");
             Ok(expected == answer || expected == Outcome::Outside)
         }),
-        _ => wanted(&words).map(|wanted| compare(&wanted)),
-    };
-    match same {
-        Ok(true) => ExitCode::SUCCESS,
-        Ok(false) => ExitCode::from(1),
-        Err(why) => {
-            eprintln!("compare: {why}");
-            ExitCode::from(2)
-        }
-    }
+        _ => wanted(words).map(|wanted| compare(&wanted)),
+    })
 }

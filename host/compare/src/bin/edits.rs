@@ -1,6 +1,8 @@
 //! Insert and delete against the naive ones of the oracle, and runs of edits with motions between, which the given Rust
 //! answers on the text after each. `./compare --edits --help` says how.
 
+use compare::differ::Differ;
+use compare::options::{self, Runs};
 use compare::port;
 use oracle::edits;
 use oracle::generate::{self, Dice};
@@ -18,7 +20,7 @@ struct Count {
     room: Room,
     edits: u64,
     motions: u64,
-    differ: u64,
+    differ: Differ,
 }
 
 #[derive(Clone, Copy, Debug)]
@@ -32,15 +34,6 @@ fn ours(p: &edits::Page) -> Page {
 }
 
 impl Count {
-    fn told(&mut self, same: bool, what: impl FnOnce() -> String) {
-        if !same {
-            self.differ += 1;
-            if self.differ == 1 {
-                println!("differs: {}", what());
-            }
-        }
-    }
-
     /// One edit, in each form: the number, and every place of all that is lent.
     fn edit(&mut self, page: &mut edits::Page, edit: Edit) -> u32 {
         self.edits += 1;
@@ -55,7 +48,7 @@ impl Count {
         };
         let number = |r: Result<(), u32>| r.err().unwrap_or(0);
         let same = (number(on_points), &first) == (wanted, &ours(page)) && (number(on_bytes), &second) == (wanted, &ours(page));
-        self.told(same, || format!("{edit:?} of {before:?}: {on_points:?} {first:?}, and not {wanted} {page:?}"));
+        self.differ.unless(same, || format!("{edit:?} of {before:?}: {on_points:?} {first:?}, and not {wanted} {page:?}"));
         wanted
     }
 
@@ -129,7 +122,7 @@ fn motions(count: &mut Count, page: &edits::Page, dice: &mut Dice) {
         case.folds = page.folds[..3 * page.sizes[1] as usize].to_vec();
         case.caret = Caret::at(page.caret[0], page.caret[1]);
         let (wanted, answer) = (case.answer(), port(&case, None));
-        count.told(wanted == Outcome::Outside || answer == wanted, || format!("{case} after edits: {answer}, and not {wanted}"));
+        count.differ.unless(wanted == Outcome::Outside || answer == wanted, || format!("{case} after edits: {answer}, and not {wanted}"));
     }
 }
 
@@ -182,21 +175,8 @@ fn limits(count: &mut Count) {
 }
 
 fn asked(words: &[String]) -> Result<Count, String> {
-    let (mut runs, mut seed, mut most) = (300, 1, 3);
-    let mut words = words.iter();
-    while let Some(word) = words.next() {
-        let mut number = || -> Result<u64, String> {
-            let value = words.next().ok_or(format!("{word} wants a number"))?;
-            value.parse().map_err(|_| format!("`{value}` is no number"))
-        };
-        match word.as_str() {
-            "--runs" => runs = number()?,
-            "--seed" => seed = number()?,
-            "--small" => most = number()? as usize,
-            word => return Err(format!("`{word}` is not known\n{HELP}")),
-        }
-    }
-    let mut count = Count { room: Room::new(1_100_000), edits: 0, motions: 0, differ: 0 };
+    let Runs { runs, seed, small: most } = Runs { runs: 300, seed: 1, small: 3 }.read(words, HELP)?;
+    let mut count = Count { room: Room::new(1_100_000), edits: 0, motions: 0, differ: Differ::default() };
     small(&mut count, most);
     limits(&mut count);
     for i in 0..runs {
@@ -206,19 +186,9 @@ fn asked(words: &[String]) -> Result<Count, String> {
 }
 
 fn main() -> ExitCode {
-    let words: Vec<String> = std::env::args().skip(1).collect();
-    if words.first().is_some_and(|word| word == "--help") {
-        println!("{HELP}");
-        return ExitCode::SUCCESS;
-    }
-    match asked(&words) {
-        Ok(Count { edits, motions, differ, .. }) => {
-            println!("edits {edits} made, {motions} motions after them, {differ} differ");
-            ExitCode::from(u8::from(differ != 0))
-        }
-        Err(why) => {
-            eprintln!("edits: {why}");
-            ExitCode::from(2)
-        }
-    }
+    options::program("edits", HELP, |words| {
+        let Count { edits, motions, differ: Differ(differ), .. } = asked(words)?;
+        println!("edits {edits} made, {motions} motions after them, {differ} differ");
+        Ok(differ == 0)
+    })
 }

@@ -1,5 +1,7 @@
 //! Fold files against document 02's words. `./compare --folds --help` says how.
 
+use compare::differ::Differ;
+use compare::options::{self, Cases};
 use oracle::fold_file;
 use oracle::generate::Dice;
 use std::process::ExitCode;
@@ -21,19 +23,10 @@ struct Count {
     room: Room,
     written: u64,
     read: u64,
-    differ: u64,
+    differ: Differ,
 }
 
 impl Count {
-    fn told(&mut self, same: bool, what: impl FnOnce() -> String) {
-        if !same {
-            self.differ += 1;
-            if self.differ == 1 {
-                println!("differs: {}", what());
-            }
-        }
-    }
-
     /// Writes with so many bytes lent; those past the answer are watched.
     fn write(&mut self, text: &[u32], folds: &[u32], room: usize) {
         self.written += 1;
@@ -45,7 +38,7 @@ impl Count {
         let on_points = folds_write(text, folds, &mut once);
         let on_bytes = self.room.folds_write(&bytes(text), &bytes(folds), &mut again);
         let same = (on_points, &once) == (wanted, &left) && (on_bytes, &again) == (wanted, &left);
-        self.told(same, || format!("writing {folds:?} into {room}: {on_points:?} and {on_bytes:?}, and not {wanted:?}"));
+        self.differ.unless(same, || format!("writing {folds:?} into {room}: {on_points:?} and {on_bytes:?}, and not {wanted:?}"));
     }
 
     /// Reads with so many places lent, on code points; on bytes too where `both`.
@@ -57,11 +50,11 @@ impl Count {
         let wanted = expected.map(|folds| folds.len() as u32 / 3);
         let mut once = vec![POINT; room];
         let on_points = folds_read(text, file, &mut once);
-        self.told((on_points, &once) == (wanted, &left), || format!("reading {file:02x?} into {room}: {on_points:?}, and not {wanted:?}"));
+        self.differ.unless((on_points, &once) == (wanted, &left), || format!("reading {file:02x?} into {room}: {on_points:?}, and not {wanted:?}"));
         if both {
             let mut again = vec![POINT; room];
             let on_bytes = self.room.folds_read(&bytes(text), file, &mut again);
-            self.told((on_bytes, &again) == (wanted, &left), || format!("the same on bytes: {on_bytes:?}, and not {wanted:?}"));
+            self.differ.unless((on_bytes, &again) == (wanted, &left), || format!("the same on bytes: {on_bytes:?}, and not {wanted:?}"));
         }
     }
 
@@ -189,21 +182,8 @@ fn random(count: &mut Count, dice: &mut Dice) {
 }
 
 fn asked(words: &[String]) -> Result<Count, String> {
-    let (mut cases, mut seed, mut short) = (4_000, 1, false);
-    let mut words = words.iter();
-    while let Some(word) = words.next() {
-        let mut number = || {
-            let n = words.next().ok_or(format!("`{word}` wants a number"))?;
-            n.parse::<u64>().map_err(|_| format!("`{n}` is no number"))
-        };
-        match word.as_str() {
-            "--cases" => cases = number()?,
-            "--seed" => seed = number()?,
-            "--short" => short = true,
-            _ => return Err(format!("`{word}` is not known\n{HELP}")),
-        }
-    }
-    let mut count = Count { room: Room::new(1_060_000), written: 0, read: 0, differ: 0 };
+    let Cases { cases, seed, short } = Cases { cases: 4_000, seed: 1, short: false }.read(words, HELP)?;
+    let mut count = Count { room: Room::new(1_060_000), written: 0, read: 0, differ: Differ::default() };
     numbers(&mut count, if short { 16 } else { 1 });
     changed(&mut count, short);
     refused(&mut count);
@@ -212,19 +192,9 @@ fn asked(words: &[String]) -> Result<Count, String> {
 }
 
 fn main() -> ExitCode {
-    let words: Vec<String> = std::env::args().skip(1).collect();
-    if words.first().is_some_and(|word| word == "--help") {
-        println!("{HELP}");
-        return ExitCode::SUCCESS;
-    }
-    match asked(&words) {
-        Ok(Count { written, read, differ, .. }) => {
-            println!("folds {written} written, {read} read, {differ} differ");
-            ExitCode::from(u8::from(differ != 0))
-        }
-        Err(why) => {
-            eprintln!("folds: {why}");
-            ExitCode::from(2)
-        }
-    }
+    options::program("folds", HELP, |words| {
+        let Count { written, read, differ: Differ(differ), .. } = asked(words)?;
+        println!("folds {written} written, {read} read, {differ} differ");
+        Ok(differ == 0)
+    })
 }

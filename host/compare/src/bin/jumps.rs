@@ -1,6 +1,7 @@
 //! Jumps over one text, against the single calls in turn: those of the proved library, and the given Rust.
 //! `./compare --jumps --help` says how.
 
+use compare::options::{self, Runs};
 use oracle::calls;
 use oracle::generate::{self, Dice};
 use oracle::row_table::counted;
@@ -214,20 +215,7 @@ fn spoil(lent: &mut Lent, number: u32, dice: &mut Dice) {
 }
 
 fn asked(words: &[String]) -> Result<Count, String> {
-    let (mut runs, mut seed, mut most) = (2000, 1, 3);
-    let mut words = words.iter();
-    while let Some(word) = words.next() {
-        let mut number = || -> Result<u64, String> {
-            let value = words.next().ok_or(format!("{word} wants a number"))?;
-            value.parse().map_err(|_| format!("`{value}` is no number"))
-        };
-        match word.as_str() {
-            "--runs" => runs = number()?,
-            "--seed" => seed = number()?,
-            "--small" => most = number()? as usize,
-            word => return Err(format!("`{word}` is not known\n{HELP}")),
-        }
-    }
+    let Runs { runs, seed, small: most } = Runs { runs: 2000, seed: 1, small: 3 }.read(words, HELP)?;
     let mut count = Count { room: Room::new(1_100_000), calls: 0, jumps: 0, differ: 0 };
     small(&mut count, most);
     for i in 0..runs {
@@ -254,19 +242,9 @@ fn asked(words: &[String]) -> Result<Count, String> {
 }
 
 fn main() -> ExitCode {
-    let words: Vec<String> = std::env::args().skip(1).collect();
-    if words.first().is_some_and(|word| word == "--help") {
-        println!("{HELP}");
-        return ExitCode::SUCCESS;
-    }
-    match asked(&words) {
-        Ok(Count { calls, jumps, differ, .. }) => {
-            println!("jumps: {calls} calls, {jumps} jumps, {differ} differ");
-            ExitCode::from(u8::from(differ != 0))
-        }
-        Err(why) => {
-            eprintln!("jumps: {why}");
-            ExitCode::from(2)
-        }
-    }
+    options::program("jumps", HELP, |words| {
+        let Count { calls, jumps, differ, .. } = asked(words)?;
+        println!("jumps: {calls} calls, {jumps} jumps, {differ} differ");
+        Ok(differ == 0)
+    })
 }

@@ -2,8 +2,10 @@
 //! motion that takes it against the same motion of the given Rust, and the table against a count anew.
 //! `./compare --row-table --help` says how.
 
+use compare::differ::Differ;
+use compare::options::{self, Runs};
 use compare::{port, port_rows};
-use oracle::case::{CALLS, Call, Case};
+use oracle::case::{self, CALLS, Call, Case};
 use oracle::generate::{self, Dice};
 use oracle::row_table::{Tabled, counted, fill, second};
 use oracle::{Outcome, edits};
@@ -15,7 +17,8 @@ const HELP: &str = "\
     every text of up to MOST code points (4) with tables exact, one short and longer; with every stretch,
     inserts of up to 2, and tables and counts that are right, damaged at each place and beside another
     count; N random runs of edits from the seed S (300 from 1) with a count anew after each; damaged texts;
-    the limits; of each motion with a table every case with a text of up to MOST - 1 code points, 2 at most, and
+    the limits; texts about 4,096 code points and some of their multiples, plain, with an arrow and damaged; of each
+    motion with a table every case with a text of up to MOST - 1 code points, 2 at most, and
     N random ones and its limits, each with the text's table and with damaged ones";
 
 struct Count {
@@ -25,7 +28,7 @@ struct Count {
     motions: u64,
     /// Which of the damaged tables comes next.
     turn: usize,
-    differ: u64,
+    differ: Differ,
 }
 
 #[derive(Clone, Copy, Debug)]
@@ -41,15 +44,6 @@ fn ours(h: &Tabled) -> TabledPage {
 }
 
 impl Count {
-    fn told(&mut self, same: bool, what: impl FnOnce() -> String) {
-        if !same {
-            self.differ += 1;
-            if self.differ == 1 {
-                println!("differs: {}", what());
-            }
-        }
-    }
-
     /// A fill in each form: the answer, and every place of the table.
     fn fill(&mut self, text: &[u32], table: &[u32]) {
         self.fills += 1;
@@ -57,7 +51,7 @@ impl Count {
         let answer = fill(text, &mut wanted);
         let (on_points, on_bytes) = (row_starts(text, &mut first), self.room.row_starts(&bytes(text), &mut second));
         let same = (on_points, &first) == (answer, &wanted) && (on_bytes, &second) == (answer, &wanted);
-        self.told(same, || format!("the rows of {text:?} into {table:?}: {on_points:?} {first:?}, and not {answer:?} {wanted:?}"));
+        self.differ.unless(same, || format!("the rows of {text:?} into {table:?}: {on_points:?} {first:?}, and not {answer:?} {wanted:?}"));
     }
 
     /// One edit, in each form: the number, and every place of all that is lent.
@@ -74,7 +68,7 @@ impl Count {
         };
         let number = |r: Result<(), u32>| r.err().unwrap_or(0);
         let same = (number(on_points), &first) == (wanted, &ours(host)) && (number(on_bytes), &second) == (wanted, &ours(host));
-        self.told(same, || format!("{edit:?} of {before:?}: {on_points:?} {first:?}, and not {wanted} {host:?}"));
+        self.differ.unless(same, || format!("{edit:?} of {before:?}: {on_points:?} {first:?}, and not {wanted} {host:?}"));
         wanted
     }
 }
@@ -85,7 +79,7 @@ impl Count {
         self.motions += 1;
         let answer = port_rows(case, Rows { starts: table, content }, Some(&mut self.room));
         let wanted = Some(second(first.clone(), &case.text, table, content));
-        self.told(answer == wanted, || format!("{case} with {table:?}, {content}: {answer:?}, and not {wanted:?}"));
+        self.differ.unless(answer == wanted, || format!("{case} with {table:?}, {content}: {answer:?}, and not {wanted:?}"));
     }
 
     /// The same with the text's own table, and with as many of the others as are asked for, in turn.
@@ -236,24 +230,33 @@ fn motions(count: &mut Count, most: usize, runs: u64, seed: u64) {
     }
 }
 
-fn asked(words: &[String]) -> Result<Count, String> {
-    let (mut runs, mut seed, mut most) = (300, 1, 4);
-    let mut words = words.iter();
-    while let Some(word) = words.next() {
-        let mut number = || -> Result<u64, String> {
-            let value = words.next().ok_or(format!("{word} wants a number"))?;
-            value.parse().map_err(|_| format!("`{value}` is no number"))
-        };
-        match word.as_str() {
-            "--runs" => runs = number()?,
-            "--seed" => seed = number()?,
-            "--small" => most = number()? as usize,
-            word => return Err(format!("`{word}` is not known\n{HELP}")),
+/// Texts whose length and whose code points stand at the ends of a stretch of the pass over text and table, plain, with an
+/// arrow, and with what a text may not hold, with all tables.
+fn stretches(count: &mut Count) -> Result<(), String> {
+    const STRETCH: usize = 4096;
+    for call in [case::call("move_top")?, case::call("move_down")?] {
+        for len in [STRETCH - 1, STRETCH, STRETCH + 1, 2 * STRETCH - 1, 2 * STRETCH, 2 * STRETCH + 1, 3 * STRETCH + 1] {
+            let plain: Vec<u32> = (1..=len).map(|i| if i % 61 == 0 || i % STRETCH < 2 { 0x0A } else { 0x61 }).collect();
+            for at in [0, STRETCH - 2, STRETCH - 1, STRETCH, len / 2, len - 1] {
+                for x in [0x0A, 0x62, 0x2191, 0x0B, 0x85, 0x2028, 0xD800, 0x11_0000] {
+                    let mut text = plain.clone();
+                    if let Some(place) = text.get_mut(at) {
+                        *place = x;
+                    }
+                    count.motions(&Case { text, ..Case::new(call) }, usize::MAX);
+                }
+            }
         }
     }
-    let mut count = Count { room: Room::new(1_100_000), fills: 0, edits: 0, motions: 0, turn: 0, differ: 0 };
+    Ok(())
+}
+
+fn asked(words: &[String]) -> Result<Count, String> {
+    let Runs { runs, seed, small: most } = Runs { runs: 300, seed: 1, small: 4 }.read(words, HELP)?;
+    let mut count = Count { room: Room::new(1_100_000), fills: 0, edits: 0, motions: 0, turn: 0, differ: Differ::default() };
     small(&mut count, most);
     limits(&mut count);
+    stretches(&mut count)?;
     motions(&mut count, most, runs, seed);
     for i in 0..runs {
         run(&mut count, &mut Dice::new(seed, i));
@@ -262,19 +265,9 @@ fn asked(words: &[String]) -> Result<Count, String> {
 }
 
 fn main() -> ExitCode {
-    let words: Vec<String> = std::env::args().skip(1).collect();
-    if words.first().is_some_and(|word| word == "--help") {
-        println!("{HELP}");
-        return ExitCode::SUCCESS;
-    }
-    match asked(&words) {
-        Ok(Count { fills, edits, motions, differ, .. }) => {
-            println!("row table: {fills} fills, {edits} edits, {motions} motions of {}, {differ} differ", with_a_table().count());
-            ExitCode::from(u8::from(differ != 0))
-        }
-        Err(why) => {
-            eprintln!("row_table: {why}");
-            ExitCode::from(2)
-        }
-    }
+    options::program("row_table", HELP, |words| {
+        let Count { fills, edits, motions, differ: Differ(differ), .. } = asked(words)?;
+        println!("row table: {fills} fills, {edits} edits, {motions} motions of {}, {differ} differ", with_a_table().count());
+        Ok(differ == 0)
+    })
 }

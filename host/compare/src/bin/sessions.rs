@@ -1,5 +1,6 @@
 //! The proved session against the one over the given Rust, input by input. `./compare --sessions --help` says how.
 
+use compare::options;
 use oracle::generate::Dice;
 use oracle::session;
 use std::process::ExitCode;
@@ -37,19 +38,16 @@ fn run(input: &[u8], count: &mut Count) {
 
 fn asked(words: &[String]) -> Result<Count, String> {
     let (mut cases, mut seed, mut most) = (20_000, 1, None);
-    let mut words = words.iter();
-    while let Some(word) = words.next() {
-        let mut number = || {
-            let n = words.next().ok_or(format!("`{word}` wants a number"))?;
-            n.parse::<u64>().map_err(|_| format!("`{n}` is no number"))
-        };
-        match word.as_str() {
-            "--cases" => cases = number()?,
-            "--seed" => seed = number()?,
-            "--small" => most = Some(number()? as usize),
-            _ => return Err(format!("`{word}` is not known\n{HELP}")),
+    options::read(words, HELP, |word, behind| {
+        let shown = format!("`{word}`");
+        match word {
+            "--cases" => cases = behind.number(&shown)?,
+            "--seed" => seed = behind.number(&shown)?,
+            "--small" => most = Some(behind.number(&shown)? as usize),
+            _ => return Ok(false),
         }
-    }
+        Ok(true)
+    })?;
     let mut count = Count::default();
     session::limits().iter().for_each(|input| run(input, &mut count));
     (0..cases).for_each(|index| run(&session::random(&mut Dice::new(seed, index)), &mut count));
@@ -60,20 +58,9 @@ fn asked(words: &[String]) -> Result<Count, String> {
 }
 
 fn main() -> ExitCode {
-    let words: Vec<String> = std::env::args().skip(1).collect();
-    if words.first().is_some_and(|word| word == "--help") {
-        println!("{HELP}");
-        return ExitCode::SUCCESS;
-    }
-    match asked(&words) {
-        Ok(count) => {
-            let Count { cases, differ, bytes, longest, .. } = count;
-            println!("session {cases} cases, {differ} differ; {bytes} bytes printed, at most {longest} by one");
-            ExitCode::from(u8::from(differ != 0))
-        }
-        Err(why) => {
-            eprintln!("sessions: {why}");
-            ExitCode::from(2)
-        }
-    }
+    options::program("sessions", HELP, |words| {
+        let Count { cases, differ, bytes, longest, .. } = asked(words)?;
+        println!("session {cases} cases, {differ} differ; {bytes} bytes printed, at most {longest} by one");
+        Ok(differ == 0)
+    })
 }

@@ -265,7 +265,33 @@ fn second() -> Result<(), String> {
             println!("| {n} | `{key}` | {} | {} | {:.2} |", shown(with), shown(without), with / without);
         }
     }
+    let mut text = prose(SIZES[2].1, false);
+    let read = best(|| {
+        black_box(black_box(&text).iter().fold(0, |sum: u32, x| sum.wrapping_add(*x)));
+    });
+    let (with, _) = top(&text)?;
+    println!("\nAdding up the largest text's code points takes {}, `gg` with the table {}: {:.2} times that.", shown(read), shown(with), with / read);
+    text.iter_mut().skip(500).step_by(1000).filter(|x| **x != 10).for_each(|x| *x = 0x2191);
+    let (with, without) = top(&text)?;
+    println!("With an arrow in every thousandth place `gg` takes {} with the table, {} without: {:.2}.", shown(with), shown(without), with / without);
     Ok(())
+}
+
+/// `gg` from the last row of a text, with its table and without, in turn.
+fn top(text: &[u32]) -> Result<(f64, f64), String> {
+    let mut table = vec![0; text.len() + 1];
+    let content = tsivareza::row_starts(text, &mut table).map_err(|number| format!("a fill is refused with {number}"))?;
+    let rows = tsivareza::Rows { starts: &table, content };
+    let case = Case { text: text.to_vec(), caret: Caret::at(content - 1, 0), ..case(oracle::case::call("move_top")?, text.len(), 1) };
+    if port_rows(&case, rows, None) != Some(port(&case, None)) {
+        return Err("the answers differ on move_top".into());
+    }
+    let (mut with, mut without) = (f64::MAX, f64::MAX);
+    for _ in 0..5 {
+        with = with.min(best(|| drop(black_box(port_rows(black_box(&case), rows, None)))));
+        without = without.min(best(|| drop(black_box(port(black_box(&case), None)))));
+    }
+    Ok((with, without))
 }
 
 /// What could grow faster than the text: one row of many segments, and many folds over many rows.

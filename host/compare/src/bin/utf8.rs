@@ -1,5 +1,7 @@
 //! UTF-8 from and to code points against RFC 3629's tables and Rust's own `std::str`. `./compare --utf8 --help` says how.
 
+use compare::differ::Differ;
+use compare::options::{self, Cases};
 use oracle::generate::Dice;
 use oracle::utf8;
 use std::process::ExitCode;
@@ -26,19 +28,10 @@ struct Count {
     room: Room,
     decoded: u64,
     encoded: u64,
-    differ: u64,
+    differ: Differ,
 }
 
 impl Count {
-    fn told(&mut self, same: bool, what: impl FnOnce() -> String) {
-        if !same {
-            self.differ += 1;
-            if self.differ == 1 {
-                println!("differs: {}", what());
-            }
-        }
-    }
-
     /// Decodes with room for so many code points; the places past the answer are watched.
     fn decode(&mut self, input: &[u8], room: usize) {
         self.decoded += 1;
@@ -48,14 +41,14 @@ impl Count {
         let mut left = expected.clone().unwrap_or_default();
         left.resize(room, POINT);
         let wanted = expected.map(|t| t.len() as u32);
-        self.told((answer, &points) == (wanted, &left), || format!("decoding {input:02x?} into {room}: {answer:?}, and not {wanted:?}"));
+        self.differ.unless((answer, &points) == (wanted, &left), || format!("decoding {input:02x?} into {room}: {answer:?}, and not {wanted:?}"));
     }
 
     /// Decodes into enough room, exactly enough and one place too few.
     fn decode_all(&mut self, input: &[u8]) {
         let read = utf8::decoded(input);
         let std = utf8::by_std(input);
-        self.told(read == std, || format!("the tables on {input:02x?}: {read:?}, and std::str {std:?}"));
+        self.differ.unless(read == std, || format!("the tables on {input:02x?}: {read:?}, and std::str {std:?}"));
         let most = read.as_ref().map_or(input.len(), Vec::len);
         self.decode(input, most);
         self.decode(input, most + 1);
@@ -77,7 +70,7 @@ impl Count {
         let on_points = utf8_encode(points, &mut once);
         let on_bytes = self.room.utf8_encode(&bytes(points), &mut again);
         let same = (on_points, &once) == (wanted, &left) && (on_bytes, &again) == (wanted, &left);
-        self.told(same, || format!("encoding {points:x?} into {room}: {on_points:?} and {on_bytes:?}, and not {wanted:?}"));
+        self.differ.unless(same, || format!("encoding {points:x?} into {room}: {on_points:?} and {on_bytes:?}, and not {wanted:?}"));
     }
 
     fn encode_all(&mut self, points: &[u32]) {
@@ -110,7 +103,7 @@ fn scalars(count: &mut Count, step: usize) {
         count.encode_all(&[x]);
         if let Some(c) = char::from_u32(x) {
             let text = c.to_string();
-            count.told(utf8::encoded(x) == text.as_bytes(), || format!("the table on {x:x}"));
+            count.differ.unless(utf8::encoded(x) == text.as_bytes(), || format!("the table on {x:x}"));
             count.decode_all(text.as_bytes());
         }
     }
@@ -160,21 +153,8 @@ fn limits(count: &mut Count) {
 }
 
 fn asked(words: &[String]) -> Result<Count, String> {
-    let (mut cases, mut seed, mut short) = (20_000, 1, false);
-    let mut words = words.iter();
-    while let Some(word) = words.next() {
-        let mut number = || {
-            let n = words.next().ok_or(format!("`{word}` wants a number"))?;
-            n.parse::<u64>().map_err(|_| format!("`{n}` is no number"))
-        };
-        match word.as_str() {
-            "--cases" => cases = number()?,
-            "--seed" => seed = number()?,
-            "--short" => short = true,
-            _ => return Err(format!("`{word}` is not known\n{HELP}")),
-        }
-    }
-    let mut count = Count { room: Room::new(1_060_000), decoded: 0, encoded: 0, differ: 0 };
+    let Cases { cases, seed, short } = Cases { cases: 20_000, seed: 1, short: false }.read(words, HELP)?;
+    let mut count = Count { room: Room::new(1_060_000), decoded: 0, encoded: 0, differ: Differ::default() };
     let bytes: Vec<u8> = (0..=255).collect();
     for length in 0..=4 {
         let all = length < 3 || length == 3 && !short;
@@ -187,19 +167,9 @@ fn asked(words: &[String]) -> Result<Count, String> {
 }
 
 fn main() -> ExitCode {
-    let words: Vec<String> = std::env::args().skip(1).collect();
-    if words.first().is_some_and(|word| word == "--help") {
-        println!("{HELP}");
-        return ExitCode::SUCCESS;
-    }
-    match asked(&words) {
-        Ok(Count { decoded, encoded, differ, .. }) => {
-            println!("utf8 {decoded} decoded, {encoded} encoded, {differ} differ");
-            ExitCode::from(u8::from(differ != 0))
-        }
-        Err(why) => {
-            eprintln!("utf8: {why}");
-            ExitCode::from(2)
-        }
-    }
+    options::program("utf8", HELP, |words| {
+        let Count { decoded, encoded, differ: Differ(differ), .. } = asked(words)?;
+        println!("utf8 {decoded} decoded, {encoded} encoded, {differ} differ");
+        Ok(differ == 0)
+    })
 }

@@ -1,5 +1,6 @@
 //! Vim's own keyword lists against document 02's grammar, and against the stored answers of Vim. `./compare --vim --help` says how.
 
+use compare::options;
 use oracle::case::FILLER;
 use oracle::generate::{self, Dice, texts};
 use oracle::{points, vim};
@@ -176,18 +177,17 @@ fn answers(count: &mut Count, file: &str, room: &mut Room) -> Result<(), String>
 
 fn asked(words: &[String]) -> Result<Count, String> {
     let (mut cases, mut seed, mut small, mut file) = (20_000, 1, 4, None);
-    let mut words = words.iter();
-    while let Some(word) = words.next() {
-        let next = words.next().ok_or(format!("`{word}` is not known, or wants a value\n{HELP}"))?;
-        let number = || next.parse::<u64>().map_err(|_| format!("`{next}` is no number"));
-        match word.as_str() {
-            "--cases" => cases = number()?,
-            "--seed" => seed = number()?,
-            "--small" => small = number()? as usize,
+    options::read(words, HELP, |word, behind| {
+        let next = behind.word().ok_or(format!("`{word}` is not known, or wants a value\n{HELP}"))?;
+        match word {
+            "--cases" => cases = options::number(next)?,
+            "--seed" => seed = options::number(next)?,
+            "--small" => small = options::number(next)? as usize,
             "--against" => file = Some(std::fs::read_to_string(next).map_err(|why| format!("{next}: {why}"))?),
-            _ => return Err(format!("`{word}` is not known\n{HELP}")),
+            _ => return Ok(false),
         }
-    }
+        Ok(true)
+    })?;
     let (mut count, mut room) = (Count::default(), Room::new(2_000));
     if let Some(file) = file {
         answers(&mut count, &file, &mut room)?;
@@ -209,22 +209,12 @@ fn asked(words: &[String]) -> Result<Count, String> {
 }
 
 fn main() -> ExitCode {
-    let words: Vec<String> = std::env::args().skip(1).collect();
-    if words.first().is_some_and(|word| word == "--help") {
-        println!("{HELP}");
-        return ExitCode::SUCCESS;
-    }
-    match asked(&words) {
-        Ok(Count { lists, taken, calls, differ, asked, reasons }) => {
-            for (why, times) in reasons {
-                println!("as docs/DIFFERENCES.md has it, {why}: {times}");
-            }
-            println!("vim {lists} lists, {taken} taken, {asked} answers of Vim, {calls} calls, {differ} differ");
-            ExitCode::from(u8::from(differ != 0 || asked == 0))
+    options::program("vim", HELP, |words| {
+        let Count { lists, taken, calls, differ, asked, reasons } = asked(words)?;
+        for (why, times) in reasons {
+            println!("as docs/DIFFERENCES.md has it, {why}: {times}");
         }
-        Err(why) => {
-            eprintln!("vim: {why}");
-            ExitCode::from(2)
-        }
-    }
+        println!("vim {lists} lists, {taken} taken, {asked} answers of Vim, {calls} calls, {differ} differ");
+        Ok(differ == 0 && asked > 0)
+    })
 }
