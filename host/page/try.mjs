@@ -53,6 +53,10 @@ function send(method, params = {}) {
     return new Promise((good, bad) => waiting.set(id, [good, bad]));
 }
 const pause = (ms) => new Promise((done) => setTimeout(done, ms));
+// Waits for what the page does in its own time; after a minute the checks that follow say what is missing.
+async function until(there) {
+    for (const from = performance.now(); !(await there()) && performance.now() - from < 60000; ) await pause(50);
+}
 
 async function ask(expression) {
     const { result, exceptionDetails } = await send("Runtime.evaluate", { expression, awaitPromise: true, returnByValue: true });
@@ -88,14 +92,19 @@ async function write(id, value) {
 async function choose(id, value) {
     await ask(`(() => { const one = document.getElementById("${id}"); one.value = "${value}"; one.dispatchEvent(new Event("change", { bubbles: true })); })()`);
 }
+// What the page tells of a text that comes from outside, when it has come.
+async function telling(name, bring) {
+    await ask(`document.getElementById("told").textContent = ""`);
+    await bring();
+    await until(async () => (await text("told")).startsWith(`${name}:`));
+    return text("told");
+}
 async function openFile(name, bytes) {
     const path = join(room, name);
     writeFileSync(path, bytes);
     const { root } = await send("DOM.getDocument");
     const { nodeId } = await send("DOM.querySelector", { nodeId: root.nodeId, selector: "#file" });
-    await send("DOM.setFileInputFiles", { files: [path], nodeId });
-    for (let i = 0; i < 100 && !(await text("told")).startsWith(`${name}:`); i++) await pause(50);
-    return text("told");
+    return telling(name, () => send("DOM.setFileInputFiles", { files: [path], nodeId }));
 }
 
 // ── What the page shows ──
@@ -119,6 +128,9 @@ const drawn = () => ask(`(() => {
     }));
 })()`);
 
+// A scroll is told to the page in the next frame.
+const drawnAgain = () => ask("new Promise((done) => requestAnimationFrame(() => requestAnimationFrame(() => done(true))))");
+
 const pointsOf = (string) => Array.from(string, (c) => c.codePointAt(0));
 const rowsOf = (string) => string.split("\n");
 const call = (name, given) => engine.call(`tsivareza_${name}`, given);
@@ -132,8 +144,9 @@ async function run() {
     await send("Emulation.setDeviceMetricsOverride", { width: 1280, height: 900, deviceScaleFactor: 1, mobile: false });
     await send("Network.emulateNetworkConditions", { offline: true, latency: 0, downloadThroughput: 0, uploadThroughput: 0 });
     await send("Page.navigate", { url: `file://${resolve(page)}` });
-    for (let i = 0; i < 100 && (await ask("document.documentElement?.dataset.ready")) !== "yes"; i++) await pause(100);
-    check("the page is ready", await ask("document.documentElement?.dataset.ready"), "yes");
+    const ready = () => ask("document.documentElement?.dataset.ready");
+    await until(async () => (await ready()) === "yes");
+    check("the page is ready", await ready(), "yes");
 
     const first = readFileSync(new URL("start.txt", import.meta.url), "utf8");
     if (pictures) await picture("wide-light");
@@ -398,9 +411,8 @@ async function pastes(shown) {
     await ask(`document.getElementById("insert").select()`);
     await press("c", { modifiers: 2, commands: ["copy"] });
     await ask(`document.getElementById("view").focus()`);
-    await press("v", { modifiers: 2, commands: ["paste"] });
-    await pause(200);
-    check("what was pasted", await text("told"), `What was pasted: ${pointsOf(own).length} code points.`);
+    const told = await telling("What was pasted", () => press("v", { modifiers: 2, commands: ["paste"] }));
+    check("what was pasted", told, `What was pasted: ${pointsOf(own).length} code points.`);
     const seen = await drawn();
     check("rows that were pasted", seen.map((line) => line.text), rowsOf(own.replace("\t", "⇥")));
     await clickCell(2, 3);
@@ -413,9 +425,10 @@ async function pastes(shown) {
     writeFileSync(path, "déposé → ici\n");
     const { x, y } = await boxOf();
     const data = { items: [], files: [path], dragOperationsMask: 1 };
-    for (const kind of ["dragEnter", "dragOver", "drop"]) await send("Input.dispatchDragEvent", { type: kind, x: x + 80, y: y + 60, data });
-    await pause(300);
-    check("what was dropped", (await drawn())[0].text, "déposé → ici");
+    const dropped = await telling("dropped.txt", async () => {
+        for (const kind of ["dragEnter", "dragOver", "drop"]) await send("Input.dispatchDragEvent", { type: kind, x: x + 80, y: y + 60, data });
+    });
+    check("what was dropped", [dropped, (await drawn())[0].text], ["dropped.txt: 13 code points.", "déposé → ici"]);
     await click("start");
 }
 
@@ -502,7 +515,7 @@ async function million() {
         check(`the caret is in sight in ${name}, mode ${mode}`, (await drawn()).filter((line) => line.caret !== null).length, 1);
         await timed(async () => {
             await ask(`(() => { const v = document.getElementById("view"); v.scrollTop = v.scrollHeight / 2; })()`);
-            await pause(100);
+            await drawnAgain();
         });
         const lines = await drawn();
         check(`lines in sight of ${name}, mode ${mode}`, lines.length > 0 && lines.every((line) => line.text !== "" && line.text.length < 600), true);
