@@ -53,9 +53,10 @@ function send(method, params = {}) {
     return new Promise((good, bad) => waiting.set(id, [good, bad]));
 }
 const pause = (ms) => new Promise((done) => setTimeout(done, ms));
-// Waits for what the page does in its own time; after a minute the checks that follow say what is missing.
+// Waits for what the page does in its own time, for at most half a minute: is it there?
 async function until(there) {
-    for (const from = performance.now(); !(await there()) && performance.now() - from < 60000; ) await pause(50);
+    for (const from = performance.now(); performance.now() - from < 30000; await pause(50)) if (await there()) return true;
+    return false;
 }
 
 async function ask(expression) {
@@ -92,11 +93,14 @@ async function write(id, value) {
 async function choose(id, value) {
     await ask(`(() => { const one = document.getElementById("${id}"); one.value = "${value}"; one.dispatchEvent(new Event("change", { bubbles: true })); })()`);
 }
-// What the page tells of a text that comes from outside, when it has come.
+// What the page tells of a text that comes from outside, when it has come. One that the browser loses on the way is brought again, as a person does.
 async function telling(name, bring) {
     await ask(`document.getElementById("told").textContent = ""`);
-    await bring();
-    await until(async () => (await text("told")).startsWith(`${name}:`));
+    for (let times = 1; times <= 3; times++) {
+        await bring();
+        if (await until(async () => (await text("told")).startsWith(`${name}:`))) break;
+        console.log(`${name} was brought ${times} times, and the page tells nothing of it`);
+    }
     return text("told");
 }
 async function openFile(name, bytes) {
