@@ -12,6 +12,7 @@ pub mod KeyMoves
 pub mod Searches
 pub mod Trails
 pub mod Writing
+pub mod WordWrites
 pub mod Uprights
 pub mod Positions
 pub mod Sums

@@ -14,12 +14,14 @@ use Rattle.call_texts.specs.Viewports.{viewport}
 use Rattle.call_folds.specs.Terms.{word}
 use Rattle.call_folds.specs.Upright.{vertical}
 use Rattle.call_folds.specs.Kept.{screenKept}
-use Rattle.promises.specs.Positions.{plain, by-word, upright, edge, search, partner, standing, inSought, inPartner, positions}
+use Rattle.vim_words.specs.ByVim.{inVimList}
+use Rattle.promises.specs.Positions.{plain, by-word, by-vim, upright, edge, search, partner, standing, wordVim, inSought, inPartner, positions}
 use Rattle.promises.specs.Positions.{kept as remembers}
 use Rattle.promises.specs.Writes.{byRow, plainWrites, termWrites, uprightWrites, written, ends, lastOf, EveryPositionInside}
 use Rattle.promises.proofs.Landings.{edge-lands, kept-numbers-land}
 use Rattle.promises.proofs.Searches.{seek-sits, pair-sits}
-use Rattle.promises.proofs.Writing.{kept, once, by-row, plain-keeps, term-keeps}
+use Rattle.promises.proofs.Writing.{kept, once, by-row, plain-keeps}
+use Rattle.promises.proofs.WordWrites.{term-keeps, vim-keeps}
 use Rattle.promises.proofs.Uprights.{vertical-keeps}
 
 -- an answer with one position at most
@@ -42,6 +44,9 @@ every-inside (plain op n) k t =
     record { inside = by-kept .0; last = by-kept .1 }
 every-inside (by-word op big n folds list) k t =
     let by-kept = kept t (word op big n k t folds list) (λ c. termWrites op big n k t folds (kindOf (inList list) big)) (term-keeps t k n list big op folds) in
+    record { inside = by-kept .0; last = by-kept .1 }
+every-inside (by-vim op big n folds list) k t =
+    let by-kept = kept t (wordVim op big n k t folds list) (λ c. termWrites op big n k t folds (kindOf (inVimList list) big)) (vim-keeps t k n list big op folds) in
     record { inside = by-kept .0; last = by-kept .1 }
 every-inside (upright op mode width n tabstop folds) k t =
     let by-kept = kept t (vertical op mode width n tabstop k t folds) (uprightWrites op (modeOf mode) width n k t folds)

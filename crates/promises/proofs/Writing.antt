@@ -1,11 +1,6 @@
 -- What a motion by number writes stands in the text, and the last position written is that of its answer. Assumes nothing.
-use Rattle.lists.proofs.Kit.{_≡_, refl, List, [], Bool, true, false, cond, ℕ, ℕ-discrete, arith, eqb, leb, ne-eqb}
-use Rattle.text.specs.Text.{position}
+use Rattle.lists.proofs.Kit.{_≡_, refl, List, Bool, true, false, cond, ℕ, ℕ-discrete, arith, leb, ne-eqb}
 use Rattle.lists.specs.Rounds.{rounds}
-use Rattle.list_tokens.specs.Tokens.{inList}
-use Rattle.word_kinds.specs.Places.{kindOf}
-use Rattle.word_rounds.specs.declared.Motion.{Motion}
-use Rattle.word_rounds.specs.declared.Motion.the-variants.{Fwd, Back, End, EndBack}
 use Rattle.text.specs.declared.Position.{Position}
 use Rattle.positions.specs.Positions.{Inside}
 use Rattle.positions.proofs.Checks.{inside}
@@ -15,17 +10,14 @@ use Rattle.motions.specs.declared.Caret.{Caret}
 use Rattle.motions.specs.declared.Moved.{Moved}
 use Rattle.motions.specs.declared.Moved.the-variants.{To, Refused}
 use Rattle.motions.specs.Carets.{here, refusalOf, put, leads}
-use Rattle.motions.specs.WordMoves.{wordRefusal, wordCaret, moveWord}
-use Rattle.motions.proofs.Landing.{moving-to, caret-in}
-use Rattle.call_texts.specs.declared.Asked.{Asked}
+use Rattle.motions.proofs.Landing.{moving-to}
 use Rattle.call_texts.specs.Asks.{moveAs}
 use Rattle.call_texts.specs.Moves.{wayOf, motion}
-use Rattle.call_folds.specs.Terms.{wordOf, word}
 use Rattle.promises.specs.Positions.{AllIn, standing, inMoved}
-use Rattle.promises.specs.Trails.{trail, wordWrites}
-use Rattle.promises.specs.Writes.{writing, byRow, plainWrites, termWrites, ends, lastOf}
+use Rattle.promises.specs.Trails.{trail}
+use Rattle.promises.specs.Writes.{writing, byRow, plainWrites, ends, lastOf}
 use Rattle.promises.proofs.Landings.{either, motion-lands}
-use Rattle.promises.proofs.Trails.{trail-last, trail-in, word-last, word-in}
+use Rattle.promises.proofs.Trails.{trail-last, trail-in}
 
 -- the positions stand in the text, and the last is the caret's
 abbrev pub Fits : List ℕ → List Position → Caret → Type 0
@@ -95,26 +87,3 @@ module _ (t : List ℕ) where
           go (yes e) b = rw e space
           go (no a) (yes e) = rw e backspace
           go (no a) (no b) = other a b
-
-    -- word motions
-    module _ (list : List ℕ) (big : Bool) where
-      by-words : (folds : List ℕ) (m : Motion) (stop : Bool) →
-          Keeps t (moveWord t folds list big m stop n k) (λ c. wordWrites t folds (kindOf (inList list) big) big m stop n (position (k .row) (k .col)))
-      by-words folds m stop = record {
-        fits = moving-to (Fits t (wordWrites t folds (kindOf (inList list) big) big m stop n (position (k .row) (k .col)))) (wordRefusal t folds list k)
-            (wordCaret t folds (inList list) big m stop n k) (λ z.
-            let by-caret-in = caret-in t k _ _ z in (
-              word-in t folds (kindOf (inList list) big) big m stop n (position (k .row) (k .col))
-                  (record { in-row = by-caret-in .in-row; in-col = by-caret-in .in-col }),
-              word-last t folds (kindOf (inList list) big) big m stop n (position (k .row) (k .col)),
-            ));
-      }
-
-      pub term-keeps : (op : ℕ) (folds : List ℕ) → Keeps t (word op big n k t folds list) (λ c. termWrites op big n k t folds (kindOf (inList list) big))
-      unfolding word wordOf moveAs termWrites
-      term-keeps op folds =
-          let answer : Asked → Moved = λ a. moveAs a n k t folds list 0 in
-          both answer (eqb op 0) (by-words folds Fwd false) (both answer (eqb op 1) (by-words folds Back false)
-          (both answer (eqb op 2) (by-words folds End false) (both answer (eqb op 3) (by-words folds End true) (either
-          (λ (a : Asked). Keeps t (answer a) (λ c. wordWrites t [] (kindOf (inList list) big) big EndBack false n (position (k .row) (k .col)))) (eqb op 4) _ _
-          (by-words [] EndBack false) (refused 100 _)))))

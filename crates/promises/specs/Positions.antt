@@ -23,11 +23,16 @@ use Rattle.call_folds.specs.Terms.{word}
 use Rattle.call_texts.specs.Viewports.{viewport}
 use Rattle.call_folds.specs.Upright.{vertical}
 use Rattle.call_folds.specs.Kept.{screenKept}
+use Rattle.vim_words.specs.declared.VimMoved.{VimMoved}
+use Rattle.vim_words.specs.declared.VimMoved.the-variants.{To as VimMoved·To, Bad, Refused as VimMoved·Refused}
+use Rattle.call_classes.specs.ByTerm.{termOf}
+use Rattle.call_vim_words.specs.ByTerm.{byVimTerm}
 
 -- the calls by their argument lists, with all but the text and the caret
 pub data Call : Type 0 where
   plain : (op count : ℕ) → Call
   by-word : (op : ℕ) (big : Bool) (count : ℕ) (folds list : List ℕ) → Call
+  by-vim : (op : ℕ) (big : Bool) (count : ℕ) (folds list : List ℕ) → Call
   upright : (op mode width count tabstop : ℕ) (folds : List ℕ) → Call
   kept : (op mode width count tabstop : ℕ) (folds : List ℕ) → Call
   edge : (op top height offset : ℕ) → Call
@@ -36,6 +41,15 @@ pub data Call : Type 0 where
 
 abbrev pub standing : Caret → List Position
 standing k = here k ∷ []
+
+-- a word motion by a Vim list, without the place of 17
+abbrev pub placeless : VimMoved → Moved
+placeless (VimMoved·To k) = To k
+placeless (Bad p) = Refused 17
+placeless (VimMoved·Refused f) = Refused f
+
+abbrev pub wordVim : ℕ → Bool → ℕ → Caret → List ℕ → List ℕ → List ℕ → Moved
+wordVim op big count k t folds list = placeless (byVimTerm (termOf op) big count k t folds list)
 
 -- the positions in an answer: none in a refusal
 abbrev pub inMoved : Moved → List Position
@@ -60,6 +74,7 @@ inInner (Inner·Refused f) = []
 unfoldable pub positions : Call → Caret → List ℕ → List Position
 positions (plain op count) k t = inMoved (motion op count k t)
 positions (by-word op big count folds list) k t = inMoved (word op big count k t folds list)
+positions (by-vim op big count folds list) k t = inMoved (wordVim op big count k t folds list)
 positions (upright op mode width count tabstop folds) k t = inMoved (vertical op mode width count tabstop k t folds)
 positions (kept op mode width count tabstop folds) k t = inMoved (screenKept op mode width count tabstop k t folds)
 positions (edge op top height offset) k t = inMoved (viewport op top height offset k t)

@@ -31,7 +31,9 @@ use Rattle.call_texts.specs.Viewports.{viewport}
 use Rattle.call_folds.specs.Terms.{word}
 use Rattle.call_folds.specs.Upright.{vertical}
 use Rattle.call_folds.specs.Kept.{screenKept}
-use Rattle.promises.specs.Positions.{Call, plain, by-word, upright, kept, edge, search, partner, standing, inSought, inPartner, inInner, positions, AllIn}
+use Rattle.vim_words.specs.ByVim.{inVimList}
+use Rattle.promises.specs.Positions.{Call, plain, by-word, by-vim, upright, kept, edge, search, partner}
+use Rattle.promises.specs.Positions.{standing, wordVim, inSought, inPartner, inInner, positions, AllIn}
 use Rattle.promises.specs.Trails.{trail, wordWrites, screenWrites}
 
 -- of a call that is not refused, by the caret that it answers with
@@ -50,7 +52,7 @@ plainWrites op n k t c =
     (cond (eqb op 4) (trail (λ p. p) (backspaceBack t) (times n) (here k))
     (cond (leb 16 op) (byRow c) (standing c)))
 
--- the word motions, by the numbers of `word`
+-- the word motions, by the numbers of `word`, and the kinds of characters by their list
 unfoldable pub termWrites : ℕ → Bool → ℕ → Caret → List ℕ → List ℕ → (ℕ → ℕ) → List Position
 termWrites op big n k t folds kind =
     cond (eqb op 0) (wordWrites t folds kind big Fwd false n (position (k .row) (k .col)))
@@ -78,6 +80,7 @@ uprightWrites op mode width n k t folds c =
 unfoldable pub written : Call → Caret → List ℕ → List Position
 written (plain op n) k t = writing (motion op n k t) (plainWrites op n k t)
 written (by-word op big n folds list) k t = writing (word op big n k t folds list) (λ c. termWrites op big n k t folds (kindOf (inList list) big))
+written (by-vim op big n folds list) k t = writing (wordVim op big n k t folds list) (λ c. termWrites op big n k t folds (kindOf (inVimList list) big))
 written (upright op mode width n tabstop folds) k t =
     writing (vertical op mode width n tabstop k t folds) (uprightWrites op (modeOf mode) width n k t folds)
 written (kept op mode width n tabstop folds) k t = writing (screenKept op mode width n tabstop k t folds) standing
