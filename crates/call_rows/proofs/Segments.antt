@@ -1,8 +1,5 @@
 -- `wrap_segments` by the number of a mode, from what the call for that mode answers and leaves. Assumes nothing.
-use mathlib.Core.Path.{_≡_, ap, subst, _∙_}
-use mathlib.Core.List.{List}
-use Prim.Native.Nat.{ℕ, _≤_, _<_}
-use borrow.Author.Tests.{le-leb, lt-leb}
+use Rattle.lists.proofs.Kit.{_∙_, _≡_, ap, subst, List, _<_, _≤_, ℕ, le-leb, lt-leb}
 use Rattle.widths.specs.declared.Ambiguous.{Ambiguous}
 use Rattle.row_wrap.specs.declared.Wrap.{Wrap}
 use Rattle.row_wrap.specs.declared.Segments.{Segments}

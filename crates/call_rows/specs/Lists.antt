@@ -1,4 +1,4 @@
--- The replies of calls on a keyword list, by the number that stands for each. Cited by `call_rows::lists`. Assumes nothing.
+-- The replies of calls on a keyword list, by the number that stands for each. Cited by `call_rows::keyword_lists`. Assumes nothing.
 use Prim.Native.Nat.{ℕ}
 use mathlib.Core.List.{List}
 use mathlib.Core.Bool.{cond}

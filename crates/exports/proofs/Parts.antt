@@ -1,11 +1,6 @@
 -- What the checks of what a call on bytes is lent show of the parts of its room, and what is left of other lent places: `search parts` closes with
 -- these what such a call asks before it calls on code points. Assumes nothing.
-use mathlib.Core.Path.{_≡_, refl}
-use mathlib.Core.List.{List, [], _∷_}
-use Prim.Native.Nat.{ℕ, _+_, _-_, _/_, _≤_}
-use native.Mathlib.Omega.{arith}
-use lib.ListN.{length, take, drop}
-use borrow.Author.Needs.{needs}
+use Rattle.lists.proofs.Kit.{_≡_, refl, List, [], _∷_, _+_, _-_, _/_, _≤_, ℕ, arith, drop, length, take, needs}
 use Rattle.call_points.specs.Points.{points}
 use Rattle.call_bytes.specs.Reply.{answer, Filled, fitting}
 use Rattle.call_bytes.specs.Joined.{unfitAll, FilledThree}

@@ -13,16 +13,16 @@
 // code points stay at the start of the room, also where the call is refused, but for 101 and 102.
 mod characters;
 mod classes;
-mod edits;
+mod editing;
 mod encodings;
 mod fold_files;
 mod fold_rows;
 mod inners;
 mod jumping;
 mod kept;
-mod lists;
-mod motion_rows;
+mod keyword_lists;
 mod moves;
+mod moves_by_table;
 mod pairs;
 mod rows;
 mod runs;

@@ -1,8 +1,8 @@
 // The rounds of a word motion, and the motion from a row and a column to another. The examples are
 // of `if (n) {`, with the classes 0 0 2 1 0 1 2 1 4, small words and no folds.
 use crate::Turn;
-use crate::jumps::jump_back;
-use crate::jumps::jump_fwd;
+use crate::fold_jumps::jump_back;
+use crate::fold_jumps::jump_fwd;
 use fold_stretches::Stretch;
 use text::Position;
 use word_class_rows::content_of;

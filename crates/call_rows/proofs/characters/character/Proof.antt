@@ -1,5 +1,5 @@
 -- `character` meets its contract: it hands on the fact. Assumes nothing.
-use borrow.Author.Needs.{needs}
+use Rattle.lists.proofs.Kit.{needs}
 use Rattle.call_bytes.proofs.Replies.{replied-as}
 use Rattle.call_rows.proofs.characters.character.Statement.{statement}
 use Rattle.call_rows.proofs.characters.character.Tie as tie

@@ -1,7 +1,5 @@
 -- `characters::fact_of` meets its contract, arm by arm. Assumes nothing.
-use mathlib.Core.Path.{ap, _∙_}
-use borrow.Author.Needs.{needs}
-use borrow.Author.Tests.{ne-eqb}
+use Rattle.lists.proofs.Kit.{_∙_, ap, needs, ne-eqb}
 use Rattle.call_bytes.specs.declared.Told.the-variants.{Value}
 use Rattle.call_rows.specs.Characters.{fact, tested}
 use Rattle.call_bytes.specs.Reply.{bit}

@@ -1,6 +1,4 @@
-use mathlib.Core.Path.{sym, _∙_}
-use borrow.Author.Needs.{needs}
-use borrow.Author.Tests.{not-true, not-false}
+use Rattle.lists.proofs.Kit.{_∙_, sym, needs, not-false, not-true}
 use Rattle.call_rows.proofs.characters.tested.Statement.{statement}
 use Rattle.call_rows.proofs.characters.tested.Tie as tie
 

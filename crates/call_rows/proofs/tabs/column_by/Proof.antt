@@ -1,7 +1,5 @@
 -- `tabs::column_by` meets its contract, arm by arm. Assumes nothing.
-use mathlib.Core.Path.{ap, _∙_}
-use borrow.Author.Needs.{needs}
-use borrow.Author.Tests.{ne-eqb}
+use Rattle.lists.proofs.Kit.{_∙_, ap, needs, ne-eqb}
 use Rattle.call_rows.specs.Tabs.{toldColumn, tabColumnUnder}
 use Rattle.call_rows.proofs.tabs.column_by.Statement.{statement}
 use Rattle.call_rows.proofs.tabs.column_by.Tie as tie

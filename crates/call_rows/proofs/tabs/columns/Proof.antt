@@ -1,5 +1,5 @@
 -- `row_columns` meets its contract: it hands on what the operation answers. Assumes nothing.
-use borrow.Author.Needs.{needs}
+use Rattle.lists.proofs.Kit.{needs}
 use Rattle.call_bytes.proofs.Replies.{replied-as}
 use Rattle.call_rows.proofs.tabs.columns.Statement.{statement}
 use Rattle.call_rows.proofs.tabs.columns.Tie as tie

@@ -1,5 +1,5 @@
 -- `tabs::told_column` meets its contract, by the cases of the column. Assumes nothing.
-use borrow.Author.Needs.{needs}
+use Rattle.lists.proofs.Kit.{needs}
 use Rattle.call_rows.specs.Tabs.{toldColumn}
 use Rattle.call_rows.proofs.tabs.told_column.Statement.{statement}
 use Rattle.call_rows.proofs.tabs.told_column.Tie as tie

@@ -1,7 +1,5 @@
 -- `wraps::offset_by` meets its contract, arm by arm. Assumes nothing.
-use mathlib.Core.Path.{ap, _∙_}
-use borrow.Author.Needs.{needs}
-use borrow.Author.Tests.{ne-eqb}
+use Rattle.lists.proofs.Kit.{_∙_, ap, needs, ne-eqb}
 use Rattle.call_rows.specs.Tabs.{toldColumn}
 use Rattle.call_rows.specs.Wraps.{offsetUnder}
 use Rattle.call_rows.proofs.wraps.offset_by.Statement.{statement}

@@ -1,5 +1,5 @@
 -- `offsets` meets its contract: it hands on what the operation answers. Assumes nothing.
-use borrow.Author.Needs.{needs}
+use Rattle.lists.proofs.Kit.{needs}
 use Rattle.call_bytes.proofs.Replies.{replied-as}
 use Rattle.call_rows.proofs.wraps.offsets.Statement.{statement}
 use Rattle.call_rows.proofs.wraps.offsets.Tie as tie

@@ -1,6 +1,5 @@
 -- `segment_for_col` meets its contract: it hands on what `segment_for_col` answers. Assumes nothing.
-use mathlib.Core.Path.{ap, _∙_}
-use borrow.Author.Needs.{needs}
+use Rattle.lists.proofs.Kit.{_∙_, ap, needs}
 use Rattle.call_rows.specs.Wraps.{toldSegment}
 use Rattle.call_bytes.proofs.Replies.{replied-as}
 use Rattle.call_rows.proofs.wraps.segment_for_col.Statement.{statement}

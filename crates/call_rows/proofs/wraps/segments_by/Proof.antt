@@ -1,6 +1,5 @@
 -- `wraps::segments_by` meets its contract, mode by mode. Assumes nothing.
-use native.Mathlib.Omega.{arith}
-use borrow.Author.Needs.{needs}
+use Rattle.lists.proofs.Kit.{arith, needs}
 use Rattle.call_rows.specs.Wraps.{modeOf}
 use Rattle.call_rows.proofs.Segments.{segmented-by, segmented-none}
 use Rattle.call_rows.proofs.wraps.segments_by.Statement.{statement}

@@ -1,6 +1,5 @@
 -- `wraps::told_segment` meets its contract, by the cases of the answer. Assumes nothing.
-use borrow.Author.Needs.{needs}
-use borrow.Author.Tests.{le-leb, lt-leb}
+use Rattle.lists.proofs.Kit.{needs, le-leb, lt-leb}
 use Rattle.call_rows.specs.Wraps.{toldSegment}
 use Rattle.call_rows.proofs.wraps.told_segment.Statement.{statement}
 use Rattle.call_rows.proofs.wraps.told_segment.Tie as tie

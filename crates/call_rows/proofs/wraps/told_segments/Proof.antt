@@ -1,5 +1,5 @@
 -- `wraps::told_segments` meets its contract, by the cases of the answer. Assumes nothing.
-use borrow.Author.Needs.{needs}
+use Rattle.lists.proofs.Kit.{needs}
 use Rattle.call_rows.specs.Wraps.{toldSegments}
 use Rattle.call_rows.proofs.wraps.told_segments.Statement.{statement}
 use Rattle.call_rows.proofs.wraps.told_segments.Tie as tie

@@ -1,5 +1,5 @@
 -- `wrap_segments` meets its contract: it hands on what the mode's call answers. Assumes nothing.
-use borrow.Author.Needs.{needs}
+use Rattle.lists.proofs.Kit.{needs}
 use Rattle.call_bytes.proofs.Replies.{replied-as}
 use Rattle.call_rows.proofs.wraps.wrap_segments.Statement.{statement}
 use Rattle.call_rows.proofs.wraps.wrap_segments.Tie as tie

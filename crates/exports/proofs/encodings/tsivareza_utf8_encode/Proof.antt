@@ -1,7 +1,5 @@
 -- `tsivareza_utf8_encode` meets its contract: the room is filled, and the call on code points answers. Assumes nothing.
-use mathlib.Core.List.{List}
-use Prim.Native.Nat.{ℕ}
-use borrow.Author.Needs.{needs}
+use Rattle.lists.proofs.Kit.{List, ℕ, needs}
 use Rattle.call_utf8.specs.Utf8.{encodes}
 use Rattle.utf8.specs.Calls.{encodedIn}
 use Rattle.call_bytes.proofs.Replies.{answered-one, left-fit}

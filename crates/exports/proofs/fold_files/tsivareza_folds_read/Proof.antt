@@ -1,7 +1,5 @@
 -- `tsivareza_folds_read` meets its contract: the room is filled, and the call on code points answers. Assumes nothing.
-use mathlib.Core.List.{List}
-use Prim.Native.Nat.{ℕ}
-use borrow.Author.Needs.{needs}
+use Rattle.lists.proofs.Kit.{List, ℕ, needs}
 use Rattle.fold_reader.specs.Reading.{loadedIn}
 use Rattle.call_fold_file.specs.FoldFiles.{reads}
 use Rattle.call_bytes.proofs.Replies.{answered-one, left-fit}

@@ -1,8 +1,5 @@
 -- `tsivareza_folds_write` meets its contract: the room is filled, and the call on code points answers. Assumes nothing.
-use mathlib.Core.Path.{refl}
-use mathlib.Core.List.{List}
-use Prim.Native.Nat.{ℕ}
-use borrow.Author.Needs.{needs}
+use Rattle.lists.proofs.Kit.{refl, List, ℕ, needs}
 use Rattle.fold_writer.specs.Writing.{writtenIn}
 use Rattle.call_fold_file.specs.FoldFiles.{writes}
 use Rattle.call_bytes.proofs.Twos.{joined-two}

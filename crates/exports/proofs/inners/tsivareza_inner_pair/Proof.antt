@@ -1,5 +1,5 @@
 -- `tsivareza_inner_pair` meets its contract: the room is filled, and the call on code points answers. Assumes nothing.
-use borrow.Author.Needs.{needs}
+use Rattle.lists.proofs.Kit.{needs}
 use Rattle.call_texts.specs.Inners.{inner}
 use Rattle.call_bytes.proofs.Replies.{answered-one}
 use Rattle.exports.proofs.Parts.{parts}

@@ -1,7 +1,5 @@
 -- `tsivareza_without_plus` meets its contract: the room is filled, and the call on code points answers. Assumes nothing.
-use mathlib.Core.List.{List}
-use Prim.Native.Nat.{ℕ}
-use borrow.Author.Needs.{needs}
+use Rattle.lists.proofs.Kit.{List, ℕ, needs}
 use Rattle.call_bytes.specs.Reply.{told}
 use Rattle.list_signs.specs.Plain.{plainIn}
 use Rattle.call_signs.specs.Plain.{plainTold}

@@ -1,5 +1,5 @@
 -- `tsivareza_insert_rows` meets its contract: the room is filled, and the call on code points edits. Assumes nothing.
-use borrow.Author.Needs.{needs}
+use Rattle.lists.proofs.Kit.{needs}
 use Rattle.call_row_table.proofs.Filling.{keeps-unfit, keeps-done}
 use Rattle.exports.proofs.Parts.{parts}
 use Rattle.exports.proofs.tables.tsivareza_insert_rows.Statement.{statement}

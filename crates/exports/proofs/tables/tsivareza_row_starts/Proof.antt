@@ -1,5 +1,5 @@
 -- `tsivareza_row_starts` meets its contract: the room is filled, and the call on code points fills the table. Assumes nothing.
-use borrow.Author.Needs.{needs}
+use Rattle.lists.proofs.Kit.{needs}
 use Rattle.call_row_table.proofs.Filling.{fills-unfit, fills-done}
 use Rattle.exports.proofs.Parts.{parts}
 use Rattle.exports.proofs.tables.tsivareza_row_starts.Statement.{statement}

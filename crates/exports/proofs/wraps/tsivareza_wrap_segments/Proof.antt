@@ -1,7 +1,5 @@
 -- `tsivareza_wrap_segments` meets its contract: the room is filled, and the call on code points answers. Assumes nothing.
-use mathlib.Core.List.{List}
-use Prim.Native.Nat.{ℕ}
-use borrow.Author.Needs.{needs}
+use Rattle.lists.proofs.Kit.{List, ℕ, needs}
 use Rattle.call_bytes.specs.Reply.{told}
 use Rattle.call_rows.specs.Wraps.{segmented, segmentsLeft}
 use Rattle.call_bytes.proofs.Replies.{answered-one, left-fit}
