@@ -17,7 +17,7 @@ use Rattle.bracket_walks.proofs.Sides.{hands}
 use Rattle.bracket_inner.specs.declared.Inner.{Inner}
 use Rattle.bracket_inner.specs.declared.Inner.the-variants.{None, Refused}
 use Rattle.bracket_inner.specs.Inner.{paired, pairFrom, innerOpen}
-use Rattle.bracket_inner.specs.Walk.{Stays, standsAt}
+use Rattle.bracket_inner.specs.Walk.{Stays, OpenBefore, standsAt}
 use Rattle.bracket_inner.proofs.Search.{placed-there, placed-nowhere, placed-refuses}
 use Rattle.bracket_inner.proofs.Closed.{open-brief}
 use Rattle.bracket_inner.proofs.Walked.{on-open-found, on-open-none, no-open, no-close, pair-found}
@@ -73,17 +73,18 @@ module _ {t : List ℕ} {l : Line} {at : ℕ} {x : Position} {k : Kind} {o c : �
     is-open : getD t at 0 ≡ o
     is-open = eqb-true _ _ (both-so .1)
 
-    pub open-asked : Goes t (l .row) (l .start) (at + 1) 1 × Hands o c × (x .col ≤ 1048576)
-    open-asked = (
-      record {
-        stands = step-char (a .stays .stands) inside (λ n. own .open-char (sym is-open ∙ n));
-        short = a .stays .short;
-        deep = omega arith;
-        bound = omega arith;
-      },
-      own,
-      omega (arith, ap (λ (y : Position). y .col) (a .stays .place), a .stays .short, within),
-    )
+    pub open-asked : OpenBefore t l (at + 1) x o c
+    open-asked = record {
+      goes =
+          record {
+            stands = step-char (a .stays .stands) inside (λ n. own .open-char (sym is-open ∙ n));
+            short = a .stays .short;
+            deep = omega arith;
+            bound = omega arith;
+          };
+      hands = own;
+      brief = omega (arith, ap (λ (y : Position). y .col) (a .stays .place), a .stays .short, within);
+    }
 
     pub open-answer : {r : Inner} → r ≡ paired x (placed t (closeFrom o c t (at + 1) 1)) → r ≡ pairFrom t (innerOpen k t at)
     open-answer is = is ∙ rw (a .opens, a .closes, a .stays .place) (by-open k t at within inside (is-open ∙ a .opens))
@@ -98,8 +99,8 @@ module _ {t : List ℕ} {l : Line} {at : ℕ} {x : Position} {k : Kind} {o c : �
 
     module _ {b : Partner} (is : b ≡ placed t (openBelow o c t at 1)) where
       module _ {y : Position} (f : b ≡ There y) where
-        pub close-asked : Goes t (l .row) (l .start) at 1 × Hands o c × (y .col ≤ 1048576)
-        close-asked = (back-asked .0, own, open-brief t (a .stays .short) o c at within (sym is ∙ f))
+        pub close-asked : OpenBefore t l at y o c
+        close-asked = record { goes = back-asked .0; hands = own; brief = open-brief t (a .stays .short) o c at within (sym is ∙ f) }
 
         pub close-answer : {r : Inner} → r ≡ paired y (placed t (closeFrom o c t at 1)) → r ≡ pairFrom t (innerOpen k t at)
         close-answer so =

@@ -12,10 +12,9 @@ use text::Position;
 ghost use mathlib.Core.Path.{_≡_};
 ghost use Prim.Native.Nat.{_≤_};
 ghost use Rattle.bracket_walks.specs.Matching.{closeFrom, placed};
-ghost use Rattle.bracket_walks.specs.Walk.{Goes, Hands};
 ghost use Rattle.bracket_inner.specs.Inner.{after, ranges, paired, pairFrom, innerOpen};
 ghost use Rattle.bracket_inner.specs.Inner.{innerPair};
-ghost use Rattle.bracket_inner.specs.Walk.{Stays, standsAt};
+ghost use Rattle.bracket_inner.specs.Walk.{Stays, BriefPair, OpenBefore, standsAt};
 
 // The position one column on.
 fn next(p: Position) -> Position
@@ -30,7 +29,7 @@ fn next(p: Position) -> Position
 
 // The ranges of the pair with its open at `p` and its close at `q`.
 fn ranges_of(p: Position, q: Position) -> Ranges
-    requires { ⌜ (p .col ≤ 1048576) × (q .col ≤ 1048576) ⌝ }
+    requires { ⌜ BriefPair p q ⌝ }
     ensures { λ r. ⌜ r ≡ ranges p q ⌝ }
 {
     let from = next(p);
@@ -46,8 +45,7 @@ fn ranges_of(p: Position, q: Position) -> Ranges
 // The pair of the open at `p`, the last one that is open at the offset `at` of the row `l`; or none
 // where it is not closed from there on.
 fn closed(t: &[u32], l: Line, at: usize, p: Position, opening: u32, closing: u32) -> Inner
-    requires { ⌜ Goes (now t) (l .row) (l .start) at 1 × Hands opening closing × (p .col ≤ 1048576)
-        ⌝ }
+    requires { ⌜ OpenBefore (now t) l at p opening closing ⌝ }
     ensures { λ r. ⌜ r ≡ paired p (placed (now (t .entry))
         (closeFrom opening closing (now (t .entry)) at 1)) ⌝ }
 {

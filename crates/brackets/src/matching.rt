@@ -7,11 +7,10 @@ use bracket_walks::walks;
 use row_search::Found;
 use text::Line;
 ghost use mathlib.Core.Path.{_≡_};
-ghost use Rattle.text_check.specs.Accept.{textRefusal};
-ghost use Rattle.text.specs.Offsets.{Stands, IsLine};
+ghost use Rattle.text.specs.Offsets.{Stands};
 ghost use Rattle.brackets.specs.Matching.{matchingBracketPos};
 ghost use Rattle.brackets.specs.Walk.{columnOf};
-ghost use Rattle.brackets.specs.Find.{keyFrom};
+ghost use Rattle.brackets.specs.Find.{keyFrom, ClearLine};
 
 // The offset of a column of row `row`, which starts at `start`, or nothing where the row is too
 // short. It reads no further than the column.
@@ -59,7 +58,7 @@ pub fn matching_bracket_pos(t: &[u32], row: u32, col: u32) -> Partner
 // Where the % key goes to from a column of the row `l`, or none where it stays: the partner of the
 // first round, square or curly bracket at or after the column. The Rust's `match_bracket` does so.
 pub fn match_bracket_from(t: &[u32], l: Line, col: usize) -> Partner
-    requires { ⌜ (textRefusal (now t) ≡ 0) × IsLine (now t) l ⌝ }
+    requires { ⌜ ClearLine (now t) l ⌝ }
     ensures { λ r. ⌜ r ≡ keyFrom (now (t .entry)) (l .row) col ⌝ }
 {
     let f = find::first_bracket(text::offsets::row(t, l), col);

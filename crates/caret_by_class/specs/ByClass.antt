@@ -8,14 +8,15 @@ use Rattle.text_check.specs.Accept.{textRefusal}
 use Rattle.text.specs.Text.{rowCount}
 use Rattle.folds.specs.Folds.{foldRefusal}
 use Rattle.list_tokens.specs.Tokens.{inList}
+use Rattle.keywords.specs.declared.KeywordSpec.{KeywordSpec}
 use Rattle.keywords.specs.Table.{parseOf}
 use Rattle.positions.specs.Positions.{lowest}
 use Rattle.word_classes.specs.Call.{placesRefusal}
-use Rattle.word_classes.specs.Classes.{classesOf, holding}
+use Rattle.word_classes.specs.Classes.{classesOf, holding, Writable}
 use Rattle.word_rounds.specs.declared.Motion.{Motion}
 use Rattle.motions.specs.declared.Caret.{Caret}
 use Rattle.motions.specs.declared.Moved.{Moved}
-use Rattle.motions.specs.Carets.{caretRefusal, moving}
+use Rattle.motions.specs.Carets.{caretRefusal, moving, Inside}
 use Rattle.motions.specs.WordMoves.{wordCaret}
 
 -- the first engine's refusals, and then 14
@@ -26,6 +27,12 @@ classRefusal t folds list k room =
 -- the first engine's answer
 abbrev pub moveByClass : List ℕ → List ℕ → List ℕ → Bool → Motion → Bool → ℕ → Caret → List ℕ → Moved
 moveByClass t folds list big m stop count k room = moving (classRefusal t folds list k room) (wordCaret t folds (inList list) big m stop count k)
+
+-- what a motion requires: inputs that were accepted
+pub record Movable (t own : List ℕ) (spec : KeywordSpec) (k : Caret) (room : List ℕ) : Type 0 where
+  pub writable : Writable t spec room
+  pub inside : Inside t k
+  pub good : foldRefusal own (rowCount t) ≡ 0
 
 -- where a motion leads to, of inputs that were accepted: the first engine's caret, and the classes at the front of the slice
 pub record Written (t own : List ℕ) (word : ℕ → Bool) (big : Bool) (m : Motion) (stop : Bool) (count : ℕ) (k : Caret) (room : List ℕ) (r : Caret)

@@ -5,17 +5,13 @@ use motions::Moved;
 use text::Position;
 use word_rounds::Motion;
 ghost use mathlib.Core.Path.{_≡_};
-ghost use Prim.Native.Nat.{_≤_, _<_, _^_};
-ghost use lib.ListN.{length};
-ghost use Rattle.text_check.specs.Accept.{textRefusal};
-ghost use Rattle.text.specs.Text.{rowCount};
-ghost use Rattle.folds.specs.Folds.{foldRefusal};
+ghost use Prim.Native.Nat.{_<_, _^_};
 ghost use Rattle.list_tokens.specs.Tokens.{anyToken};
 ghost use Rattle.keywords.specs.Table.{kept};
 ghost use Rattle.word_classes.specs.Call.{slicedBy};
-ghost use Rattle.motions.specs.Carets.{Inside, placed};
+ghost use Rattle.motions.specs.Carets.{placed};
 ghost use Rattle.motions.specs.WordMoves.{foldsOf};
-ghost use Rattle.caret_by_class.specs.ByClass.{classRefusal, moveByClass, Written};
+ghost use Rattle.caret_by_class.specs.ByClass.{classRefusal, moveByClass, Movable, Written};
 
 // The caret at another row and column: its sticky column stays.
 fn placed(k: Caret, p: Position) -> Caret
@@ -39,9 +35,7 @@ fn by_classes(
     count: u32,
     classes: &mut [u8],
 ) -> Caret
-    requires { ⌜ (textRefusal (now t) ≡ 0) × Inside (now t) k ×
-        (foldRefusal (now own) (rowCount (now t)) ≡ 0) × (spec .len ≤ 128) ×
-        (length (now t) < length (now classes)) ⌝ }
+    requires { ⌜ Movable (now t) (now own) spec k (now classes) ⌝ }
     ensures { λ r. ⌜ Written (now (t .entry)) (now (own .entry)) (anyToken (kept spec)) big m stop
         count k (now (classes .entry)) r (now (classes .exit)) ⌝ }
 {

@@ -3,12 +3,10 @@
 use text::Line;
 use text::Position;
 ghost use mathlib.Core.Path.{_≡_};
-ghost use Prim.Native.Nat.{_≤_};
 ghost use lib.ListN.{length};
-ghost use Rattle.text.specs.Text.{rowCount};
-ghost use Rattle.text.specs.Offsets.{IsLine};
 ghost use Rattle.edit_checks.specs.Refusals.{lower, heldFolds, roomRefusal};
-ghost use Rattle.edit_checks.specs.Checks.{spotOf, refusedBy, stretchOf, checkOf};
+ghost use Rattle.edit_checks.specs.Checks.{spotOf, SoughtFrom, RowsOf};
+ghost use Rattle.edit_checks.specs.Checks.{refusedBy, stretchOf, checkOf};
 
 // The row of a position that stands in the text, or that it doesn't.
 pub enum Spot {
@@ -70,7 +68,7 @@ fn held_folds(folds: &[u32], count: usize, rows: usize) -> u32
 
 // The row of a position, sought from the row `from`, in a text of so many rows.
 fn spot_in(t: &[u32], rows: usize, from: Line, p: Position) -> Spot
-    requires { ⌜ IsLine (now t) from × (rows ≡ rowCount (now t)) ⌝ }
+    requires { ⌜ SoughtFrom (now t) rows from ⌝ }
     ensures { λ r. ⌜ r ≡ spotOf (now (t .entry)) p ⌝ }
 {
     if p.row >= rows {
@@ -87,7 +85,7 @@ fn spot_in(t: &[u32], rows: usize, from: Line, p: Position) -> Spot
 // The offsets of a stretch from p up to q; 11 where one of them stands outside the text, or q
 // before p.
 fn stretch(t: &[u32], rows: usize, p: Position, q: Position) -> Checked
-    requires { ⌜ (rows ≡ rowCount (now t)) × (length (now t) ≤ 1048576) ⌝ }
+    requires { ⌜ RowsOf (now t) rows ⌝ }
     ensures { λ r. ⌜ r ≡ stretchOf (now (t .entry)) p q ⌝ }
 {
     let first = Line { row: 0, start: 0 };

@@ -30,6 +30,17 @@ keptFolds f (s ∷ e ∷ closed ∷ folds) =
 pub record Raises (l : List ℕ) (n k : ℕ) : Type 0 where
   pub room : (i : ℕ) → i < n → getD l i 0 + k ≤ 4294967295
 
+-- what mapping a row requires: the rows of the stretch in order, and that the row can be raised
+pub record RowMaps (r1 r2 k x : ℕ) : Type 0 where
+  pub order : r1 ≤ r2
+  pub near : x + k ≤ 4294967295
+
+-- and mapping the rows of n folds
+pub record FoldsMap (folds : List ℕ) (n r1 r2 k : ℕ) : Type 0 where
+  pub order : r1 ≤ r2
+  pub fit : 3 * n ≤ length folds
+  pub raises : Raises folds (3 * n) k
+
 -- what `keep_folds` answers and leaves: how many of n folds are kept, and those at the front. The last follows
 pub record FoldsKept (f : ℕ → ℕ) (buf : List ℕ) (n r : ℕ) (buf′ : List ℕ) : Type 0 where
   pub count : length (keptFolds f (take (3 * n) buf)) ≡ 3 * r

@@ -2,17 +2,17 @@
 // 1), in the first 3 * n places of a buffer. From document 02, #102.
 ghost use mathlib.Core.Path.{_≡_};
 ghost use mathlib.Core.List.{[], _∷_};
-ghost use Prim.Native.Nat.{_+_, _*_, _≤_};
+ghost use Prim.Native.Nat.{_+_, _≤_};
 ghost use lib.ListN.{length};
 ghost use Rattle.edit_places.specs.Replaced.{Over};
-ghost use Rattle.edit_folds.specs.Folds.{mappedRow, isLost, Raises, FoldsKept};
-ghost use Rattle.edit_folds.specs.Folds.{FoldsMapped};
+ghost use Rattle.edit_folds.specs.Folds.{mappedRow, isLost, RowMaps, FoldsMap};
+ghost use Rattle.edit_folds.specs.Folds.{FoldsKept, FoldsMapped};
 
 // A row of the old text in the new one, where a stretch from row r1 to row r2 gives way to k
 // separators: up to r1 it stays, up to r2 it becomes r1, and behind r2 it moves up by r2 - r1 and
 // down by k.
 pub fn map_row(x: u32, r1: u32, r2: u32, k: u32) -> u32
-    requires { ⌜ (r1 ≤ r2) × (x + k ≤ 4294967295) ⌝ }
+    requires { ⌜ RowMaps r1 r2 k x ⌝ }
     ensures { λ r. ⌜ r ≡ mappedRow r1 r2 k x ⌝ }
 {
     if x <= r1 {
@@ -46,8 +46,7 @@ fn put_fold(folds: &mut [u32], at: usize, s: u32, e: u32, closed: u32)
 
 // Moves the folds that are kept to the front, their rows mapped; answers how many.
 fn keep_folds(folds: &mut [u32], n: usize, r1: u32, r2: u32, k: u32) -> usize
-    requires { ⌜ (r1 ≤ r2) × (3 * n ≤ length (now folds)) ⌝ }
-    requires { ⌜ Raises (now folds) (3 * n) k ⌝ }
+    requires { ⌜ FoldsMap (now folds) n r1 r2 k ⌝ }
     ensures { λ r. ⌜ FoldsKept (mappedRow r1 r2 k) (now (folds .entry)) n r (now (folds .exit)) ⌝ }
 {
     let mut w: usize = 0;
@@ -72,8 +71,7 @@ fn keep_folds(folds: &mut [u32], n: usize, r1: u32, r2: u32, k: u32) -> usize
 // Maps the rows of n folds, drops those whose differing ends become one, and writes zeros to the
 // freed places, the last of the old folds; answers how many are left. Their order stays.
 pub fn map_folds(folds: &mut [u32], n: usize, r1: u32, r2: u32, k: u32) -> usize
-    requires { ⌜ (r1 ≤ r2) × (3 * n ≤ length (now folds)) ⌝ }
-    requires { ⌜ Raises (now folds) (3 * n) k ⌝ }
+    requires { ⌜ FoldsMap (now folds) n r1 r2 k ⌝ }
     ensures { λ r. ⌜ FoldsMapped (mappedRow r1 r2 k) (now (folds .entry)) n r
         (now (folds .exit)) ⌝ }
 {

@@ -1,5 +1,5 @@
 -- The edit itself with its table, and the answer by the number that refuses. Assumes nothing.
-use Rattle.lists.proofs.Kit.{_≡_, sym, ap, _∙_, List, ℕ, _≤_, arith, length, take, eq-eqb, ne-eqb}
+use Rattle.lists.proofs.Kit.{_≡_, sym, ap, _∙_, List, ℕ, arith, length, take, eq-eqb, ne-eqb}
 use Rattle.text.specs.Text.{rowCount, contentRows}
 use Rattle.text.specs.declared.Position.{Position}
 use Rattle.motions.specs.declared.Caret.{Caret}
@@ -16,7 +16,7 @@ use Rattle.edit_rows.specs.declared.Kept.{Kept}
 use Rattle.edit_rows.specs.declared.Rows.{Rows}
 use Rattle.edit_rows.specs.declared.EditedRows.the-variants.{Done, Refused}
 use Rattle.edit_rows.specs.Rows.{rowsRefusal, refusalWith, answeredBy, KeepsTo}
-use Rattle.edit_rows.specs.Known.{Tabled, MakesRows}
+use Rattle.edit_rows.specs.Known.{Tabled, Counted, MakesRows}
 use Rattle.edit_rows.proofs.Refills.{refilled-holds, refilled-room}
 use Rattle.edit_rows.proofs.Tables.{first-there, second-there}
 
@@ -33,12 +33,13 @@ module _ {buf fold table : List ℕ} {s : Sizes} {at : Checked} {p q : Position}
   new-held = ap (take (left .sizes .len)) (m .text) ∙ refilled-holds buf (s .len) (newText buf s p q c) (left .sizes .len) (sym new-length)
 
   -- what the count of the rows with content asks for
-  pub content-asked : (left .sizes .len ≤ length buf′) × (left .sizes .len ≤ 1048576) × (rows .after ≡ rowCount (take (left .sizes .len) buf′))
-  content-asked = (
-    omega (arith, new-length, ap length (m .text), refilled-room buf (s .len) (newText buf s p q c)),
-    omega (arith, new-length, e .new-brief),
-    d .after-is ∙ ap rowCount (sym new-held),
-  )
+  pub content-asked : Counted buf′ (left .sizes .len) (rows .after)
+  content-asked =
+      record {
+        fits = omega (arith, new-length, ap length (m .text), refilled-room buf (s .len) (newText buf s p q c));
+        brief = omega (arith, new-length, e .new-brief);
+        rows-are = d .after-is ∙ ap rowCount (sym new-held);
+      }
 
   pub made-rows : {content : ℕ} {starts′ : List ℕ} → content ≡ contentRows (take (left .sizes .len) buf′) →
       Refilled table (rows .before) (keptStarts (take (rows .before) table) (p .row) (q .row) (at .from) (at .to) c) starts′ →

@@ -8,14 +8,11 @@ use motions::Caret;
 use text::Position;
 ghost use mathlib.Core.Path.{_≡_};
 ghost use mathlib.Core.List.{[]};
-ghost use Prim.Native.Nat.{_≤_};
-ghost use lib.ListN.{length, take};
-ghost use Rattle.text.specs.Text.{rowCount, contentRows};
+ghost use lib.ListN.{take};
+ghost use Rattle.text.specs.Text.{contentRows};
 ghost use Rattle.edit_positions.specs.After.{textAfter};
-ghost use Rattle.edits.specs.Edits.{newText};
-ghost use Rattle.edits.specs.Editable.{Editable};
 ghost use Rattle.edit_rows.specs.Rows.{KeepsTo};
-ghost use Rattle.edit_rows.specs.Known.{Stretch, RowsChecked, Tabled, MakesRows};
+ghost use Rattle.edit_rows.specs.Known.{Checkable, RowsChecked, Makeable, Counted, MakesRows};
 
 // What an accepted edit leaves: what it leaves without a table, and how many rows have content.
 pub struct Kept {
@@ -53,8 +50,7 @@ fn check_rows(
     q: Position,
     points: &[u32],
 ) -> Rows
-    requires { ⌜ Stretch (now text) len p q × (before ≡ rowCount (take len (now text))) ⌝ }
-    requires { ⌜ length (now points) ≤ 1048576 ⌝ }
+    requires { ⌜ Checkable (now text) len before p q (now points) ⌝ }
     ensures { λ r. ⌜ RowsChecked (take len (now (text .entry))) (now (starts .entry)) content
         (textAfter (take len (now (text .entry))) p q (now (points .entry))) r ⌝ }
 {
@@ -71,8 +67,7 @@ fn check_rows(
 
 // How many rows have content in a text of so many rows, the first `len` places of a buffer.
 fn content_in(text: &[u32], len: usize, rows: usize) -> u32
-    requires { ⌜ (len ≤ length (now text)) × (len ≤ 1048576) ×
-        (rows ≡ rowCount (take len (now text))) ⌝ }
+    requires { ⌜ Counted (now text) len rows ⌝ }
     ensures { λ r. ⌜ r ≡ contentRows (take len (now (text .entry))) ⌝ }
 {
     let t = &text[..len];
@@ -92,9 +87,7 @@ fn make_rows(
     points: &[u32],
     k: Caret,
 ) -> Kept
-    requires { ⌜ Editable (now text) (now folds) s at p q (now points) k ⌝ }
-    requires { ⌜ Tabled (take (s .len) (now text)) (now starts)
-        (newText (now text) s p q (now points)) rows ⌝ }
+    requires { ⌜ Makeable (now text) (now folds) (now starts) s at rows p q (now points) k ⌝ }
     ensures { λ r. ⌜ MakesRows (now (text .entry)) (now (folds .entry)) (now (starts .entry)) s p q
         (now (points .entry)) k r (now (text .exit)) (now (folds .exit)) (now (starts .exit)) ⌝ }
 {

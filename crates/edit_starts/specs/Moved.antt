@@ -18,6 +18,20 @@ keptStarts l r q a b c = take (r + 1) l ++ startsFrom a c ++ map (movedStart (b 
 pub record Moves (starts : List ℕ) (from to less more : ℕ) : Type 0 where
   pub room : (i : ℕ) → from ≤ i → i < to → (less ≤ getD starts i 0) × (getD starts i 0 + more ≤ 4294967295)
 
+-- and the places are of the table
+pub record Movable (starts : List ℕ) (from to less more : ℕ) : Type 0 where
+  pub order : from ≤ to
+  pub within : to ≤ length starts
+  pub moves : Moves starts from to less more
+
+-- the starts in the places from x up to y, of so many rows, can give way to those of c, put at the offset `at`
+pub record Replaceable (starts : List ℕ) (rows x y at : ℕ) (c : List ℕ) : Type 0 where
+  pub order : x ≤ y
+  pub last-row : y ≤ rows
+  pub fits : rows ≤ length starts
+  pub room : rows - (y - x) + rowCount c ≤ length starts + 1
+  pub near : at + length c ≤ 4294967295
+
 -- a table of so many rows whose starts can be kept in such an edit
 pub record Keepable (starts : List ℕ) (rows r q a b : ℕ) (c : List ℕ) : Type 0 where
   pub rows-order : r ≤ q

@@ -2,17 +2,15 @@
 // with their text, those of rows that are gone go, and those of new rows come. Freed places become
 // 0, and what lies behind the longer of the old and the new starts stays. From document 02, #106.
 ghost use mathlib.Core.List.{map};
-ghost use Prim.Native.Nat.{_+_, _-_, _≤_};
-ghost use lib.ListN.{length, take, drop};
-ghost use Rattle.text.specs.Text.{rowCount};
+ghost use lib.ListN.{take, drop};
 ghost use Rattle.edit_places.specs.Replaced.{replaced, Over, Refilled};
 ghost use Rattle.row_table.specs.Table.{startsFrom};
-ghost use Rattle.edit_starts.specs.Moved.{movedStart, keptStarts, Moves, Keepable};
+ghost use Rattle.edit_starts.specs.Moved.{movedStart, keptStarts};
+ghost use Rattle.edit_starts.specs.Moved.{Movable, Replaceable, Keepable};
 
 // Moves the starts in the places from `from` up to `to`: less `less`, and more by `more`.
 fn move_starts(starts: &mut [u32], from: usize, to: usize, less: u32, more: u32)
-    requires { ⌜ (from ≤ to) × (to ≤ length (now starts)) ⌝ }
-    requires { ⌜ Moves (now starts) from to less more ⌝ }
+    requires { ⌜ Movable (now starts) from to less more ⌝ }
     ensures { λ _. ⌜ Over (now (starts .entry)) from
         (map (movedStart less more) (drop from (take to (now (starts .entry)))))
         (now (starts .exit)) ⌝ }
@@ -29,9 +27,7 @@ fn move_starts(starts: &mut [u32], from: usize, to: usize, less: u32, more: u32)
 // The starts in the places from x up to y, of so many rows, give way to those of `points`, which
 // are put at the offset `at`.
 fn replace_starts(starts: &mut [u32], rows: usize, x: usize, y: usize, at: usize, points: &[u32])
-    requires { ⌜ (x ≤ y) × (y ≤ rows) × (rows ≤ length (now starts)) ⌝ }
-    requires { ⌜ (rows - (y - x) + rowCount (now points) ≤ length (now starts) + 1) ×
-        (at + length (now points) ≤ 4294967295) ⌝ }
+    requires { ⌜ Replaceable (now starts) rows x y at (now points) ⌝ }
     ensures { λ _. ⌜ Refilled (now (starts .entry)) rows
         (replaced (take rows (now (starts .entry))) x y (startsFrom at (now (points .entry))))
         (now (starts .exit)) ⌝ }

@@ -1,13 +1,11 @@
 // The folds of a file whose layout is whole.
 ghost use mathlib.Core.List.{[], _∷_};
-ghost use mathlib.Core.Bool.{false};
-ghost use mathlib.Core.Path.{_≡_};
-ghost use Prim.Native.Nat.{_+_, _*_, _≤_, _<_};
+ghost use Prim.Native.Nat.{_<_};
 ghost use lib.ListN.{length, drop};
 ghost use Rattle.print.specs.Print.{Wrote};
 ghost use Rattle.fold_blocks.specs.Bytes.{entryAt, entriesIn};
 ghost use Rattle.fold_blocks.specs.Listed.{foldsIn};
-ghost use Rattle.fold_blocks.specs.Layout.{isBroken};
+ghost use Rattle.fold_reader.specs.Rooms.{EntryRoom, EntriesRoom, FileRoom};
 
 // Puts a number into `out` at an index, and answers the next one.
 fn put(out: &mut [u32], at: usize, x: u32) -> usize
@@ -20,7 +18,7 @@ fn put(out: &mut [u32], at: usize, x: u32) -> usize
 
 // Puts the fold of the entry at an index of a block into `out`, and answers the next index of that.
 fn take_entry(block: &[u8], from: usize, out: &mut [u32], at: usize) -> usize
-    requires { ⌜ (from + 9 ≤ length (now block)) × (at + 3 ≤ length (now out)) ⌝ }
+    requires { ⌜ EntryRoom (now block) from (now out) at ⌝ }
     ensures { λ r. ⌜ Wrote (now (out .entry)) at (entryAt (now (block .entry)) from) r
         (now (out .exit)) ⌝ }
 {
@@ -34,7 +32,7 @@ fn take_entry(block: &[u8], from: usize, out: &mut [u32], at: usize) -> usize
 
 // Puts the folds of the first `count` entries of a block into `out` from an index on.
 fn take_entries(block: &[u8], count: usize, out: &mut [u32], at: usize) -> usize
-    requires { ⌜ (4 + 9 * count ≤ length (now block)) × (at + 3 * count ≤ length (now out)) ⌝ }
+    requires { ⌜ EntriesRoom (now block) count (now out) at ⌝ }
     ensures { λ r. ⌜ Wrote (now (out .entry)) at (entriesIn count (drop 4 (now (block .entry)))) r
         (now (out .exit)) ⌝ }
 {
@@ -49,8 +47,7 @@ fn take_entries(block: &[u8], count: usize, out: &mut [u32], at: usize) -> usize
 
 // Puts the folds of all blocks at the start of `out`, and answers how many numbers they are.
 pub fn take_all(file: &[u8], out: &mut [u32]) -> usize
-    requires { ⌜ isBroken (now file) ≡ false ⌝ }
-    requires { ⌜ length (foldsIn (now file)) ≤ length (now out) ⌝ }
+    requires { ⌜ FileRoom (now file) (now out) ⌝ }
     ensures { λ r. ⌜ Wrote (now (out .entry)) 0 (foldsIn (now (file .entry))) r
         (now (out .exit)) ⌝ }
 {

@@ -6,6 +6,7 @@ ghost use Rattle.lists.specs.Lists.{any};
 ghost use Rattle.fold_blocks.specs.Listed.{blocksOf, countAll};
 ghost use Rattle.fold_blocks.specs.Layout.{isUncut, isTorn, isUsed, isBroken, layoutRefusal};
 ghost use Rattle.fold_blocks.specs.Layout.{breaks as Layout·breaks};
+ghost use Rattle.fold_reader.specs.Rooms.{BlockAt};
 
 // Whether a length isn't that of 1 to 5 blocks.
 fn uncut(file: &[u8]) -> bool
@@ -54,7 +55,7 @@ fn used(bytes: &[u8]) -> bool
 
 // Whether block k of so many, in a file of n folds, breaks a rule of the layout.
 fn breaks(block: &[u8], many: usize, n: usize, k: usize) -> bool
-    requires { ⌜ (length (now block) ≡ 512) × (k ≤ 5) ⌝ }
+    requires { ⌜ BlockAt (now block) k ⌝ }
     ensures { λ r. ⌜ r ≡ Layout·breaks many n k (now (block .entry)) ⌝ }
 {
     if fold_blocks::two_at(block, 0) != k {

@@ -37,12 +37,14 @@ module _ {w : Stretch} {s e closed : ℕ} where
 
 -- the folds before i hide no row of the stretch
 pub record NoFoldTo (folds : List ℕ) (w : Stretch) (i : ℕ) : Type 0 where
+  pub inside : i ≤ length folds + 2
   pub shown : (row : ℕ) → w .lo ≤ row → row ≤ w .hi → hidden folds row ≡ anyFold (foldHides row) (drop i folds)
 
 module _ {folds : List ℕ} {w : Stretch} {i : ℕ} (so-far : NoFoldTo folds w i) where
   pub no-fold-step : {r : Stretch} → i + 2 < length folds → Apart w (getD folds i 0) (getD folds (i + 1) 0) (getD folds (i + 2) 0) r → NoFoldTo folds r (i + 3)
   no-fold-step h a =
       record {
+        inside = omega arith;
         shown = λ row p q. so-far .shown row (omega (arith, a .low)) (omega (arith, a .high)) ∙ any-fold-on folds i h (foldHides row) ∙ rw (a .shown row p q);
       }
 

@@ -80,3 +80,12 @@ pub record Prints (s : List ℕ) (r : ℕ) (out : List ℕ) : Type 0 where
   pub front : take r out ≡ s
   pub within : r ≤ length out
   pub counts : r ≡ length (take r out)
+
+-- the room for what is printed, beside the numbers of folds and beside the bytes of an input
+pub record FoldRoom (folds out : List ℕ) : Type 0 where
+  pub few : length folds ≤ 768
+  pub room : length out ≡ 8450
+
+pub record InputRoom (bytes out : List ℕ) : Type 0 where
+  pub brief : length bytes ≤ 32768
+  pub room : length out ≡ 8450

@@ -10,11 +10,10 @@ use print::put_decimal;
 use replay_rows::Numbers;
 use utf8::Checked;
 ghost use mathlib.Core.Path.{_≡_};
-ghost use Prim.Native.Nat.{_≤_};
 ghost use lib.ListN.{length};
 ghost use Rattle.print.specs.Print.{Wrote};
 ghost use Rattle.fold_trial.specs.Runs.{unread, refusalRow, foldRow, fileShown, foldsShown};
-ghost use Rattle.fold_trial.specs.Runs.{storeIn, loadIn, byKey, runOf, Prints};
+ghost use Rattle.fold_trial.specs.Runs.{storeIn, loadIn, byKey, runOf, Prints, FoldRoom, InputRoom};
 
 // What an input prints that can't be read.
 fn not_read(out: &mut [u8]) -> usize
@@ -36,7 +35,7 @@ fn refuse(out: &mut [u8], f: u32) -> usize
 
 // The row of folds: `w`, and each number behind a space.
 fn put_folds(out: &mut [u8], folds: &[u32]) -> usize
-    requires { ⌜ (length (now folds) ≤ 768) × (length (now out) ≡ 8450) ⌝ }
+    requires { ⌜ FoldRoom (now folds) (now out) ⌝ }
     ensures { λ r. ⌜ Wrote (now (out .entry)) 0 (foldRow (now (folds .entry))) r
         (now (out .exit)) ⌝ }
 {
@@ -80,7 +79,7 @@ fn load(text: &[u32], file: &[u8], out: &mut [u8]) -> usize
 
 // The file of folds over a text in UTF-8.
 fn store_in(bytes: &[u8], folds: &[u32], out: &mut [u8]) -> usize
-    requires { ⌜ (length (now bytes) ≤ 32768) × (length (now out) ≡ 8450) ⌝ }
+    requires { ⌜ InputRoom (now bytes) (now out) ⌝ }
     ensures { λ r. ⌜ Prints (storeIn (now (bytes .entry)) (now (folds .entry))) r
         (now (out .exit)) ⌝ }
 {
@@ -96,7 +95,7 @@ fn store_in(bytes: &[u8], folds: &[u32], out: &mut [u8]) -> usize
 
 // The folds of a file of n bytes over the text in UTF-8 behind it.
 fn load_in(bytes: &[u8], n: usize, out: &mut [u8]) -> usize
-    requires { ⌜ (length (now bytes) ≤ 32768) × (length (now out) ≡ 8450) ⌝ }
+    requires { ⌜ InputRoom (now bytes) (now out) ⌝ }
     ensures { λ r. ⌜ Prints (loadIn n (now (bytes .entry))) r (now (out .exit)) ⌝ }
 {
     if n > bytes.len() {
@@ -114,7 +113,7 @@ fn load_in(bytes: &[u8], n: usize, out: &mut [u8]) -> usize
 
 // By the first byte of an input, the numbers of its first row, and what stands behind that.
 fn by_key(key: u8, numbers: &[u32], bytes: &[u8], out: &mut [u8]) -> usize
-    requires { ⌜ (length (now bytes) ≤ 32768) × (length (now out) ≡ 8450) ⌝ }
+    requires { ⌜ InputRoom (now bytes) (now out) ⌝ }
     ensures { λ r. ⌜ Prints (byKey key (now (numbers .entry)) (now (bytes .entry))) r
         (now (out .exit)) ⌝ }
 {

@@ -10,7 +10,7 @@ use Rattle.text_check.specs.Accept.{textRefusal}
 use Rattle.text.specs.Text.{rowCount}
 use Rattle.positions.specs.Positions.{lowest as firstOf}
 use Rattle.folds.specs.Folds.{foldRefusal}
-use Rattle.fold_blocks.specs.Files.{fileOf}
+use Rattle.fold_blocks.specs.Files.{countIn, fileOf}
 use Rattle.fold_blocks.specs.Layout.{roomRefusal}
 use Rattle.fold_writer.specs.declared.Written.{Written}
 use Rattle.fold_writer.specs.declared.Written.the-variants.{Bytes, Refused}
@@ -33,6 +33,16 @@ writtenIn t folds file =
 pub record WritesTo (t folds file : List ℕ) (r : Written) (file′ : List ℕ) : Type 0 where
   pub answer : r ≡ written t folds (length file)
   pub left : file′ ≡ writtenIn t folds file
+
+-- the folds of one block, and room for its first n bytes from an index on
+pub record PartRoom (folds : List ℕ) (n at : ℕ) (out : List ℕ) : Type 0 where
+  pub few : length folds ≤ 168
+  pub room : at + n ≤ length out
+
+-- the folds of a file, and room for all of it
+pub record FileRoom (folds out : List ℕ) : Type 0 where
+  pub few : countIn folds ≤ 256
+  pub room : length (fileOf folds) ≤ length out
 
 -- r is where the folds of a block end that begin at an index: 56 of them, or as far as they go
 pub record Ends (from len r : ℕ) : Type 0 where

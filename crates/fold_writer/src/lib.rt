@@ -6,7 +6,7 @@ ghost use lib.ListN.{length, replicate};
 ghost use Rattle.print.specs.Print.{Wrote};
 ghost use Rattle.fold_blocks.specs.Bytes.{entries};
 ghost use Rattle.fold_blocks.specs.Files.{body, block, blocksFor, countIn, fileOf};
-ghost use Rattle.fold_writer.specs.Writing.{Ends, WritesTo};
+ghost use Rattle.fold_writer.specs.Writing.{PartRoom, FileRoom, Ends, WritesTo};
 
 // The answer of the writer: how many bytes it wrote, or the number that it refuses with.
 pub enum Written {
@@ -44,7 +44,7 @@ fn put_zeros(out: &mut [u8], at: usize, n: usize) -> usize
 
 // Writes the first 510 bytes of block k of a file of n folds, with these folds in it.
 fn put_body(out: &mut [u8], at: usize, n: usize, k: usize, folds: &[u32]) -> usize
-    requires { ⌜ (length (now folds) ≤ 168) × (at + 510 ≤ length (now out)) ⌝ }
+    requires { ⌜ PartRoom (now folds) 510 at (now out) ⌝ }
     ensures { λ r. ⌜ Wrote (now (out .entry)) at (body n k (now (folds .entry))) r
         (now (out .exit)) ⌝ }
 {
@@ -58,7 +58,7 @@ fn put_body(out: &mut [u8], at: usize, n: usize, k: usize, folds: &[u32]) -> usi
 
 // Writes the whole block: the sum of those bytes comes behind them.
 fn put_block(out: &mut [u8], at: usize, n: usize, k: usize, folds: &[u32]) -> usize
-    requires { ⌜ (length (now folds) ≤ 168) × (at + 512 ≤ length (now out)) ⌝ }
+    requires { ⌜ PartRoom (now folds) 512 at (now out) ⌝ }
     ensures { λ r. ⌜ Wrote (now (out .entry)) at (block n k (now (folds .entry))) r
         (now (out .exit)) ⌝ }
 {
@@ -91,8 +91,7 @@ fn end_of(from: usize, len: usize) -> usize
 
 // Writes the file of folds at the start of `out`, and answers where it ends.
 fn put_blocks(out: &mut [u8], folds: &[u32]) -> usize
-    requires { ⌜ countIn (now folds) ≤ 256 ⌝ }
-    requires { ⌜ length (fileOf (now folds)) ≤ length (now out) ⌝ }
+    requires { ⌜ FileRoom (now folds) (now out) ⌝ }
     ensures { λ r. ⌜ Wrote (now (out .entry)) 0 (fileOf (now (folds .entry))) r
         (now (out .exit)) ⌝ }
 {

@@ -14,7 +14,8 @@ use Rattle.motions.specs.declared.Caret.{Caret}
 use Rattle.motions.specs.declared.Moved.the-variants.{To, Refused}
 use Rattle.motions.specs.Carets.{here, put, caretRefusal, moving}
 use Rattle.jumps.specs.Jumps.{placesAfter, caretAtEnd, kindRefusal, answerRefusal, lateRefusal, jumpsRefusal, JumpsTo}
-use Rattle.jumps.specs.Leaps.{leapPlaces, leapEnd, Course}
+use Rattle.jumps.specs.Leaps.{leapPlaces, leapEnd}
+use Rattle.jumps.specs.Footings.{Course}
 use Rattle.jumps.proofs.Single.{places-in-turn, caret-in-turn}
 use Rattle.jumps.proofs.Running.{places-length}
 use Rattle.jumps.proofs.Late.{lowest-back, lowest-front}

@@ -5,11 +5,11 @@ use Rattle.text_check.specs.Accept.{textRefusal}
 use Rattle.text.specs.Text.{rowCount}
 use Rattle.row_table.specs.Table.{tableRefusal}
 use Rattle.row_entries.proofs.Rows.{table-held}
-use Rattle.positions.specs.Positions
 use Rattle.positions.specs.Positions.{lowest}
 use Rattle.positions.proofs.Lowest.{lowest-none}
 use Rattle.jumps.specs.Jumps.{kindRefusal, answerRefusal, lateRefusal}
-use Rattle.jumps.specs.Leaps.{IsTable, Course}
+use Rattle.jumps.specs.Leaps.{IsTable}
+use Rattle.jumps.specs.Footings.{Course}
 
 -- refusals of two parts of a list
 pub lowest-front : (l r : List ℕ) → (lowest l ≡ 0 → ⊥) → lowest (l ++ r) ≡ lowest l

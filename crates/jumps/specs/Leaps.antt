@@ -1,11 +1,10 @@
 -- Jumps on positions, where nothing is refused: what the loop goes by. Definitions only. Long by its kinds: each jump in one place. Assumes nothing.
-use Prim.Native.Nat.{ℕ, _+_, _≤_}
+use Prim.Native.Nat.{ℕ, _+_}
 use mathlib.Core.Path.{_≡_}
 use mathlib.Core.List.{List, [], _∷_}
 use mathlib.Core.Bool.{false, cond}
 use lib.Dec.{eqb}
-use lib.ListN.{length, getD, take, set}
-use Rattle.text_check.specs.Accept.{textRefusal}
+use lib.ListN.{getD, take, set}
 use Rattle.text.specs.Text.{rowCount}
 use Rattle.text.specs.declared.Position.{Position}
 use Rattle.bracket_walks.specs.declared.Partner.{Partner}
@@ -15,16 +14,13 @@ use Rattle.fold_stretches.specs.Stretches.{NoFold}
 use Rattle.row_table.specs.Table.{rowStarts}
 use Rattle.edit_places.specs.Replaced.{Over}
 use Rattle.word_kinds.specs.declared.Spot.{Spot}
-use Rattle.word_kinds.specs.declared.Setting.{Setting}
 use Rattle.word_kinds.specs.Spots.{placeOf, Lands}
 use Rattle.word_rounds.specs.declared.Motion.{Motion}
 use Rattle.word_rounds.specs.declared.Motion.the-variants.{Fwd, Back, End}
 use Rattle.word_rounds.specs.Rounds.{wordMotion}
-use Rattle.word_rounds.specs.Turns.{Set}
 use Rattle.words.specs.declared.Walked.{Walked}
 use Rattle.motions.specs.declared.Caret.{Caret}
 use Rattle.motions.specs.Carets.{here, put}
-use Rattle.jumps.specs.Jumps.{kindRefusal}
 
 -- the word motion of a kind
 unfoldable pub motionOf : ℕ → Motion
@@ -79,15 +75,3 @@ pub record Ran (t folds : List ℕ) (class : ℕ → ℕ) (jumps answers : List 
 pub record RanFrom (t folds : List ℕ) (class : ℕ → ℕ) (jumps answers : List ℕ) (k r : Caret) (answers′ : List ℕ) : Type 0 where
   pub caret : r ≡ put k (leapEnd t folds class jumps (here k))
   pub left : Over answers 0 (leapPlaces t folds class jumps (here k)) answers′
-
--- what jumps from a place require: a text that is accepted with its table, and what a round of small words requires
-pub record Footing (t table folds bounds starts lengths : List ℕ) (s : Setting) (p : Spot) : Type 0 where
-  pub clear : textRefusal t ≡ 0
-  pub tabled : IsTable t table
-  pub small : s .big ≡ false
-  pub round : Set t folds bounds starts lengths s p
-
--- and of their list and the places for their answers
-pub record Course (jumps answers : List ℕ) : Type 0 where
-  pub kinds : kindRefusal jumps ≡ 0
-  pub room : length jumps ≤ length answers

@@ -1,2 +1,3 @@
 pub mod Jumps
 pub mod Leaps
+pub mod Footings

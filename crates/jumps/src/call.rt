@@ -8,17 +8,14 @@ use positions::Entry;
 use word_kinds::Spot;
 ghost use mathlib.Core.Path.{_≡_};
 ghost use mathlib.Core.Bool.{false};
-ghost use Prim.Native.Nat.{_≤_};
-ghost use Rattle.text_check.specs.Accept.{textRefusal};
 ghost use Rattle.text.specs.Text.{rowCount};
-ghost use Rattle.folds.specs.Folds.{foldRefusal};
-ghost use Rattle.positions.specs.Positions.{Accepted};
 ghost use Rattle.list_tokens.specs.Tokens.{anyToken};
 ghost use Rattle.keywords.specs.Table.{kept};
 ghost use Rattle.word_kinds.specs.Places.{kindOf};
-ghost use Rattle.word_kinds.specs.Spots.{placeOf, IsSpot};
-ghost use Rattle.motions.specs.Carets.{here, put};
-ghost use Rattle.jumps.specs.Leaps.{IsTable, Course, RanFrom};
+ghost use Rattle.word_kinds.specs.Spots.{placeOf};
+ghost use Rattle.motions.specs.Carets.{put};
+ghost use Rattle.jumps.specs.Leaps.{RanFrom};
+ghost use Rattle.jumps.specs.Footings.{TabledSpot, CaretFooting};
 ghost use Rattle.jumps.specs.Jumps.{kindRefusal, lateRefusal, JumpsTo};
 ghost use Rattle.jumps.specs.Jumps.{answerRefusal as Jumps·answerRefusal};
 
@@ -77,7 +74,7 @@ fn late_refusal(
 
 // The caret at a spot, by the table: the sticky column is the caret's that came.
 fn caret_of(k: Caret, t: &[u32], table: &[u32], r: Spot) -> Caret
-    requires { ⌜ (textRefusal (now t) ≡ 0) × IsTable (now t) (now table) × IsSpot (now t) r ⌝ }
+    requires { ⌜ TabledSpot (now t) (now table) r ⌝ }
     ensures { λ c. ⌜ c ≡ put k (placeOf (now (t .entry)) r) ⌝ }
 {
     let start = start_of(t, table, r.row);
@@ -96,9 +93,8 @@ fn to_end(
     jumps: &[u32],
     answers: &mut [u32],
 ) -> Caret
-    requires { ⌜ (textRefusal (now t) ≡ 0) × Accepted (now t) (here k) e ×
-        (foldRefusal (now folds) (rowCount (now t)) ≡ 0) × (spec .len ≤ 128) ×
-        IsTable (now t) (now starts) × Course (now jumps) (now answers) ⌝ }
+    requires { ⌜ CaretFooting (now t) (now starts) (now folds) spec k e (now jumps)
+        (now answers) ⌝ }
     ensures { λ r. ⌜ RanFrom (now (t .entry)) (now (folds .entry))
         (kindOf (anyToken (kept spec)) false) (now (jumps .entry)) (now (answers .entry)) k r
         (now (answers .exit)) ⌝ }

@@ -8,16 +8,13 @@ use word_kinds::Spot;
 use word_rounds::Motion;
 use words::Walked;
 ghost use mathlib.Core.Path.{_≡_};
-ghost use Prim.Native.Nat.{max, _<_};
-ghost use Rattle.text_check.specs.Accept.{textRefusal};
-ghost use Rattle.text.specs.Text.{rowCount};
+ghost use Prim.Native.Nat.{max};
 ghost use Rattle.text.specs.Offsets.{rowStart};
-ghost use Rattle.positions.specs.Positions.{Inside};
 ghost use Rattle.brackets.specs.Find.{keyFrom};
-ghost use Rattle.fold_stretches.specs.Stretches.{NoFold};
-ghost use Rattle.word_kinds.specs.Spots.{placeOf, IsSpot, Lands};
+ghost use Rattle.word_kinds.specs.Spots.{placeOf, Lands};
 ghost use Rattle.word_kinds.specs.Lent.{kindBy};
-ghost use Rattle.jumps.specs.Leaps.{motionOf, onPartner, IsTable, Leaps, Footing};
+ghost use Rattle.jumps.specs.Leaps.{motionOf, onPartner, Leaps};
+ghost use Rattle.jumps.specs.Footings.{TabledRow, TabledPlace, TabledSpot, LeapFooting};
 
 // The word motion of a kind: 0 `w`, 1 `b`, and else `e`.
 fn motion_of(kind: u32) -> Motion
@@ -44,7 +41,7 @@ fn rounds_of(count: u32) -> u32
 
 // Where a row starts, by the table.
 pub fn start_of(t: &[u32], table: &[u32], row: usize) -> usize
-    requires { ⌜ IsTable (now t) (now table) × (row < rowCount (now t)) ⌝ }
+    requires { ⌜ TabledRow (now t) (now table) row ⌝ }
     ensures { λ r. ⌜ r ≡ rowStart (now (t .entry)) row ⌝ }
 {
     table[row] as usize
@@ -52,7 +49,7 @@ pub fn start_of(t: &[u32], table: &[u32], row: usize) -> usize
 
 // The spot of a place in the text, by the table.
 fn spot_of(t: &[u32], table: &[u32], q: Position) -> Spot
-    requires { ⌜ (textRefusal (now t) ≡ 0) × IsTable (now t) (now table) × Inside (now t) q ⌝ }
+    requires { ⌜ TabledPlace (now t) (now table) q ⌝ }
     ensures { λ r. ⌜ Lands (now (t .entry)) r q ⌝ }
 {
     let row = q.row;
@@ -65,7 +62,7 @@ fn spot_of(t: &[u32], table: &[u32], q: Position) -> Spot
 
 // `%`: to the partner of the first bracket at or after the place in its row, or nowhere.
 fn to_partner(t: &[u32], table: &[u32], p: Spot) -> Spot
-    requires { ⌜ (textRefusal (now t) ≡ 0) × IsTable (now t) (now table) × IsSpot (now t) p ⌝ }
+    requires { ⌜ TabledSpot (now t) (now table) p ⌝ }
     ensures { λ r.
         ⌜ Lands (now (t .entry)) r (onPartner (placeOf (now (t .entry)) p)
         (keyFrom (now (t .entry)) (p .row) (placeOf (now (t .entry)) p .col))) ⌝ }
@@ -98,9 +95,8 @@ pub fn leap(
     w: Stretch,
     p: Spot,
 ) -> Walked
-    requires { ⌜ Footing (now t) (now table) (now folds) (now bounds) (now starts)
-        (now lengths) s p ×
-        NoFold (now folds) w ⌝ }
+    requires { ⌜ LeapFooting (now t) (now table) (now folds) (now bounds) (now starts)
+        (now lengths) s w p ⌝ }
     ensures { λ r. ⌜ Leaps (now (t .entry)) (now (folds .entry)) (kindBy (now (bounds .entry)) s)
         kind count (placeOf (now (t .entry)) p) r ⌝ }
 {

@@ -7,19 +7,14 @@ use keywords::KeywordSpec;
 use word_kinds::Setting;
 use word_kinds::Spot;
 use words::Walked;
-ghost use mathlib.Core.Path.{_≡_};
 ghost use mathlib.Core.Bool.{false};
-ghost use Prim.Native.Nat.{_+_, _≤_, _<_};
-ghost use lib.ListN.{length};
-ghost use Rattle.text_check.specs.Accept.{textRefusal};
-ghost use Rattle.fold_stretches.specs.Stretches.{NoFold};
 ghost use Rattle.word_kinds.specs.Spots.{placeOf};
 ghost use Rattle.word_kinds.specs.Lent.{kindBy};
 ghost use Rattle.list_tokens.specs.Tokens.{anyToken};
 ghost use Rattle.keywords.specs.Table.{kept};
 ghost use Rattle.word_kinds.specs.Places.{kindOf};
-ghost use Rattle.word_rounds.specs.Turns.{Folded};
-ghost use Rattle.jumps.specs.Leaps.{IsTable, Footing, Course, Jumped, Ran};
+ghost use Rattle.jumps.specs.Leaps.{Jumped, Ran};
+ghost use Rattle.jumps.specs.Footings.{JumpFooting, RunFooting, LettersFooting, ListFooting};
 
 // The jump whose kind is at place i of the list, and its row and column in the answers' places i
 // and i + 1.
@@ -37,9 +32,8 @@ fn jump(
     w: Stretch,
     p: Spot,
 ) -> Walked
-    requires { ⌜ Footing (now t) (now table) (now folds) (now bounds) (now starts)
-        (now lengths) s p ×
-        NoFold (now folds) w × (i + 1 < length (now jumps)) × (i + 1 < length (now answers)) ⌝ }
+    requires { ⌜ JumpFooting (now t) (now table) (now folds) (now bounds) (now starts)
+        (now lengths) s (now jumps) i (now answers) w p ⌝ }
     ensures { λ r. ⌜ Jumped (now (t .entry)) (now (folds .entry)) (kindBy (now (bounds .entry)) s)
         (now (jumps .entry)) i (now (answers .entry)) (placeOf (now (t .entry)) p) r
         (now (answers .exit)) ⌝ }
@@ -77,9 +71,8 @@ fn run(
     answers: &mut [u32],
     p: Spot,
 ) -> Spot
-    requires { ⌜ Footing (now t) (now table) (now folds) (now bounds) (now starts)
-        (now lengths) s p ×
-        Course (now jumps) (now answers) ⌝ }
+    requires { ⌜ RunFooting (now t) (now table) (now folds) (now bounds) (now starts)
+        (now lengths) s (now jumps) (now answers) p ⌝ }
     ensures { λ r. ⌜ Ran (now (t .entry)) (now (folds .entry)) (kindBy (now (bounds .entry)) s)
         (now (jumps .entry)) (now (answers .entry)) (placeOf (now (t .entry)) p) r
         (now (answers .exit)) ⌝ }
@@ -121,9 +114,8 @@ fn run_with_letters(
     answers: &mut [u32],
     p: Spot,
 ) -> Spot
-    requires { ⌜ (textRefusal (now t) ≡ 0) × IsTable (now t) (now table) × (s .big ≡ false) ×
-        (s .pairs + s .pairs ≤ length (now bounds)) ×
-        Folded (now t) (now folds) (s .rows) (s .content) p × Course (now jumps) (now answers) ⌝ }
+    requires { ⌜ LettersFooting (now t) (now table) (now folds) (now bounds) s (now jumps)
+        (now answers) p ⌝ }
     ensures { λ r. ⌜ Ran (now (t .entry)) (now (folds .entry)) (kindBy (now (bounds .entry)) s)
         (now (jumps .entry)) (now (answers .entry)) (placeOf (now (t .entry)) p) r
         (now (answers .exit)) ⌝ }
@@ -154,8 +146,8 @@ pub fn run_by(
     answers: &mut [u32],
     p: Spot,
 ) -> Spot
-    requires { ⌜ (textRefusal (now t) ≡ 0) × IsTable (now t) (now table) × (spec .len ≤ 128) ×
-        Folded (now t) (now folds) rows content p × Course (now jumps) (now answers) ⌝ }
+    requires { ⌜ ListFooting (now t) (now table) (now folds) spec rows content (now jumps)
+        (now answers) p ⌝ }
     ensures { λ r. ⌜ Ran (now (t .entry)) (now (folds .entry)) (kindOf (anyToken (kept spec)) false)
         (now (jumps .entry)) (now (answers .entry)) (placeOf (now (t .entry)) p) r
         (now (answers .exit)) ⌝ }

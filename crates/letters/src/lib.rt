@@ -2,9 +2,8 @@
 // const that a function names is built anew at each call of it, so a loop takes `letter_in` and
 // lends both, the starts of the ranges and their lengths.
 ghost use mathlib.Core.Path.{_≡_};
-ghost use mathlib.Core.Bool.{true, false};
-ghost use Prim.Native.Nat.{_<_};
-ghost use Rattle.letters.specs.Letters.{isLetter, isSign, LetterRanges};
+ghost use mathlib.Core.Bool.{true};
+ghost use Rattle.letters.specs.Letters.{isLetter, isSign, Latin, LetterRanges};
 
 mod letter_table;
 
@@ -22,7 +21,7 @@ fn sign_letter(x: u32) -> bool
 // Whether x, any other up to U+02C1, is a letter: A to Z, a to z, and from U+00C0 on all but two
 // signs. Compared without a branch: plain and accented letters stand beside each other.
 fn latin_letter(x: u32) -> bool
-    requires { ⌜ (x < 0x2c2) × (isSign x ≡ false) ⌝ }
+    requires { ⌜ Latin x ⌝ }
     ensures { λ r. ⌜ r ≡ isLetter x ⌝ }
 {
     (((65 <= x) & (x < 91)) | ((97 <= x) & (x < 123))) | ((0xc0 <= x) & ((x != 0xd7) & (x != 0xf7)))

@@ -1,6 +1,6 @@
 -- What the contracts of `src/` cite: the place of the first retired sign, a list without them, and the answers of `enter` and `without_plus`.
 -- Document 02, #112. Definitions only; the laws are in `proofs/`. Assumes nothing.
-use Prim.Native.Nat.{ℕ, suc}
+use Prim.Native.Nat.{ℕ, suc, _≤_}
 use mathlib.Core.List.{List, [], _∷_, _++_}
 use mathlib.Core.Bool.{Bool, cond}
 use lib.Dec.{eqb, ltb, leb}
@@ -24,6 +24,11 @@ unfoldable pub without : List ℕ → List Bool → List ℕ
 without [] ms = []
 without (x ∷ l) [] = x ∷ l
 without (x ∷ l) (m ∷ ms) = cond m (without l ms) (x ∷ without l ms)
+
+-- what writing it requires: a mark for each, and room for what has none
+pub record PlainRoom (list : List ℕ) (marks : List Bool) (room : List ℕ) : Type 0 where
+  pub marks-there : length list ≤ length marks
+  pub fits : length (without list marks) ≤ length room
 
 abbrev pub firstSign : List ℕ → ℕ
 firstSign list = firstIn list (signs list)

@@ -4,7 +4,7 @@ ghost use mathlib.Core.Path.{_≡_};
 ghost use mathlib.Core.List.{_++_};
 ghost use Prim.Native.Nat.{_≤_};
 ghost use lib.ListN.{length, drop};
-ghost use Rattle.list_signs.specs.Plain.{without, plainOf, plainIn};
+ghost use Rattle.list_signs.specs.Plain.{without, PlainRoom, plainOf, plainIn};
 
 // How many code points of the list have no mark.
 fn count_plain(list: &[u32], marks: &[bool]) -> usize
@@ -26,8 +26,7 @@ fn count_plain(list: &[u32], marks: &[bool]) -> usize
 
 // Writes them to the front of the room.
 fn write_plain(list: &[u32], marks: &[bool], room: &mut [u32])
-    requires { ⌜ (length (now list) ≤ length (now marks))
-        × (length (without (now list) (now marks)) ≤ length (now room)) ⌝ }
+    requires { ⌜ PlainRoom (now list) (now marks) (now room) ⌝ }
     ensures { λ _. ⌜ now (room .exit) ≡ without (now (list .entry)) (now (marks .entry))
         ++ drop (length (without (now (list .entry)) (now (marks .entry)))) (now (room .entry)) ⌝ }
 {

@@ -5,8 +5,11 @@ use Prim.Native.Nat.{ℕ, zero, suc, _-_, min, _≤_}
 use mathlib.Core.List.{List, [], _∷_}
 use mathlib.Core.Bool.{Bool, cond, _||_}
 use lib.Dec.{eqb}
+use lib.ListN.{length}
 use Rattle.chars.specs.White.{isWhite}
 use Rattle.text.specs.Text.{rowAt, lastCol}
+use Rattle.text.specs.Offsets.{IsLine}
+use Rattle.text.specs.declared.Line.{Line}
 
 -- how many blanks a row begins with: spaces and tabs, and no other white space
 abbrev pub isBlank : ℕ → Bool
@@ -28,6 +31,11 @@ solidOf (x ∷ row) = let rest = solidOf row in cond (eqb rest 0) (cond (isWhite
 -- the last column that is no white space, or column 0 where there is none
 abbrev pub lastNonBlank : List ℕ → ℕ → ℕ
 lastNonBlank t r = solidOf (rowAt t r) - 1
+
+-- what both calls require: the row with its start, in a text that is not too long
+pub record BriefLine (t : List ℕ) (l : Line) : Type 0 where
+  pub line : IsLine t l
+  pub brief : length t ≤ 1048576
 
 -- r is the column n of a text's row
 pub record ColumnIs (n r : ℕ) : Type 0 where

@@ -4,12 +4,9 @@ use text::Line;
 use text::least;
 use text::minus;
 ghost use mathlib.Core.Path.{_≡_};
-ghost use Prim.Native.Nat.{_≤_};
-ghost use lib.ListN.{length};
-ghost use Rattle.text.specs.Offsets.{IsLine};
 ghost use Rattle.chars.specs.White.{whites};
-ghost use Rattle.margins.specs.Margins.{isBlank, indentOf, firstNonBlank, ColumnIs};
-ghost use Rattle.margins.specs.Margins.{solidOf, lastNonBlank};
+ghost use Rattle.margins.specs.Margins.{isBlank, indentOf, firstNonBlank};
+ghost use Rattle.margins.specs.Margins.{solidOf, lastNonBlank, BriefLine, ColumnIs};
 
 // Whether x is a space or a tab.
 fn is_blank(x: u32) -> bool
@@ -34,7 +31,7 @@ fn indent(row: &[u32]) -> usize
 
 // The first column of a row that is no blank, or its last column where there is none.
 pub fn first_non_blank(t: &[u32], l: Line) -> usize
-    requires { ⌜ IsLine (now t) l × (length (now t) ≤ 1048576) ⌝ }
+    requires { ⌜ BriefLine (now t) l ⌝ }
     ensures { λ r. ⌜ ColumnIs (firstNonBlank (now (t .entry)) (l .row)) r ⌝ }
 {
     let row = text::offsets::row(t, l);
@@ -59,7 +56,7 @@ fn solid(white: &[u32], row: &[u32]) -> usize
 
 // The last column of a row that is no white space, or column 0 where there is none.
 pub fn last_non_blank(t: &[u32], l: Line) -> usize
-    requires { ⌜ IsLine (now t) l × (length (now t) ≤ 1048576) ⌝ }
+    requires { ⌜ BriefLine (now t) l ⌝ }
     ensures { λ r. ⌜ ColumnIs (lastNonBlank (now (t .entry)) (l .row)) r ⌝ }
 {
     let row = text::offsets::row(t, l);

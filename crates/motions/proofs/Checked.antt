@@ -15,6 +15,7 @@ use Rattle.motions.specs.declared.Move.the-variants.{By, Word, Rows, Scr
 use Rattle.motions.specs.Carets.{here, caretRefusal, entryOf}
 use Rattle.motions.specs.WordMoves.{foldsOf}
 use Rattle.motions.specs.UpDown.{stopRefusal, verticalRefusal}
+use Rattle.motions.specs.Ready.{RowsTaken}
 use Rattle.motions.specs.Checks.{orStop, checked, Takes, Ready}
 
 -- a tabstop after a refusal f, or none
@@ -42,11 +43,11 @@ module _ (t folds : List ℕ) (tabstop : ℕ) (k : Caret) (e : Entry) (is : e �
       (none .0, rw (sym (entered t (here k) e is (none .0) .all-rows)) (none .1))
 
   by-stop : (m : Move) → orStop (orFolds e folds) tabstop ≡ 0 →
-      (((foldRefusal folds (rowCount t) ≡ 0) × (tabstop ≤ 1000)) → Takes t folds tabstop m) → Ready t folds tabstop e m k
+      (RowsTaken t folds tabstop → Takes t folds tabstop m) → Ready t folds tabstop e m k
   by-stop m z takes =
       let none = stop-none (orFolds e folds) tabstop z in
       let right = good folds (none .0) in
-      ready m (right .0) (takes (right .1, none .1))
+      ready m (right .0) (takes (record { folds-good = right .1; stop = none .1 }))
 
   pub checked-ready : (m : Move) → checked e folds tabstop m ≡ 0 → Ready t folds tabstop e m k
   checked-ready (By w) z = ready (By w) z tt

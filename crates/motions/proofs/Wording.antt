@@ -1,5 +1,5 @@
 -- The spot of an accepted caret, and the caret of a spot that a word motion ended on. Assumes nothing.
-use Rattle.lists.proofs.Kit.{_≡_, ap, subst, _∙_, List, ℕ, _+_, _-_, _≤_, _<_, _^_, arith, length}
+use Rattle.lists.proofs.Kit.{_≡_, ap, subst, _∙_, List, ℕ, _+_, _-_, _≤_, arith, length}
 use Rattle.text.specs.Offsets.{rowStart, Stands}
 use Rattle.text.specs.Text.{rowCount, position}
 use Rattle.text.specs.declared.Position.{Position}
@@ -13,6 +13,7 @@ use Rattle.word_rounds.specs.Turns.{Folded}
 use Rattle.motions.specs.declared.Caret.{Caret}
 use Rattle.motions.specs.Carets.{here, placed}
 use Rattle.motions.specs.WordMoves.{atPlace}
+use Rattle.motions.specs.Ready.{CaretFits}
 
 -- the spot of an accepted caret
 module _ (t : List ℕ) (k : Caret) (e : Entry) (h : Accepted t (here k) e) where
@@ -29,8 +30,8 @@ word-ready t folds k e h good =
     record { good = rw (h .all-rows) good; all-rows = h .all-rows; content-rows = h .content-rows; spot = spot-of t k e h }
 
 -- the numbers of a spot fit a u32
-pub spot-fits : {t : List ℕ} {r : Spot} (start : ℕ) → length t ≤ 1048576 → IsSpot t r → (r .row < 2 ^ 32) × (r .at - start < 2 ^ 32)
-spot-fits {t} {r} start b s = (omega (arith, b, s .in-row, count-le t), omega (arith, b, s .within))
+pub spot-fits : {t : List ℕ} {r : Spot} (start : ℕ) → length t ≤ 1048576 → IsSpot t r → CaretFits (r .row) (r .at - start)
+spot-fits {t} {r} start b s = record { row = omega (arith, b, s .in-row, count-le t); col = omega (arith, b, s .within) }
 
 -- and the caret of a spot
 pub caret-of-spot :

@@ -1,6 +1,6 @@
 -- The checks of a call by its move, and what they show. Document 01, "Refusal numbers": each number only where the call takes that input.
 -- The list of a word motion is checked last (`walks` of `specs/Going.antt`). Definitions only; the laws are in `proofs/Checked.antt`. Assumes nothing.
-use Prim.Native.Nat.{ℕ, _≤_}
+use Prim.Native.Nat.{ℕ}
 use mathlib.Core.Path.{_≡_}
 use mathlib.Core.List.{List}
 use mathlib.Core.Bool.{cond}
@@ -17,6 +17,7 @@ use Rattle.motions.specs.declared.Move.the-variants.{By, Word, Rows, Scr
 use Rattle.motions.specs.Carets.{here}
 use Rattle.motions.specs.WordMoves.{foldsOf}
 use Rattle.motions.specs.UpDown.{stopRefusal}
+use Rattle.motions.specs.Ready.{RowsTaken}
 
 -- a tabstop after a refusal f, or none
 unfoldable pub orStop : ℕ → ℕ → ℕ
@@ -37,9 +38,9 @@ checked e folds tabstop (Find x forward till skip) = orSought (e .refusal) (isSc
 abbrev pub Takes : List ℕ → List ℕ → ℕ → Move → Type 0
 Takes t folds tabstop (By w) = Unit
 Takes t folds tabstop (Word m big stop) = foldRefusal (foldsOf m folds) (rowCount t) ≡ 0
-Takes t folds tabstop (Rows down a) = (foldRefusal folds (rowCount t) ≡ 0) × (tabstop ≤ 1000)
-Takes t folds tabstop (Screen mode width down a) = (foldRefusal folds (rowCount t) ≡ 0) × (tabstop ≤ 1000)
-Takes t folds tabstop (ScreenKept mode width down a) = (foldRefusal folds (rowCount t) ≡ 0) × (tabstop ≤ 1000)
+Takes t folds tabstop (Rows down a) = RowsTaken t folds tabstop
+Takes t folds tabstop (Screen mode width down a) = RowsTaken t folds tabstop
+Takes t folds tabstop (ScreenKept mode width down a) = RowsTaken t folds tabstop
 Takes t folds tabstop (Viewport edge top height offset) = Unit
 Takes t folds tabstop Bracket = Unit
 Takes t folds tabstop (Find x forward till skip) = Unit

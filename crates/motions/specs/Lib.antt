@@ -8,5 +8,6 @@ pub mod Finds
 pub mod WordMoves
 pub mod UpDown
 pub mod ViewportMoves
+pub mod Ready
 pub mod Checks
 pub mod Going

@@ -7,18 +7,18 @@ use positions::Entry;
 use row_search::Found;
 use text::Line;
 ghost use mathlib.Core.Path.{_≡_};
-ghost use Rattle.text_check.specs.Accept.{textRefusal};
 ghost use Rattle.text.specs.Text.{rowAt};
 ghost use Rattle.row_search.specs.Find.{findOnRow};
 ghost use Rattle.brackets.specs.Find.{keyFrom};
 ghost use Rattle.positions.specs.Positions.{Accepted};
 ghost use Rattle.motions.specs.Carets.{here};
 ghost use Rattle.motions.specs.Finds.{partnerTo, landsOn, matchBracket, findCharOnLine};
+ghost use Rattle.motions.specs.Ready.{KeyReady};
 
 impl Caret {
     // What `%` finds, of a text and caret that were accepted.
     pub(crate) fn to_partner(self, t: &[u32], e: Entry) -> Sought
-        requires { ⌜ (textRefusal (now t) ≡ 0) × Accepted (now t) (here self) e ⌝ }
+        requires { ⌜ KeyReady (now t) self e ⌝ }
         ensures { λ r. ⌜ r ≡ partnerTo self
             (keyFrom (now (t .entry)) (self .row) (self .col)) ⌝ }
     {

@@ -12,9 +12,9 @@ use vertical::Sticky;
 use widths::Ambiguous;
 use word_rounds::Motion;
 ghost use mathlib.Core.Path.{_≡_};
-ghost use Prim.Native.Nat.{_<_, _^_};
 ghost use Rattle.motions.specs.Carets.{caretWith, caretAt, placed, entryOf};
 ghost use Rattle.motions.specs.Carets.{cleared as Carets·cleared};
+ghost use Rattle.motions.specs.Ready.{CaretFits};
 
 mod checks;
 mod finds;
@@ -103,7 +103,7 @@ pub enum Move {
 // Every caret that a motion answers with is made here, but for those of the screen moves that
 // remember.
 pub(crate) fn caret_at(row: usize, col: usize, sticky: Sticky) -> Caret
-    requires { ⌜ (row < 2 ^ 32) × (col < 2 ^ 32) ⌝ }
+    requires { ⌜ CaretFits row col ⌝ }
     ensures { λ r. ⌜ r ≡ caretAt row col sticky ⌝ }
 {
     Caret::at(row as u32, col as u32, sticky)
@@ -142,7 +142,7 @@ impl Caret {
 
     // The caret at another row and column.
     pub(crate) fn placed(self, row: usize, col: usize) -> Caret
-        requires { ⌜ (row < 2 ^ 32) × (col < 2 ^ 32) ⌝ }
+        requires { ⌜ CaretFits row col ⌝ }
         ensures { λ r. ⌜ r ≡ placed self row col ⌝ }
     {
         let s = self.sticky;

@@ -8,9 +8,8 @@ use vertical::Sticky;
 use widths::Ambiguous;
 ghost use mathlib.Core.Path.{_≡_};
 ghost use Rattle.widths.specs.Widths.{widthAs};
-ghost use Rattle.text.specs.Text.{rowCount, contentRows};
-ghost use Rattle.vertical.specs.Moves.{Accepted};
 ghost use Rattle.screen.specs.Keeping.{moveScreenKept};
+ghost use Rattle.motions.specs.Ready.{LineReady};
 
 // A walk where characters of class A take one cell: names the table of these widths.
 fn narrow_walk(
@@ -28,8 +27,7 @@ fn narrow_walk(
     mode: Wrap,
     width: u16,
 ) -> Kept
-    requires { ⌜ Accepted (now t) (now folds) l col tabstop × (rows ≡ rowCount (now t)) ×
-        (content ≡ contentRows (now t)) ⌝ }
+    requires { ⌜ LineReady (now t) (now folds) rows content l col tabstop ⌝ }
     ensures { λ r. ⌜ r ≡ moveScreenKept (widthAs Ambiguous.Narrow) (now (t .entry))
         (now (folds .entry)) tabstop mode width down count (l .row) col sticky offset ⌝ }
 {
@@ -68,8 +66,7 @@ fn wide_walk(
     mode: Wrap,
     width: u16,
 ) -> Kept
-    requires { ⌜ Accepted (now t) (now folds) l col tabstop × (rows ≡ rowCount (now t)) ×
-        (content ≡ contentRows (now t)) ⌝ }
+    requires { ⌜ LineReady (now t) (now folds) rows content l col tabstop ⌝ }
     ensures { λ r. ⌜ r ≡ moveScreenKept (widthAs Ambiguous.Wide) (now (t .entry))
         (now (folds .entry)) tabstop mode width down count (l .row) col sticky offset ⌝ }
 {
@@ -109,8 +106,7 @@ pub(crate) fn walk_as(
     mode: Wrap,
     width: u16,
 ) -> Kept
-    requires { ⌜ Accepted (now t) (now folds) l col tabstop × (rows ≡ rowCount (now t)) ×
-        (content ≡ contentRows (now t)) ⌝ }
+    requires { ⌜ LineReady (now t) (now folds) rows content l col tabstop ⌝ }
     ensures { λ r. ⌜ r ≡ moveScreenKept (widthAs ambiguous) (now (t .entry)) (now (folds .entry))
         tabstop mode width down count (l .row) col sticky offset ⌝ }
 {

@@ -16,15 +16,11 @@ use vertical::Sticky;
 use widths::Ambiguous;
 ghost use mathlib.Core.Path.{_≡_};
 ghost use mathlib.Core.Bool.{true, false};
-ghost use Prim.Native.Nat.{_≤_};
 ghost use Rattle.widths.specs.Widths.{widthAs};
-ghost use Rattle.text.specs.Text.{rowCount};
-ghost use Rattle.folds.specs.Folds.{foldRefusal};
-ghost use Rattle.positions.specs.Positions.{Accepted};
 ghost use Rattle.screen.specs.Keeping.{moveScreenKept};
-ghost use Rattle.motions.specs.Carets.{here};
 ghost use Rattle.motions.specs.UpDown.{screenCaret, moveRows, moveScreenRows};
 ghost use Rattle.motions.specs.UpDown.{keptCaret, moveScreenRowsKept};
+ghost use Rattle.motions.specs.Ready.{RowsReady};
 
 impl Caret {
     // Where a vertical motion leads to by an offset or by none, of inputs that were accepted.
@@ -41,8 +37,7 @@ impl Caret {
         offset: Offset,
         ambiguous: Ambiguous,
     ) -> Kept
-        requires { ⌜ Accepted (now t) (here self) e ×
-            (foldRefusal (now folds) (rowCount (now t)) ≡ 0) × (tabstop ≤ 1000) ⌝ }
+        requires { ⌜ RowsReady (now t) (now folds) tabstop self e ⌝ }
         ensures { λ r. ⌜ r ≡ moveScreenKept (widthAs ambiguous) (now (t .entry))
             (now (folds .entry)) tabstop mode width down count (self .row) (self .col)
             (self .sticky) offset ⌝ }
@@ -83,8 +78,7 @@ impl Caret {
         count: u32,
         ambiguous: Ambiguous,
     ) -> Caret
-        requires { ⌜ Accepted (now t) (here self) e ×
-            (foldRefusal (now folds) (rowCount (now t)) ≡ 0) × (tabstop ≤ 1000) ⌝ }
+        requires { ⌜ RowsReady (now t) (now folds) tabstop self e ⌝ }
         ensures { λ r. ⌜ r ≡ screenCaret ambiguous (now (t .entry)) (now (folds .entry)) tabstop
             mode width down count self ⌝ }
     {
@@ -118,8 +112,7 @@ impl Caret {
         count: u32,
         ambiguous: Ambiguous,
     ) -> Caret
-        requires { ⌜ Accepted (now t) (here self) e ×
-            (foldRefusal (now folds) (rowCount (now t)) ≡ 0) × (tabstop ≤ 1000) ⌝ }
+        requires { ⌜ RowsReady (now t) (now folds) tabstop self e ⌝ }
         ensures { λ r. ⌜ r ≡ keptCaret ambiguous (now (t .entry)) (now (folds .entry)) tabstop mode
             width down count self ⌝ }
     {

@@ -12,14 +12,10 @@ use word_rounds::Motion;
 ghost use mathlib.Core.Path.{_≡_};
 ghost use mathlib.Core.Bool.{false};
 ghost use mathlib.Core.List.{[]};
-ghost use Prim.Native.Nat.{_≤_};
-ghost use Rattle.text.specs.Text.{rowCount};
-ghost use Rattle.folds.specs.Folds.{foldRefusal};
 ghost use Rattle.list_tokens.specs.Tokens.{anyToken};
 ghost use Rattle.keywords.specs.Table.{kept};
-ghost use Rattle.positions.specs.Positions.{Accepted};
-ghost use Rattle.motions.specs.Carets.{here};
 ghost use Rattle.motions.specs.WordMoves.{foldsOf, wordCaret, moveWord};
+ghost use Rattle.motions.specs.Ready.{WordReady, TableReady};
 ghost use Rattle.motions.specs.Going.{wordBy};
 
 impl Caret {
@@ -35,8 +31,7 @@ impl Caret {
         stop: bool,
         count: u32,
     ) -> Caret
-        requires { ⌜ Accepted (now t) (here self) e ×
-            (foldRefusal (foldsOf m (now folds)) (rowCount (now t)) ≡ 0) × (spec .len ≤ 128) ⌝ }
+        requires { ⌜ TableReady (now t) (now folds) spec m self e ⌝ }
         ensures { λ r. ⌜ r ≡ wordCaret (now (t .entry)) (foldsOf m (now (folds .entry)))
             (anyToken (kept spec)) big m stop count self ⌝ }
     {
@@ -64,8 +59,7 @@ impl Caret {
         stop: bool,
         count: u32,
     ) -> Sought
-        requires { ⌜ Accepted (now t) (here self) e ×
-            (foldRefusal (foldsOf m (now folds)) (rowCount (now t)) ≡ 0) ⌝ }
+        requires { ⌜ WordReady (now t) (now folds) m self e ⌝ }
         ensures { λ r. ⌜ r ≡ wordBy (now (t .entry)) (foldsOf m (now (folds .entry)))
             (now (list .entry)) big m stop count self ⌝ }
     {

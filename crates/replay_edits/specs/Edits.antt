@@ -1,6 +1,6 @@
 -- What an edit answers and leaves, as the list of cases has it, and the verdict of a case. What the contracts of `replay_edits` cite.
 -- Definitions only. Assumes nothing.
-use Prim.Native.Nat.{ℕ, _*_}
+use Prim.Native.Nat.{ℕ, _*_, _≤_}
 use mathlib.Core.List.{List, [], _∷_, _++_}
 use mathlib.Core.Bool.{cond, _&&_}
 use lib.Dec.{eqb, leb}
@@ -59,5 +59,10 @@ editedInto k c buf fold =
     (((left (caretReply m) (caretLent k) ++ left (sizesReply m) (sizesLent k)) ++ textLeft k c buf fold) ++ foldsLeft k c buf fold)
 
 -- buffers of at most 64 places each
+pub record Buffers (text folds : List ℕ) : Type 0 where
+  pub text-fits : length text ≤ 64
+  pub folds-fit : length folds ≤ 64
+
+-- the verdict of a case: one with longer buffers is malformed
 unfoldable pub editVerdict : Head → List ℕ → List ℕ → List ℕ → List ℕ → Verdict
 editVerdict k buf fold c stored = cond (leb (length buf) 64 && leb (length fold) 64) (compared (editedInto k c buf fold) stored) Malformed

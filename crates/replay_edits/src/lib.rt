@@ -9,7 +9,7 @@ ghost use Prim.Native.Nat.{_+_, _≤_};
 ghost use lib.ListN.{length};
 ghost use Rattle.print.specs.Print.{Wrote};
 ghost use Rattle.replay_verdicts.specs.Answers.{compared as Answers·compared};
-ghost use Rattle.replay_edits.specs.Edits.{Edits, editedInto, editVerdict};
+ghost use Rattle.replay_edits.specs.Edits.{Edits, editedInto, Buffers, editVerdict};
 
 // Writes numbers from an index on, and answers the next index.
 pub fn put_all(out: &mut [u32], at: usize, s: &[u32]) -> usize
@@ -33,7 +33,7 @@ fn compared_all(
     folds: &[u32],
     stored: &[u32],
 ) -> Verdict
-    requires { ⌜ (length (now text) ≤ 64) × (length (now folds) ≤ 64) ⌝ }
+    requires { ⌜ Buffers (now text) (now folds) ⌝ }
     ensures { λ r. ⌜ r ≡ Answers·compared (number ∷ (((now (caret .entry) ++ now (sizes .entry))
         ++ now (text .entry)) ++ now (folds .entry))) (now (stored .entry)) ⌝ }
 {
@@ -72,7 +72,7 @@ fn edit_into(
     folds: &mut [u32],
     stored: &[u32],
 ) -> Verdict
-    requires { ⌜ (length (now text) ≤ 64) × (length (now folds) ≤ 64) ⌝ }
+    requires { ⌜ Buffers (now text) (now folds) ⌝ }
     ensures { λ r. ⌜ r ≡ Answers·compared (editedInto k (now (points .entry)) (now (text .entry))
         (now (folds .entry))) (now (stored .entry)) ⌝ }
 {

@@ -7,15 +7,13 @@ use row_tabs::refused;
 use row_tabs::stop_of;
 use widths::Ambiguous;
 ghost use mathlib.Core.Path.{_≡_};
-ghost use Prim.Native.Nat.{_≤_};
-ghost use lib.ListN.{length};
-ghost use Rattle.chars.specs.Width.{widthBy, Widths};
+ghost use Rattle.chars.specs.Width.{widthBy};
 ghost use Rattle.row_columns.specs.Columns.{visualFrom, charFrom, cursorFrom};
 ghost use Rattle.row_columns.specs.Columns.{visualCol, charCol, cursorCol};
 ghost use Rattle.widths.specs.Widths.{widthAs};
 ghost use Rattle.row_columns.specs.Calls.{visualColToCharCol, charColToVisualCol};
 ghost use Rattle.row_columns.specs.Calls.{cursorVisualCol, columnBy, columnAs};
-ghost use Rattle.row_columns.specs.Ready.{Ready};
+ghost use Rattle.row_columns.specs.Ready.{Fits, Lent, Ready};
 
 // The visual column of character `col`, or the row's width where it has no such character.
 fn visual_at(zeros: &[u32], doubles: &[u32], row: &[u32], col: usize, tab: u32) -> u32
@@ -72,8 +70,7 @@ fn cursor_at(zeros: &[u32], doubles: &[u32], row: &[u32], col: usize, tab: u32) 
 
 // `visual_col_to_char_col` of a row that was accepted, by the tables that are lent.
 pub fn char_col_in(zeros: &[u32], doubles: &[u32], row: &[u32], visual: u32, tabstop: u32) -> u32
-    requires { ⌜ Widths (now zeros) (now doubles) ⌝ }
-    requires { ⌜ (length (now row) ≤ 1048576) × (tabstop ≤ 1000) ⌝ }
+    requires { ⌜ Lent (now zeros) (now doubles) (now row) tabstop ⌝ }
     ensures { λ r. ⌜ r ≡ charCol (widthBy (now (zeros .entry)) (now (doubles .entry)))
         tabstop (now (row .entry)) visual ⌝ }
 {
@@ -85,8 +82,7 @@ pub fn char_col_in(zeros: &[u32], doubles: &[u32], row: &[u32], visual: u32, tab
 
 // `char_col_to_visual_col` of such a row.
 fn visual_col_in(zeros: &[u32], doubles: &[u32], row: &[u32], col: usize, tabstop: u32) -> u32
-    requires { ⌜ Widths (now zeros) (now doubles) ⌝ }
-    requires { ⌜ (length (now row) ≤ 1048576) × (tabstop ≤ 1000) ⌝ }
+    requires { ⌜ Lent (now zeros) (now doubles) (now row) tabstop ⌝ }
     ensures { λ r. ⌜ r ≡ visualCol (widthBy (now (zeros .entry)) (now (doubles .entry)))
         tabstop (now (row .entry)) col ⌝ }
 {
@@ -95,8 +91,7 @@ fn visual_col_in(zeros: &[u32], doubles: &[u32], row: &[u32], col: usize, tabsto
 
 // `cursor_visual_col` of such a row.
 pub fn cursor_col_in(zeros: &[u32], doubles: &[u32], row: &[u32], col: usize, tabstop: u32) -> u32
-    requires { ⌜ Widths (now zeros) (now doubles) ⌝ }
-    requires { ⌜ (length (now row) ≤ 1048576) × (tabstop ≤ 1000) ⌝ }
+    requires { ⌜ Lent (now zeros) (now doubles) (now row) tabstop ⌝ }
     ensures { λ r. ⌜ r ≡ cursorCol (widthBy (now (zeros .entry)) (now (doubles .entry)))
         tabstop (now (row .entry)) col ⌝ }
 {
@@ -112,8 +107,7 @@ enum Ask {
 
 // The column that is asked for, of such a row.
 fn column_in(zeros: &[u32], doubles: &[u32], ask: Ask, row: &[u32], n: u32, tabstop: u32) -> u32
-    requires { ⌜ Widths (now zeros) (now doubles) ⌝ }
-    requires { ⌜ (length (now row) ≤ 1048576) × (tabstop ≤ 1000) ⌝ }
+    requires { ⌜ Lent (now zeros) (now doubles) (now row) tabstop ⌝ }
     ensures { λ r. ⌜ r ≡ columnBy (widthBy (now (zeros .entry)) (now (doubles .entry))) ask
         tabstop (now (row .entry)) n ⌝ }
 {
@@ -127,7 +121,7 @@ fn column_in(zeros: &[u32], doubles: &[u32], ask: Ask, row: &[u32], n: u32, tabs
 // The same by the tables of each setting. A table is built where a function names it, so that each
 // setting has a function of its own.
 fn narrow_column(ask: Ask, row: &[u32], n: u32, tabstop: u32) -> u32
-    requires { ⌜ (length (now row) ≤ 1048576) × (tabstop ≤ 1000) ⌝ }
+    requires { ⌜ Fits (now row) tabstop ⌝ }
     ensures { λ r. ⌜ r ≡ columnBy (widthAs Ambiguous.Narrow) ask tabstop (now (row .entry)) n ⌝ }
 {
     column_in(
@@ -142,7 +136,7 @@ fn narrow_column(ask: Ask, row: &[u32], n: u32, tabstop: u32) -> u32
 
 // A column where characters of class A take two cells: names the table of these widths.
 fn wide_column(ask: Ask, row: &[u32], n: u32, tabstop: u32) -> u32
-    requires { ⌜ (length (now row) ≤ 1048576) × (tabstop ≤ 1000) ⌝ }
+    requires { ⌜ Fits (now row) tabstop ⌝ }
     ensures { λ r. ⌜ r ≡ columnBy (widthAs Ambiguous.Wide) ask tabstop (now (row .entry)) n ⌝ }
 {
     column_in(

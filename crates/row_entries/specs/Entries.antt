@@ -1,6 +1,6 @@
 -- What the checks of a call with a table of row starts find out: what they find out without one, and then the table.
 -- From document 02, #106. Definitions only. Assumes nothing.
-use Prim.Native.Nat.{ℕ, _≤_}
+use Prim.Native.Nat.{ℕ, _≤_, _<_}
 use mathlib.Core.Path.{_≡_}
 use mathlib.Core.List.{List}
 use mathlib.Core.Bool.{cond}
@@ -27,3 +27,8 @@ pub record Held (t starts : List ℕ) (rows content : ℕ) : Type 0 where
   pub fits : rows ≤ length starts
   pub table : take (rowCount t) starts ≡ rowStarts t
   pub count : content ≡ contentRows t
+
+-- and a row of it
+pub record HeldRow (t starts : List ℕ) (rows content row : ℕ) : Type 0 where
+  pub held : Held t starts rows content
+  pub in-row : row < rows

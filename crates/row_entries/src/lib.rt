@@ -4,11 +4,11 @@
 use positions::Entry;
 use text::Position;
 ghost use mathlib.Core.Path.{_≡_};
-ghost use Prim.Native.Nat.{_+_, _<_};
+ghost use Prim.Native.Nat.{_+_};
 ghost use Rattle.text.specs.Text.{rowLen};
 ghost use Rattle.text.specs.Offsets.{rowStart};
 ghost use Rattle.positions.specs.Positions.{refusedBy, entryOf};
-ghost use Rattle.row_entries.specs.Entries.{entryWith, Held};
+ghost use Rattle.row_entries.specs.Entries.{entryWith, Held, HeldRow};
 
 // A refusal, beside which nothing is known.
 fn refused(f: u32) -> Entry
@@ -24,7 +24,7 @@ fn refused(f: u32) -> Entry
 
 // Where a row starts, by the table.
 fn start_of(t: &[u32], starts: &[u32], rows: usize, content: u32, row: usize) -> usize
-    requires { ⌜ Held (now t) (now starts) rows content × (row < rows) ⌝ }
+    requires { ⌜ HeldRow (now t) (now starts) rows content row ⌝ }
     ensures { λ r. ⌜ r ≡ rowStart (now (t .entry)) row ⌝ }
 {
     starts[row] as usize
@@ -32,7 +32,7 @@ fn start_of(t: &[u32], starts: &[u32], rows: usize, content: u32, row: usize) ->
 
 // Where a row ends: before the next start less its separator, or at the end of the text.
 fn end_of(t: &[u32], starts: &[u32], rows: usize, content: u32, row: usize) -> usize
-    requires { ⌜ Held (now t) (now starts) rows content × (row < rows) ⌝ }
+    requires { ⌜ HeldRow (now t) (now starts) rows content row ⌝ }
     ensures { λ r. ⌜ r ≡ rowStart (now (t .entry)) row + rowLen (now (t .entry)) row ⌝ }
 {
     if row + 1 < rows {

@@ -1,10 +1,11 @@
 -- What the calls of `src/lib.rt` answer: the number that they are refused for, or what the definitions give by the widths of a setting.
 -- Definitions only. Assumes nothing.
-use Prim.Native.Nat.{ℕ, _%_}
+use Prim.Native.Nat.{ℕ, _%_, _≤_}
 use mathlib.Core.List.{List}
 use mathlib.Core.Bool.{cond}
 use lib.ListN.{length}
 use lib.Dec.{eqb}
+use Rattle.chars.specs.Width.{Widths}
 use Rattle.widths.specs.declared.Ambiguous.{Ambiguous}
 use Rattle.widths.specs.Widths.{widthAs}
 use Rattle.row_check.specs.declared.Column.{Column}
@@ -28,6 +29,11 @@ offsetBy w Cells row start end n = offsetOfChar w row start n
 
 abbrev pub offsetAs : Ambiguous → Ask → List ℕ → ℕ → ℕ → ℕ → Column
 offsetAs a ask row start end n = columnOf (rowRefusal row) (offsetBy (widthAs a) ask row start end n)
+
+-- what they require by the tables that are lent: the tables of widths, and a row that is not too long
+pub record RowLent (zeros doubles row : List ℕ) : Type 0 where
+  pub widths : Widths zeros doubles
+  pub brief : length row ≤ 1048576
 
 -- 10: a slice of odd length
 abbrev pub segmentForCol : List ℕ → ℕ → Segment

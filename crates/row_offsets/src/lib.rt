@@ -11,7 +11,7 @@ ghost use Rattle.chars.specs.Width.{widthBy, Widths};
 ghost use Rattle.widths.specs.Widths.{widthAs};
 ghost use Rattle.row_cells.specs.Offsets.{part, charAtOffset, segmentIndex};
 ghost use Rattle.row_offsets.specs.Calls.{charColForVisualOffset, visualOffsetForCharCol};
-ghost use Rattle.row_offsets.specs.Calls.{segmentForCol, offsetBy, offsetAs};
+ghost use Rattle.row_offsets.specs.Calls.{segmentForCol, offsetBy, offsetAs, RowLent};
 
 // The index of a segment, or the number that the call is refused for.
 pub enum Segment {
@@ -69,7 +69,7 @@ fn offset_in(
     end: u32,
     n: u32,
 ) -> u32
-    requires { ⌜ Widths (now zeros) (now doubles) × (length (now row) ≤ 1048576) ⌝ }
+    requires { ⌜ RowLent (now zeros) (now doubles) (now row) ⌝ }
     ensures { λ r. ⌜ r ≡ offsetBy (widthBy (now (zeros .entry)) (now (doubles .entry))) ask
         (now (row .entry)) start end n ⌝ }
 {

@@ -4,7 +4,7 @@ use Prim.Native.Nat.{ℕ, _+_, _-_, _≤_, _<_}
 use mathlib.Core.Path.{_≡_}
 use mathlib.Core.List.{List}
 use mathlib.Core.Bool.{Bool, true, false}
-use lib.ListN.{getD}
+use lib.ListN.{length, getD}
 use Rattle.text.specs.Offsets.{rowOf, Stands}
 use Rattle.row_table.specs.Table.{holdsRows}
 
@@ -18,6 +18,12 @@ pub record Mark (t starts : List ℕ) (i j : ℕ) : Type 0 where
 pub record Ascend (t starts : List ℕ) (i : ℕ) : Type 0 where
   pub some : 0 < i
   pub marks : (j : ℕ) → j < i → Mark t starts i j
+
+-- what a test of the starts from place `from` on requires: those before it ascend, and the table has so many places
+pub record GoingOn (t starts : List ℕ) (from rows : ℕ) : Type 0 where
+  pub ascend : Ascend t starts from
+  pub order : from ≤ rows
+  pub room : rows ≤ length starts
 
 -- what a test says of the first starts: yes of those that go on so alone, and no of no table of the text
 pub record GoesOn (t starts : List ℕ) (rows : ℕ) (r : Bool) : Type 0 where

@@ -1,5 +1,5 @@
 -- What filling a table answers and leaves. From document 02, #106. Definitions only. Assumes nothing.
-use Prim.Native.Nat.{ℕ}
+use Prim.Native.Nat.{ℕ, _+_, _≤_}
 use mathlib.Core.Path.{_≡_}
 use mathlib.Core.List.{List, _++_}
 use mathlib.Core.Bool.{cond}
@@ -18,6 +18,16 @@ fillRefusal t starts = cond (eqb (textRefusal t) 0) (cond (ltb (length starts) (
 -- a table that holds the row starts of a text; its places behind them stay
 abbrev pub tableOf : List ℕ → List ℕ → List ℕ
 tableOf t starts = rowStarts t ++ drop (rowCount t) starts
+
+-- what the writing of the rows that start in a part requires: places for them from `place` on, and offsets that fit
+pub record PartRoom (starts : List ℕ) (place at : ℕ) (part : List ℕ) : Type 0 where
+  pub room : place + rowCount part ≤ length starts + 1
+  pub short : at + length part ≤ 4294967295
+
+-- and of those of a whole text
+pub record TextRoom (starts t : List ℕ) : Type 0 where
+  pub room : rowCount t ≤ length starts
+  pub short : length t ≤ 1048576
 
 -- the answer r, and what the table holds then, place by place: on a refusal what it held before
 pub record FillsTo (t starts : List ℕ) (r : Counted) (starts′ : List ℕ) : Type 0 where

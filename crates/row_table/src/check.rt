@@ -1,16 +1,12 @@
 // A lent table against the text: whether it holds the text's own row starts.
 ghost use mathlib.Core.Path.{_≡_};
-ghost use Prim.Native.Nat.{_≤_};
-ghost use lib.ListN.{length};
-ghost use Rattle.text.specs.Text.{rowCount};
-ghost use Rattle.row_table.specs.Table.{holdsRows, tableRefusal};
-ghost use Rattle.row_table.specs.Ascend.{Ascend, GoesOn};
+ghost use Rattle.row_table.specs.Table.{holdsRows, tableRefusal, Asked, Needed};
+ghost use Rattle.row_table.specs.Ascend.{GoingOn, GoesOn};
 
 // Whether the starts from the place `from` on go on as those before it do, up to `rows` of them:
 // each above the last one, and behind a separator. The text is read once a row.
 pub fn go_on(t: &[u32], from: usize, rows: usize, starts: &[u32]) -> bool
-    requires { ⌜ Ascend (now t) (now starts) from × (from ≤ rows) ×
-        (rows ≤ length (now starts)) ⌝ }
+    requires { ⌜ GoingOn (now t) (now starts) from rows ⌝ }
     ensures { λ r. ⌜ GoesOn (now (t .entry)) (now (starts .entry)) rows r ⌝ }
 {
     let mut last = starts[from - 1] as usize;
@@ -36,7 +32,7 @@ pub fn go_on(t: &[u32], from: usize, rows: usize, starts: &[u32]) -> bool
 // with 0, ascend, and stand behind a separator each: no fewer than there are rows, they are all of
 // them. It may be asked with more rows than there are, and says no.
 fn holds(t: &[u32], rows: usize, starts: &[u32]) -> bool
-    requires { ⌜ (rowCount (now t) ≤ rows) × (rows ≤ length (now starts)) ⌝ }
+    requires { ⌜ Asked (now t) (now starts) rows ⌝ }
     ensures { λ r. ⌜ r ≡ holdsRows (now (t .entry)) rows (now (starts .entry)) ⌝ }
 {
     if starts[0] != 0 {
@@ -48,7 +44,7 @@ fn holds(t: &[u32], rows: usize, starts: &[u32]) -> bool
 // 15 where the table has fewer places than `need`, 16 where it or the number of rows with content
 // is not that of the text, which has so many rows; else 0.
 pub fn table_refusal(t: &[u32], rows: usize, need: usize, starts: &[u32], content: u32) -> u32
-    requires { ⌜ (rows ≡ rowCount (now t)) × (rows ≤ need) ⌝ }
+    requires { ⌜ Needed (now t) rows need ⌝ }
     ensures { λ r. ⌜ r ≡ tableRefusal need (now (t .entry)) (now (starts .entry)) content ⌝ }
 {
     if starts.len() < need {

@@ -1,17 +1,13 @@
 // Row starts written into a lent table.
 use text::Counted;
-ghost use Prim.Native.Nat.{_+_, _≤_};
-ghost use lib.ListN.{length};
-ghost use Rattle.text.specs.Text.{rowCount};
 ghost use Rattle.edit_places.specs.Replaced.{Over};
 ghost use Rattle.row_table.specs.Table.{startsFrom, rowStarts};
-ghost use Rattle.row_table.specs.Fill.{FillsTo};
+ghost use Rattle.row_table.specs.Fill.{PartRoom, TextRoom, FillsTo};
 
 // Writes the rows that start in a part of a text into the places from `place` on. The part begins
 // at the offset `at` of its text.
 pub fn put_starts(starts: &mut [u32], place: usize, at: usize, part: &[u32])
-    requires { ⌜ (place + rowCount (now part) ≤ length (now starts) + 1) ×
-        (at + length (now part) ≤ 4294967295) ⌝ }
+    requires { ⌜ PartRoom (now starts) place at (now part) ⌝ }
     ensures { λ _. ⌜ Over (now (starts .entry)) place (startsFrom at (now (part .entry)))
         (now (starts .exit)) ⌝ }
 {
@@ -30,7 +26,7 @@ pub fn put_starts(starts: &mut [u32], place: usize, at: usize, part: &[u32])
 
 // Writes the row starts of a text into the first places.
 fn put_rows(starts: &mut [u32], t: &[u32])
-    requires { ⌜ (rowCount (now t) ≤ length (now starts)) × (length (now t) ≤ 1048576) ⌝ }
+    requires { ⌜ TextRoom (now starts) (now t) ⌝ }
     ensures { λ _. ⌜ Over (now (starts .entry)) 0 (rowStarts (now (t .entry)))
         (now (starts .exit)) ⌝ }
 {

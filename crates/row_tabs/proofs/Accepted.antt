@@ -2,7 +2,7 @@
 use Rattle.lists.proofs.Kit.{_≡_, List, ℕ, zero, suc, _-_, _%_, _≤_, _<_, decLe, ℕ-discrete, arith, length, eq-eqb, ne-eqb, lt-ltb}
 use Rattle.row_check.specs.Row.{rowRefusal}
 use Rattle.row_check.proofs.Answers.{accepted-brief}
-use Rattle.row_tabs.specs.Cells.{columnRefusal, stopOf, cellsAt}
+use Rattle.row_tabs.specs.Cells.{columnRefusal, stopOf, cellsAt, Stop}
 
 -- a tabstop is at least 1, and no larger than it was given, but for 0
 pub stop-pos : (tabstop : ℕ) → 0 < stopOf tabstop
@@ -15,8 +15,8 @@ unfolding stopOf
 stop-most zero n h k = h
 stop-most (suc t) n h k = rw (ne-eqb (suc t) 0 (λ e. omega arith)) k
 
-pub stop-near : (tabstop : ℕ) {tab : ℕ} → tabstop ≤ 1000 → tab ≡ stopOf tabstop → (0 < tab) × (tab ≤ 1000)
-stop-near tabstop h e = rw e (stop-pos tabstop, stop-most tabstop 1000 (omega arith) h)
+pub stop-near : (tabstop : ℕ) {tab : ℕ} → tabstop ≤ 1000 → tab ≡ stopOf tabstop → Stop tab
+stop-near tabstop h e = rw e (record { some = stop-pos tabstop; near = stop-most tabstop 1000 (omega arith) h })
 
 module _ (w : ℕ → ℕ) (tab : ℕ) where
   pub cells-tab : (v x : ℕ) → x ≡ 9 → cellsAt w tab v x ≡ tab - v % tab
@@ -51,5 +51,5 @@ module _ (row : List ℕ) (tabstop : ℕ) {f : ℕ} (given : f ≡ columnRefusal
   pub brief : length row ≤ 1048576
   brief = accepted-brief row row-accepted
 
-  pub stops : {tab : ℕ} → tab ≡ stopOf tabstop → (0 < tab) × (tab ≤ 1000)
+  pub stops : {tab : ℕ} → tab ≡ stopOf tabstop → Stop tab
   stops e = stop-near tabstop near e

@@ -25,8 +25,12 @@ pub record CellsAre (n r : ℕ) : Type 0 where
   pub cells : r ≡ n
   pub small : r ≤ 1000
 
--- the tables of widths, and a tabstop from 1 to 1,000
+-- a tabstop from 1 to 1,000
+pub record Stop (tab : ℕ) : Type 0 where
+  pub some : 0 < tab
+  pub near : tab ≤ 1000
+
+-- and the tables of widths
 pub record Tables (zeros doubles : List ℕ) (tab : ℕ) : Type 0 where
   pub widths : Widths zeros doubles
-  pub stops : 0 < tab
-  pub near : tab ≤ 1000
+  pub stop : Stop tab

@@ -3,11 +3,11 @@
 // character has its width, 0 included.
 use row_check::Column;
 ghost use mathlib.Core.Path.{_≡_};
-ghost use Prim.Native.Nat.{_-_, _%_, _≤_, _<_};
-ghost use lib.ListN.{length};
+ghost use Prim.Native.Nat.{_-_, _%_};
 ghost use Rattle.chars.specs.Width.{widthBy};
-ghost use Rattle.row_tabs.specs.Cells.{columnRefusal, stopOf, cellsAt, CellsAre, Tables};
-ghost use Rattle.row_tabs.specs.Indents.{leadingFrom, leadingVisualWidth};
+ghost use Rattle.row_tabs.specs.Cells.{columnRefusal, stopOf, cellsAt, CellsAre};
+ghost use Rattle.row_tabs.specs.Cells.{Stop, Tables};
+ghost use Rattle.row_tabs.specs.Indents.{leadingFrom, leadingVisualWidth, Indented};
 
 // 1 and 2 of the row, 6 for a tabstop above 1,000, else 0.
 pub fn refused(row: &[u32], tabstop: u32) -> u32
@@ -35,7 +35,7 @@ pub fn stop_of(tabstop: u32) -> u32
 
 // The cells of a tab that is painted from visual column `visual` on.
 fn tab_width(visual: u32, tab: u32) -> u32
-    requires { ⌜ (0 < tab) × (tab ≤ 1000) ⌝ }
+    requires { ⌜ Stop tab ⌝ }
     ensures { λ r. ⌜ CellsAre (tab - visual % tab) r ⌝ }
 {
     tab - visual % tab
@@ -55,7 +55,7 @@ pub fn cell_width(zeros: &[u32], doubles: &[u32], x: u32, visual: u32, tab: u32)
 
 // The visual column at which the row's leading spaces and tabs end.
 fn leading_at(row: &[u32], tab: u32) -> u32
-    requires { ⌜ (length (now row) ≤ 1048576) × ((0 < tab) × (tab ≤ 1000)) ⌝ }
+    requires { ⌜ Indented (now row) tab ⌝ }
     ensures { λ r. ⌜ r ≡ leadingFrom tab 0 (now (row .entry)) ⌝ }
 {
     let mut visual: u32 = 0;

@@ -11,8 +11,8 @@ use Rattle.text.specs.declared.Line.{Line}
 use Rattle.text.proofs.Parts.{count-le}
 use Rattle.text.proofs.Stands.{line-at, line-eq}
 use Rattle.text.proofs.Content.{content-near}
-use Rattle.row_walks.specs.Toward.{dirOf, rowsLeft, onward}
-use Rattle.row_walks.specs.Paragraphs.{isVoid, roundFrom, roundOf, RoundFrom}
+use Rattle.row_walks.specs.Toward.{dirOf, rowsLeft, onward, StepReady}
+use Rattle.row_walks.specs.Paragraphs.{isVoid, roundFrom, roundOf, RoundReady, RoundFrom}
 use Rattle.row_walks.specs.declared.Round.the-variants.{Found, RanOff}
 use Rattle.row_walks.proofs.Ways.{castOf, nextOf, backOf, isOutside, cast-fits, cast-row, next-fits, back-fits, back-row}
 use Rattle.row_walks.proofs.Ways.{outside-rest, inside-rest, inside-row}
@@ -25,10 +25,11 @@ pub record Rounding (t : List ℕ) (fwd : Bool) (last from row start : ℕ) (ski
   pub brief : length t ≤ 1048576
   pub same : roundOf t fwd from ≡ roundFrom t fwd skip row (rowsLeft fwd last row)
 
-pub rounding-start : (t : List ℕ) (fwd : Bool) (last row start : ℕ) → Stands t row start start → last ≡ lastRow t → length t ≤ 1048576 →
-    Rounding t fwd last row row start false
-rounding-start t fwd last row start s e b =
-    record { line = s; is-last = e; brief = b; same = ap (λ (l : ℕ). roundFrom t fwd false row (rowsLeft fwd l row)) (sym e) }
+pub rounding-start : (t : List ℕ) (fwd : Bool) (last : ℕ) (from : Line) → RoundReady t last from →
+    Rounding t fwd last (from .row) (from .row) (from .start) false
+rounding-start t fwd last from r =
+    let same-last = ap (λ (l : ℕ). roundFrom t fwd false (from .row) (rowsLeft fwd l (from .row))) (sym (r .is-last)) in
+    record { line = r .line; is-last = r .is-last; brief = r .brief; same = same-last }
 
 module _ {t : List ℕ} {fwd skip : Bool} {last from row start : ℕ} (g : Rounding t fwd last from row start skip) where
   near : (row ≤ last + 1) × (last ≤ 1048576) × (last < rowCount t)
@@ -90,8 +91,8 @@ module _ {t : List ℕ} {fwd skip : Bool} {last from row start : ℕ} (g : Round
         inside : onward fwd row < rowCount t
         inside = onward-in fwd last row (rowCount t) left (g .line .in-row) (near .2)
 
-        pub rounding-in : Stands t (castOf row) start start × (onward fwd (castOf row) < rowCount t)
-        rounding-in = (rounding-line, rw own inside)
+        pub rounding-in : StepReady t fwd (record { row = castOf row; start = start })
+        rounding-in = record { line = rounding-line; in-rows = rw own inside }
 
         pub rounding-less : rowsLeft fwd last (ofZ w64 (nextOf row d)) < rowsLeft fwd last row
         rounding-less = rw (next, rest-less fwd last row) (omega (arith, left))

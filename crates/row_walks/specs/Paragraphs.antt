@@ -1,12 +1,14 @@
 -- Paragraphs: runs of rows between empty ones, as `find_paragraph` of motions.rs walks them.
 -- Definitions only; the laws are in `proofs/Walks.antt`. Assumes nothing.
 use mathlib.Core.Path.{_≡_}
-use Prim.Native.Nat.{ℕ, zero, suc, _<_}
+use Prim.Native.Nat.{ℕ, zero, suc, _≤_, _<_}
 use mathlib.Core.List.{List}
 use mathlib.Core.Bool.{Bool, false, cond, _&&_, _||_, not}
 use lib.Dec.{eqb}
+use lib.ListN.{length}
 use Rattle.text.specs.Text.{rowCount, rowLen, lastRow}
 use Rattle.text.specs.Offsets.{IsLine, lineAt}
+use Rattle.text.specs.declared.Line.{Line}
 use Rattle.row_walks.specs.Toward.{rowsLeft, onward}
 use Rattle.row_walks.specs.declared.Round.{Round}
 use Rattle.row_walks.specs.declared.Round.the-variants.{Found, RanOff}
@@ -49,6 +51,16 @@ EndsIn t (RanOff l) = IsLine t l
 abbrev pub LeadsIn : List ℕ → Paragraph → Type 0
 LeadsIn t (At l) = IsLine t l
 LeadsIn t Nothing = 0 < rowCount t
+
+-- what a round from a row requires, `last` the last row with content, and what n of them do
+pub record RoundReady (t : List ℕ) (last : ℕ) (from : Line) : Type 0 where
+  pub line : IsLine t from
+  pub is-last : last ≡ lastRow t
+  pub brief : length t ≤ 1048576
+
+pub record ParagraphReady (t : List ℕ) (last : ℕ) (from : Line) (n : ℕ) : Type 0 where
+  pub round : RoundReady t last from
+  pub some : 0 < n
 
 -- r is the round from a row, and what the paragraphs from it lead to
 pub record RoundFrom (t : List ℕ) (fwd : Bool) (row : ℕ) (r : Round) : Type 0 where

@@ -6,11 +6,10 @@ use crate::toward::beside;
 use crate::toward::direction;
 use text::Line;
 ghost use mathlib.Core.Path.{_≡_};
-ghost use Prim.Native.Nat.{_-_, _≤_, _<_};
-ghost use lib.ListN.{length};
+ghost use Prim.Native.Nat.{_-_};
 ghost use Rattle.text.specs.Offsets.{IsLine};
-ghost use Rattle.text.specs.Text.{lastRow};
-ghost use Rattle.row_walks.specs.Paragraphs.{isVoid, RoundFrom, ParagraphFrom};
+ghost use Rattle.row_walks.specs.Paragraphs.{isVoid, RoundReady, ParagraphReady};
+ghost use Rattle.row_walks.specs.Paragraphs.{RoundFrom, ParagraphFrom};
 
 // Whether a row is empty.
 fn is_void(t: &[u32], l: Line) -> bool
@@ -27,7 +26,7 @@ fn is_void(t: &[u32], l: Line) -> bool
 // One round: on to the first empty row behind one that isn't, or to the row at the edge. The row is
 // signed: at the top edge it stands at minus one before it is stepped back.
 fn paragraph_round(t: &[u32], forward: bool, last: usize, from: Line) -> Round
-    requires { ⌜ IsLine (now t) from × (last ≡ lastRow (now t)) × (length (now t) ≤ 1048576) ⌝ }
+    requires { ⌜ RoundReady (now t) last from ⌝ }
     ensures { λ r. ⌜ RoundFrom (now (t .entry)) forward (from .row) r ⌝ }
 {
     let end = last as i64;
@@ -63,8 +62,7 @@ fn paragraph_round(t: &[u32], forward: bool, last: usize, from: Line) -> Round
 // `find_paragraph`: so many rounds, where `last` is the last row with content. A round that runs
 // off with others still owed leads nowhere.
 pub fn find_paragraph(t: &[u32], forward: bool, last: usize, from: Line, n: usize) -> Paragraph
-    requires { ⌜ IsLine (now t) from × (last ≡ lastRow (now t)) × (0 < n) ×
-        (length (now t) ≤ 1048576) ⌝ }
+    requires { ⌜ ParagraphReady (now t) last from n ⌝ }
     ensures { λ r. ⌜ ParagraphFrom (now (t .entry)) forward (n - 1) (from .row) r ⌝ }
 {
     let mut here = from;

@@ -6,13 +6,13 @@ use text::offsets::next_line;
 use text::offsets::prev_line;
 ghost use mathlib.Core.Path.{_≡_};
 ghost use Prim.Native.Nat.{_-_};
-ghost use Rattle.text.specs.Offsets.{IsLine};
 ghost use Rattle.text.specs.Text.{lastRow};
-ghost use Rattle.row_walks.specs.Sections.{begins, sectionUp, sectionDown, LeadsTo};
+ghost use Rattle.row_walks.specs.Sections.{begins, sectionUp, sectionDown};
+ghost use Rattle.row_walks.specs.Sections.{SectionReady, DownReady, LeadsTo};
 
 // Whether a row begins with x, which is no separator.
 fn begins(t: &[u32], l: Line, x: u32) -> bool
-    requires { ⌜ IsLine (now t) l × (x ≡ 10 → ⊥) ⌝ }
+    requires { ⌜ SectionReady (now t) l x ⌝ }
     ensures { λ r. ⌜ r ≡ begins (now (t .entry)) x (l .row) ⌝ }
 {
     let at = l.start;
@@ -24,7 +24,7 @@ fn begins(t: &[u32], l: Line, x: u32) -> bool
 
 // The row of the n-th section up from `from`, or row 0.
 pub fn section_up(t: &[u32], from: Line, x: u32, n: usize) -> usize
-    requires { ⌜ IsLine (now t) from × (x ≡ 10 → ⊥) ⌝ }
+    requires { ⌜ SectionReady (now t) from x ⌝ }
     ensures { λ r. ⌜ LeadsTo (now (t .entry)) (sectionUp (now (t .entry)) x n (from .row)) r ⌝ }
 {
     let mut row = from.row;
@@ -53,7 +53,7 @@ pub fn section_up(t: &[u32], from: Line, x: u32, n: usize) -> usize
 
 // The row of the n-th section down from `from`, or `last`, the last row with content.
 pub fn section_down(t: &[u32], from: Line, last: usize, x: u32, n: usize) -> usize
-    requires { ⌜ IsLine (now t) from × (last ≡ lastRow (now t)) × (x ≡ 10 → ⊥) ⌝ }
+    requires { ⌜ DownReady (now t) from last x ⌝ }
     ensures { λ r. ⌜ LeadsTo (now (t .entry)) (sectionDown (now (t .entry)) x n (from .row)
         (lastRow (now (t .entry)) - from .row)) r ⌝ }
 {

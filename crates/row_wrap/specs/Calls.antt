@@ -8,9 +8,11 @@ use mathlib.Core.Bool.{Bool, cond}
 use lib.ListN.{length}
 use lib.Dec.{eqb}
 use Rattle.chars.specs.White.{isWhite}
+use Rattle.chars.specs.Width.{widthBy}
 use Rattle.widths.specs.declared.Ambiguous.{Ambiguous}
 use Rattle.widths.specs.Widths.{widthAs}
 use Rattle.row_check.specs.Row.{rowRefusal}
+use Rattle.row_segment.specs.Lent.{Tables}
 use Rattle.row_wrap.specs.declared.Wrap.{Wrap}
 use Rattle.row_wrap.specs.declared.Segments.{Segments}
 use Rattle.row_wrap.specs.Segments.{segmentsFrom}
@@ -20,6 +22,16 @@ use Rattle.row_wrap.specs.Room.{filled, Answered, roomRefusal, Fitted}
 -- the segments of a row that is broken, by a width function w
 abbrev pub rowSegments : (ℕ → ℕ) → Bool → ℕ → List ℕ → List ℕ
 rowSegments w word width row = segmentsFrom w isWhite word width 0 0 row
+
+-- what the walks require: the tables that they are lent, and a row that is not too long
+pub record RowLent (zeros doubles white row : List ℕ) : Type 0 where
+  pub tables : Tables zeros doubles white
+  pub brief : length row ≤ 1048576
+
+-- and room for its segments
+pub record SegmentsRoom (zeros doubles white row : List ℕ) (width : ℕ) (word : Bool) (room : List ℕ) : Type 0 where
+  pub lent : RowLent zeros doubles white row
+  pub fits : length (rowSegments (widthBy zeros doubles) word width row) ≤ length room
 
 -- r is how many there are
 pub record Counted (w : ℕ → ℕ) (word : Bool) (width : ℕ) (row : List ℕ) (r : ℕ) : Type 0 where

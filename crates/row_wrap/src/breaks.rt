@@ -11,7 +11,8 @@ ghost use lib.ListN.{length};
 ghost use Rattle.chars.specs.Width.{widthBy};
 ghost use Rattle.widths.specs.Widths.{widthAs};
 ghost use Rattle.row_wrap.specs.Modes.{isNone, isWord, isWhole};
-ghost use Rattle.row_wrap.specs.Calls.{rowSegments, Counted, Written, Broken, Whole, Wraps};
+ghost use Rattle.row_wrap.specs.Calls.{Counted, Written, Broken, Whole, Wraps};
+ghost use Rattle.row_wrap.specs.Calls.{RowLent, SegmentsRoom};
 ghost use Rattle.row_segment.specs.Lent.{Tables};
 
 // How many segments the row has.
@@ -47,9 +48,8 @@ fn write_segments(
     word: bool,
     out: &mut [u32],
 )
-    requires { ⌜ Tables (now zeros) (now doubles) (now white) × (length (now row) ≤ 1048576) ⌝ }
-    requires { ⌜ length (rowSegments (widthBy (now zeros) (now doubles)) word width (now row))
-        ≤ length (now out) ⌝ }
+    requires { ⌜ SegmentsRoom (now zeros) (now doubles) (now white) (now row) width word
+        (now out) ⌝ }
     ensures { λ _. ⌜ Written (widthBy (now (zeros .entry)) (now (doubles .entry))) word width
         (now (row .entry)) (now (out .entry)) (now (out .exit)) ⌝ }
 {
@@ -75,7 +75,7 @@ fn fit_segments(
     word: bool,
     out: &mut [u32],
 ) -> Segments
-    requires { ⌜ Tables (now zeros) (now doubles) (now white) × (length (now row) ≤ 1048576) ⌝ }
+    requires { ⌜ RowLent (now zeros) (now doubles) (now white) (now row) ⌝ }
     ensures { λ r. ⌜ Broken (widthBy (now (zeros .entry)) (now (doubles .entry))) word width
         (now (row .entry)) (now (out .entry)) r (now (out .exit)) ⌝ }
 {

@@ -1,7 +1,7 @@
 -- The rows of a closed fold are rows of the text, and a jump to one of them. Assumes nothing.
 use Rattle.lists.proofs.Kit.{_≡_, refl, ap, sym, _∙_, List, Bool, true, false, cond, ℕ, _+_, _-_, _≤_, _<_, min, max, arith, eq-eqb, ne-eqb}
 use Rattle.text.specs.Text.{rowCount, rowLen, contentRows}
-use Rattle.text.specs.Offsets.{lineAt, IsLine}
+use Rattle.text.specs.Offsets.{lineAt}
 use Rattle.folds.specs.Folds.{hidden, prevVisible, nextVisible, lastBefore, closedFrom, closedFoldAt}
 use Rattle.text.specs.declared.Line.{Line}
 use Rattle.folds.specs.declared.Span.{Span}
@@ -13,6 +13,7 @@ use Rattle.text.proofs.Stands.{line-there}
 use Rattle.text.specs.declared.Position.{Position}
 use Rattle.vertical.specs.declared.Sticky.{Sticky}
 use Rattle.vertical.specs.Moves.{wantedCol}
+use Rattle.vertical.specs.Viewport.{Counts}
 use Rattle.screen.specs.declared.Glided.{Glided}
 use Rattle.screen.specs.declared.Kept.{Kept}
 use Rattle.screen.specs.declared.Offset.{Offset}
@@ -20,6 +21,7 @@ use Rattle.screen.specs.declared.Offset.the-variants.{At}
 use Rattle.screen.specs.Screen.{jumpedTo, outOf, jumped, landedAt}
 use Rattle.screen.specs.Keeping.{startsAt, glided, screenKept}
 use Rattle.screen.specs.Walks.{JumpedTo}
+use Rattle.screen.specs.Ready.{JumpReady}
 
 module _ (folds : List ℕ) (rows content : ℕ) (some : 0 < content) (most : content ≤ rows) where
   last-inside : (first : ℕ) → first < rows → lastBefore content (nextVisible folds rows first) < rows
@@ -46,28 +48,27 @@ module _ (folds : List ℕ) (rows content : ℕ) (some : 0 < content) (most : co
       go true s = from-first down (prevVisible folds row) (λ x v. omega (arith, prev-within folds row x v)) a b (rw s at e)
       go false s = from-first down (Row row) (λ x v. let row-is : row ≡ x = cc in omega arith) a b (rw s at e)
 
-module _ (t : List ℕ) (l : Line) (col row : ℕ) where
-  pub jump-own : IsLine t l → col ≤ 1048576 → row ≡ l .row → JumpedTo t (jumpedTo t (record { row = l .row; col = col }) row)
-      (record { row = l .row; start = l .start; col = col })
-  jump-own i n e = record { place = rw (eq-eqb row (l .row) e); line = i; small = n }
+module _ (t : List ℕ) (l : Line) (col row : ℕ) (j : JumpReady t l col row) where
+  pub jump-own : row ≡ l .row → JumpedTo t (jumpedTo t (record { row = l .row; col = col }) row) (record { row = l .row; start = l .start; col = col })
+  jump-own e = record { place = rw (eq-eqb row (l .row) e); line = j .line; small = j .small }
 
-  pub jump-other :
-      (m : Line) (len c : ℕ) → row < rowCount t → col ≤ 1048576 → (row ≡ l .row → ⊥) → m ≡ lineAt t row → len ≡ rowLen t (m .row) → c ≡ min col (len - 1) →
+  pub jump-other : (m : Line) (len c : ℕ) → (row ≡ l .row → ⊥) → m ≡ lineAt t row → len ≡ rowLen t (m .row) → c ≡ min col (len - 1) →
       JumpedTo t (jumpedTo t (record { row = l .row; col = col }) row) (record { row = m .row; start = m .start; col = c })
-  jump-other m len c h n e q s w =
+  jump-other m len c e q s w =
       let row-is : m .row ≡ row = ap (λ (x : Line). x .row) q in
       let c-is : c ≡ min col (rowLen t row - 1) = w ∙ ap (λ (x : ℕ). min col (x - 1)) (s ∙ ap (rowLen t) row-is) in
       record {
         place = rw (ne-eqb row (l .row) e) (λ i. record { row = row-is i; col = c-is i });
-        line = line-there t m row q h;
-        small = omega (arith, w);
+        line = line-there t m row q (j .in-rows);
+        small = omega (arith, w, j .small);
       }
 
 -- the jump, by what the calls find
-module _ (t folds : List ℕ) (down : Bool) (p : Position) {rows content : ℕ} {s : Span} (all : rows ≡ rowCount t) (con : content ≡ contentRows t)
+module _ (t folds : List ℕ) (down : Bool) (p : Position) {rows content : ℕ} {s : Span} (counts : Counts t rows content)
     (e : s ≡ closedFoldAt folds rows content (p .row)) where
   read : s ≡ closedFoldAt folds (rowCount t) (contentRows t) (p .row)
-  read = e ∙ ap (λ (n : ℕ). closedFoldAt folds n content (p .row)) all ∙ ap (λ (n : ℕ). closedFoldAt folds (rowCount t) n (p .row)) con
+  read = e ∙ ap (λ (n : ℕ). closedFoldAt folds n content (p .row)) (counts .all-rows) ∙
+      ap (λ (n : ℕ). closedFoldAt folds (rowCount t) n (p .row)) (counts .content-rows)
 
   pub jumped-out : (a b : ℕ) → s ≡ Of a b → jumped t folds down p ≡ jumpedTo t p (cond down b a)
   jumped-out a b q = ap (outOf t down p) (sym read ∙ q)

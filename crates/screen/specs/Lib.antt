@@ -1,3 +1,4 @@
 pub mod Screen
 pub mod Walks
+pub mod Ready
 pub mod Keeping

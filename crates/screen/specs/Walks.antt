@@ -1,14 +1,12 @@
--- What the walks of `src/walks.rt` require and answer, in rows that are broken by characters or by words.
+-- What the walks of `src/walks.rt` answer, in rows that are broken by characters or by words; what they require is in `specs/Ready.antt`.
 -- Definitions only. Assumes nothing.
 use Prim.Native.Nat.{ℕ, _-_, _*_, _≤_, _<_}
 use mathlib.Core.Path.{_≡_}
 use mathlib.Core.List.{List}
 use mathlib.Core.Bool.{Bool}
-use lib.ListN.{length, getD}
-use Rattle.row_segment.specs.Lent.{Tables}
-use Rattle.text.specs.Text.{rowCount, rowAt}
+use lib.ListN.{getD}
+use Rattle.text.specs.Text.{rowAt}
 use Rattle.text.specs.Offsets.{Stands}
-use Rattle.folds.specs.Folds.{foldRefusal}
 use Rattle.screen.specs.declared.Jump.{Jump}
 use Rattle.screen.specs.declared.Seat.{Seat}
 use Rattle.screen.specs.declared.Spot.{Spot}
@@ -27,14 +25,6 @@ aheadAt t lay down p = aheadOf down (segmentCount (lay (rowAt t (p .row)))) (sea
 -- that, and the character offset of a place in its segment
 abbrev pub seatAt : List ℕ → (List ℕ → List ℕ) → Bool → Position → Seat
 seatAt t lay down p = record { ahead = aheadAt t lay down p; offset = p .col - getD (lay (rowAt t (p .row))) (2 * seatOf t lay p) 0 }
-
--- what the checks have shown of all that a screen walk takes, with the tables that it is lent
-pub record Ready (zeros doubles white t folds : List ℕ) (rows width : ℕ) : Type 0 where
-  pub tables : Tables zeros doubles white
-  pub wide : 0 < width
-  pub brief : length t ≤ 1048576
-  pub all-rows : rows ≡ rowCount t
-  pub folds-good : foldRefusal folds rows ≡ 0
 
 -- a row with its start, and so many segments ahead in it
 pub record IsSpot (t : List ℕ) (lay : List ℕ → List ℕ) (s : Spot) : Type 0 where

@@ -8,12 +8,9 @@ use text::least;
 use text::minus;
 ghost use mathlib.Core.Path.{_≡_};
 ghost use mathlib.Core.Bool.{cond};
-ghost use Prim.Native.Nat.{_≤_, _<_};
-ghost use Rattle.text.specs.Text.{rowCount, contentRows};
-ghost use Rattle.text.specs.Offsets.{IsLine};
-ghost use Rattle.folds.specs.Folds.{foldRefusal};
 ghost use Rattle.screen.specs.Screen.{jumped, jumpedTo};
 ghost use Rattle.screen.specs.Walks.{JumpedTo};
+ghost use Rattle.screen.specs.Ready.{JumpReady, Leaves};
 ghost use Rattle.screen.specs.Keeping.{startsAt};
 
 // The last row downwards, the first upwards.
@@ -26,7 +23,7 @@ fn pick(down: bool, last: usize, first: usize) -> usize
 // The place in another row, at the column or the row's last one; the place itself where the row is
 // its own.
 fn jump_to(t: &[u32], l: Line, col: usize, row: usize) -> Jump
-    requires { ⌜ IsLine (now t) l × (row < rowCount (now t)) × (col ≤ 1048576) ⌝ }
+    requires { ⌜ JumpReady (now t) l col row ⌝ }
     ensures { λ r. ⌜ JumpedTo (now (t .entry))
         (jumpedTo (now (t .entry)) (record { row = l .row; col = col }) row) r ⌝ }
 {
@@ -57,8 +54,7 @@ fn jump(
     l: Line,
     col: usize,
 ) -> Jump
-    requires { ⌜ (rows ≡ rowCount (now t)) × (foldRefusal (now folds) rows ≡ 0) × IsLine (now t) l ×
-        (col ≤ 1048576) × (content ≡ contentRows (now t)) ⌝ }
+    requires { ⌜ Leaves (now t) (now folds) rows content l col ⌝ }
     ensures { λ r. ⌜ JumpedTo (now (t .entry))
         (jumped (now (t .entry)) (now (folds .entry)) down (record { row = l .row; col = col }))
         r ⌝ }
@@ -84,8 +80,7 @@ pub fn start(
     col: usize,
     offset: Offset,
 ) -> Jump
-    requires { ⌜ (rows ≡ rowCount (now t)) × (foldRefusal (now folds) rows ≡ 0) × IsLine (now t) l ×
-        (col ≤ 1048576) × (content ≡ contentRows (now t)) ⌝ }
+    requires { ⌜ Leaves (now t) (now folds) rows content l col ⌝ }
     ensures { λ r. ⌜ JumpedTo (now (t .entry)) (startsAt (now (t .entry)) (now (folds .entry)) down
         offset (record { row = l .row; col = col })) r ⌝ }
 {

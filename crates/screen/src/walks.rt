@@ -11,15 +11,13 @@ use text::Position;
 use text::minus;
 use visible_rows::rows;
 ghost use mathlib.Core.Path.{_≡_};
-ghost use Prim.Native.Nat.{_≤_, _<_};
-ghost use lib.ListN.{length};
+ghost use Prim.Native.Nat.{_≤_};
 ghost use Rattle.chars.specs.Width.{widthBy};
-ghost use Rattle.row_segment.specs.Lent.{Tables};
 ghost use Rattle.screen_segments.specs.Parts.{layOf};
-ghost use Rattle.text.specs.Offsets.{IsLine};
 ghost use Rattle.lists.specs.Rounds.{rounds};
 ghost use Rattle.screen.specs.Screen.{stepScreen};
-ghost use Rattle.screen.specs.Walks.{placeAt, aheadAt, seatAt, Ready, IsSpot, WalksTo};
+ghost use Rattle.screen.specs.Walks.{placeAt, seatAt, WalksTo};
+ghost use Rattle.screen.specs.Ready.{ReadyAt, Glides, LandReady, Sits, Seated, Placed};
 ghost use Rattle.screen.specs.Keeping.{orOwn, OffsetIs, glided, GlidesTo};
 
 // So many rounds from a spot: segments of its row, and then from row to visible row.
@@ -36,8 +34,8 @@ fn walk(
     from: Spot,
     n: usize,
 ) -> Spot
-    requires { ⌜ Ready (now zeros) (now doubles) (now white) (now t) (now folds) rows width ×
-        IsSpot (now t) (layOf (widthBy (now zeros) (now doubles)) word width) from ⌝ }
+    requires { ⌜ ReadyAt (now zeros) (now doubles) (now white) (now t) (now folds) rows width
+        word from ⌝ }
     ensures { λ r. ⌜ WalksTo (now (t .entry)) (now (folds .entry))
         (layOf (widthBy (now (zeros .entry)) (now (doubles .entry))) word width) down n from r ⌝ }
 {
@@ -88,9 +86,7 @@ fn land(
     s: Spot,
     offset: usize,
 ) -> Position
-    requires { ⌜ Tables (now zeros) (now doubles) (now white) × (0 < width) ×
-        (length (now t) ≤ 1048576) × (offset ≤ 4294967295) ⌝ }
-    requires { ⌜ IsSpot (now t) (layOf (widthBy (now zeros) (now doubles)) word width) s ⌝ }
+    requires { ⌜ LandReady (now zeros) (now doubles) (now white) (now t) width word s offset ⌝ }
     ensures { λ r. ⌜ r ≡ placeAt (now (t .entry))
         (layOf (widthBy (now (zeros .entry)) (now (doubles .entry))) word width) down offset
         (s .row) (s .ahead) ⌝ }
@@ -125,9 +121,8 @@ fn glide(
     offset: usize,
     n: usize,
 ) -> Position
-    requires { ⌜ Ready (now zeros) (now doubles) (now white) (now t) (now folds) rows width ×
-        (offset ≤ 4294967295) ⌝ }
-    requires { ⌜ IsSpot (now t) (layOf (widthBy (now zeros) (now doubles)) word width) from ⌝ }
+    requires { ⌜ Glides (now zeros) (now doubles) (now white) (now t) (now folds) rows width
+        word from offset ⌝ }
     ensures { λ r. ⌜ r ≡ rounds
         (stepScreen (now (t .entry)) (now (folds .entry))
         (layOf (widthBy (now (zeros .entry)) (now (doubles .entry))) word width) down offset) n
@@ -163,7 +158,7 @@ fn seat(
     l: Line,
     col: usize,
 ) -> Seat
-    requires { ⌜ Tables (now zeros) (now doubles) (now white) × (0 < width) × IsLine (now t) l ⌝ }
+    requires { ⌜ Sits (now zeros) (now doubles) (now white) (now t) width l ⌝ }
     ensures { λ r. ⌜ r ≡ seatAt (now (t .entry))
         (layOf (widthBy (now (zeros .entry)) (now (doubles .entry))) word width) down
         (record { row = l .row; col = col }) ⌝ }
@@ -196,11 +191,8 @@ fn rounds_from(
     offset: usize,
     n: usize,
 ) -> Position
-    requires { ⌜ Ready (now zeros) (now doubles) (now white) (now t) (now folds) rows width ×
-        (0 < n) ⌝ }
-    requires { ⌜ IsLine (now t) l × (offset ≤ 4294967295) × (ahead ≡ aheadAt (now t)
-        (layOf (widthBy (now zeros) (now doubles)) word width) down
-        (record { row = l .row; col = col })) ⌝ }
+    requires { ⌜ Seated (now zeros) (now doubles) (now white) (now t) (now folds) rows width
+        word down l col ahead offset n ⌝ }
     ensures { λ r. ⌜ r ≡ rounds (stepScreen (now (t .entry)) (now (folds .entry))
         (layOf (widthBy (now (zeros .entry)) (now (doubles .entry))) word width) down offset) n
         (record { row = l .row; col = col }) ⌝ }
@@ -275,9 +267,8 @@ pub fn screen_from(
     offset: Offset,
     n: usize,
 ) -> Glided
-    requires { ⌜ Ready (now zeros) (now doubles) (now white) (now t) (now folds) rows width ×
-        (0 < n) ⌝ }
-    requires { ⌜ (col ≤ 1048576) × IsLine (now t) l ⌝ }
+    requires { ⌜ Placed (now zeros) (now doubles) (now white) (now t) (now folds) rows width
+        l col n ⌝ }
     ensures { λ r. ⌜ GlidesTo (glided (now (t .entry)) (now (folds .entry))
         (layOf (widthBy (now (zeros .entry)) (now (doubles .entry))) word width) down n offset
         (record { row = l .row; col = col })) r ⌝ }

@@ -13,11 +13,9 @@ use vertical::Sticky;
 use vertical::Target;
 use vertical::moves;
 ghost use mathlib.Core.Path.{_≡_};
-ghost use Prim.Native.Nat.{_<_};
-ghost use Rattle.chars.specs.Width.{widthBy, Widths};
-ghost use Rattle.text.specs.Text.{rowCount, contentRows};
-ghost use Rattle.vertical.specs.Moves.{Accepted};
+ghost use Rattle.chars.specs.Width.{widthBy};
 ghost use Rattle.screen_segments.specs.Parts.{layOf};
+ghost use Rattle.screen.specs.Ready.{Moving, MovingBroken};
 ghost use Rattle.screen.specs.Keeping.{screenKept, moveScreenKept};
 ghost use Rattle.screen.specs.Keeping.{unkept as Keeping·unkept};
 
@@ -39,9 +37,8 @@ fn move_broken(
     width: u32,
     word: bool,
 ) -> Kept
-    requires { ⌜ Widths (now zeros) (now doubles) × (0 < width) ⌝ }
-    requires { ⌜ Accepted (now t) (now folds) l col tabstop × (rows ≡ rowCount (now t)) ×
-        (content ≡ contentRows (now t)) ⌝ }
+    requires { ⌜ MovingBroken (now zeros) (now doubles) (now t) (now folds) rows content l col
+        tabstop width ⌝ }
     ensures { λ r. ⌜ r ≡ screenKept (widthBy (now (zeros .entry)) (now (doubles .entry)))
         (now (t .entry)) (now (folds .entry)) tabstop
         (layOf (widthBy (now (zeros .entry)) (now (doubles .entry))) word width) down count
@@ -109,9 +106,8 @@ pub fn move_screen(
     mode: Wrap,
     width: u16,
 ) -> Kept
-    requires { ⌜ Widths (now zeros) (now doubles) ⌝ }
-    requires { ⌜ Accepted (now t) (now folds) l col tabstop × (rows ≡ rowCount (now t)) ×
-        (content ≡ contentRows (now t)) ⌝ }
+    requires { ⌜ Moving (now zeros) (now doubles) (now t) (now folds) rows content l col
+        tabstop ⌝ }
     ensures { λ r. ⌜ r ≡ moveScreenKept (widthBy (now (zeros .entry)) (now (doubles .entry)))
         (now (t .entry)) (now (folds .entry)) tabstop mode width down count (l .row) col sticky
         offset ⌝ }

@@ -11,6 +11,7 @@ use Rattle.row_wrap.specs.declared.Wrap.{Wrap}
 use Rattle.row_wrap.specs.declared.Wrap.the-variants.{Char, Word}
 use Rattle.row_wrap.specs.Modes.{segmentsOf}
 use Rattle.row_cells.specs.Offsets.{segmentIndex}
+use Rattle.row_segment.specs.Lent.{Tables}
 use Rattle.screen_segments.specs.declared.Part.{Part}
 
 -- `clamp_to_segment`: so many characters behind the segment's start, within the segment and the row of `len` characters
@@ -42,6 +43,11 @@ partAt segs j = record { index = j; start = getD segs (2 * j) 0; end = getD segs
 -- the segment of a column, or an earlier one that has the number
 abbrev pub partFor : List ℕ → ℕ → ℕ → Part
 partFor segs col index = partAt segs (min index (segmentIndex segs col))
+
+-- what breaking a row requires: the tables that are lent, and a width of at least one cell
+pub record Breaks (zeros doubles white : List ℕ) (width : ℕ) : Type 0 where
+  pub tables : Tables zeros doubles white
+  pub wide : 0 < width
 
 -- r is that segment, and how many there are
 pub record PartIs (row segs : List ℕ) (col index : ℕ) (r : Part) : Type 0 where

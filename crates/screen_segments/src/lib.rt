@@ -8,9 +8,8 @@ ghost use mathlib.Core.Bool.{cond};
 ghost use Prim.Native.Nat.{_+_, _-_, _≤_, _<_};
 ghost use lib.Dec.{ltb};
 ghost use Rattle.chars.specs.Width.{widthBy};
-ghost use Rattle.row_segment.specs.Lent.{Tables};
 ghost use Rattle.screen_segments.specs.Parts.{aheadOf, clampTo};
-ghost use Rattle.screen_segments.specs.Parts.{layOf, PartIs, CountIs};
+ghost use Rattle.screen_segments.specs.Parts.{layOf, Breaks, PartIs, CountIs};
 
 // A segment of a row: its number, and where it starts and ends in the row.
 pub struct Part {
@@ -31,7 +30,7 @@ pub fn find_segment(
     col: usize,
     index: usize,
 ) -> Part
-    requires { ⌜ Tables (now zeros) (now doubles) (now white) × (0 < width) ⌝ }
+    requires { ⌜ Breaks (now zeros) (now doubles) (now white) width ⌝ }
     ensures { λ r. ⌜ PartIs (now (row .entry))
         (layOf (widthBy (now (zeros .entry)) (now (doubles .entry))) word width (now (row .entry)))
         col index r ⌝ }
@@ -81,7 +80,7 @@ pub fn segment_count(
     width: u32,
     word: bool,
 ) -> usize
-    requires { ⌜ Tables (now zeros) (now doubles) (now white) × (0 < width) ⌝ }
+    requires { ⌜ Breaks (now zeros) (now doubles) (now white) width ⌝ }
     ensures { λ r. ⌜ CountIs
         (layOf (widthBy (now (zeros .entry)) (now (doubles .entry))) word width (now (row .entry)))
         r ⌝ }

@@ -12,22 +12,23 @@ use Rattle.lists.specs.Rounds.{rounds}
 use Rattle.steps.specs.Steps.{spaceFwd, backspaceBack}
 use Rattle.lists.proofs.Rounds.{rounds-on, rounds-none, rounds-still}
 
--- n rounds from p are `left` rounds from the place of the walk
+-- n rounds from p are `left` rounds from the place of the walk, in a text that isn't too long
 pub record Going (f : Position → Position) (p : Position) (n : ℕ) (t : List ℕ) (row start at left : ℕ) : Type 0 where
   pub stands : Stands t row start at
   pub same : rounds f n p ≡ rounds f left (position row (at - start))
+  pub brief : length t ≤ 1048576
 
 -- at the start, at the position itself
 pub going-start : (f : Position → Position) (p : Position) (n m : ℕ) {t : List ℕ} (start at : ℕ) → Stands t (p .row) start at → at ≡ start + p .col → m ≡ n →
-    Going f p n t (p .row) start at m
-going-start f p n m start at s a e =
+    length t ≤ 1048576 → Going f p n t (p .row) start at m
+going-start f p n m start at s a e b =
     let here : p .col ≡ at - start = omega arith in
-    record { stands = s; same = rw e (ap (rounds f n) (ap (position (p .row)) here)) }
+    record { stands = s; same = rw e (ap (rounds f n) (ap (position (p .row)) here)); brief = b }
 
 module _ {f : Position → Position} {p : Position} {n : ℕ} {t : List ℕ} {row start at left : ℕ} (g : Going f p n t row start at left) where
   -- one round, to another place
   pub going-on : (r s b : ℕ) → 0 < left → Stands t r s b → f (position row (at - start)) ≡ position r (b - s) → Going f p n t r s b (left - 1)
-  going-on r s b h w e = record { stands = w; same = g .same ∙ rounds-on f left _ h ∙ ap (rounds f (left - 1)) e }
+  going-on r s b h w e = record { stands = w; same = g .same ∙ rounds-on f left _ h ∙ ap (rounds f (left - 1)) e; brief = g .brief }
 
   -- none are left, or the round stops
   pub going-done : left ≤ 0 → position row (at - start) ≡ rounds f n p

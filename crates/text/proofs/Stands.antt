@@ -9,6 +9,11 @@ use Rattle.text.proofs.Rows.{start-zero}
 use Rattle.text.proofs.At.{at-first, at-start, at-le, at-col, after-char, after-nl, to-end}
 use Rattle.text.proofs.Before.{start-ge, behind-nl, behind-char, before-row, before-col, same-row, at-last}
 
+-- i stands in row r, which lies above row `to`: what the walks down keep
+pub record Above (t : List ℕ) (to r i : ℕ) : Type 0 where
+  pub stands : Stands t r (rowStart t r) i
+  pub above : r < to
+
 -- to and from `At`
 pub stands-at : {t : List ℕ} {row start at : ℕ} → Stands t row start at → At t row (at - start) at
 stands-at s = record { in-row = s .in-row; in-col = omega (arith, s .in-col); offset = omega (arith, s .from, s .begins) }

@@ -1,10 +1,13 @@
 -- Moves by paragraphs, `{` and `}` of motions.rs: the row is that of `find_paragraph`.
 -- Definitions only. Assumes nothing.
 use Prim.Native.Nat.{ℕ, _-_}
+use mathlib.Core.Path.{_≡_}
 use mathlib.Core.List.{List}
 use mathlib.Core.Bool.{true, false, cond}
 use lib.Dec.{eqb}
 use Rattle.text.specs.Text.{lastCol, lastRow, position}
+use Rattle.text.specs.Offsets.{IsLine}
+use Rattle.text.specs.declared.Line.{Line}
 use Rattle.row_walks.specs.Paragraphs.{paragraphs}
 use Rattle.row_walks.specs.declared.Paragraph.{Paragraph}
 use Rattle.row_walks.specs.declared.Paragraph.the-variants.{At, Nothing}
@@ -26,3 +29,8 @@ paragraphPrev t n p = upAt p (paragraphs t false (times n - 1) (p .row))
 
 abbrev pub paragraphNext : List ℕ → ℕ → Position → Position
 paragraphNext t n p = downAt t p (paragraphs t true (times n - 1) (p .row))
+
+-- what the way down requires: the row with its start, and the last row with content
+pub record DownTo (t : List ℕ) (last : ℕ) (l : Line) : Type 0 where
+  pub line : IsLine t l
+  pub last-is : last ≡ lastRow t

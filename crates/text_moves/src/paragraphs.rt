@@ -7,11 +7,9 @@ use text::Position;
 use text::minus;
 use text::most;
 ghost use mathlib.Core.Path.{_≡_};
-ghost use Rattle.text.specs.Offsets.{IsLine};
-ghost use Rattle.text.specs.Text.{lastRow};
 ghost use Rattle.row_walks.specs.declared.Paragraph.the-variants.{At};
 ghost use Rattle.positions.specs.Positions.{Accepted};
-ghost use Rattle.text_moves.specs.Paragraphs.{downAt, paragraphPrev, paragraphNext};
+ghost use Rattle.text_moves.specs.Paragraphs.{downAt, paragraphPrev, paragraphNext, DownTo};
 
 // Back over so many paragraphs, to the empty row before them or the first place of the text.
 pub fn paragraph_prev(t: &[u32], p: Position, e: Entry, count: u32) -> Position
@@ -32,7 +30,7 @@ pub fn paragraph_prev(t: &[u32], p: Position, e: Entry, count: u32) -> Position
 // The position in a row that a paragraph move leads down to, where `last` is the last row with
 // content.
 fn down_at(t: &[u32], p: Position, last: usize, l: Line) -> Position
-    requires { ⌜ IsLine (now t) l × (last ≡ lastRow (now t)) ⌝ }
+    requires { ⌜ DownTo (now t) last l ⌝ }
     ensures { λ x. ⌜ x ≡ downAt (now (t .entry)) p (At l) ⌝ }
 {
     let row = l.row;

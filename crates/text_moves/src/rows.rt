@@ -7,15 +7,15 @@ use text::least;
 use text::minus;
 use text::most;
 ghost use mathlib.Core.Path.{_≡_};
-ghost use Prim.Native.Nat.{_≤_, _<_};
+ghost use Prim.Native.Nat.{_≤_};
 ghost use lib.ListN.{length};
-ghost use Rattle.text.specs.Offsets.{IsLine};
 ghost use Rattle.positions.specs.Positions.{Accepted};
-ghost use Rattle.text_moves.specs.Rows.{atRow, bottom, nextLine, prevLine, thisLine};
+ghost use Rattle.margins.specs.Margins.{BriefLine};
+ghost use Rattle.text_moves.specs.Rows.{atRow, bottom, nextLine, prevLine, thisLine, RowFrom};
 
 // The first character of a row that is no blank.
 pub fn at_line(t: &[u32], l: Line) -> Position
-    requires { ⌜ IsLine (now t) l × (length (now t) ≤ 1048576) ⌝ }
+    requires { ⌜ BriefLine (now t) l ⌝ }
     ensures { λ r. ⌜ r ≡ atRow (now (t .entry)) (l .row) ⌝ }
 {
     let row = l.row;
@@ -34,7 +34,7 @@ pub fn top(t: &[u32]) -> Position
 
 // Row `to`, from the position's own or from the nearer end of the text.
 fn at_row(t: &[u32], p: Position, e: Entry, to: usize) -> Position
-    requires { ⌜ Accepted (now t) p e × (to < e .rows) ⌝ }
+    requires { ⌜ RowFrom (now t) p e to ⌝ }
     ensures { λ r. ⌜ r ≡ atRow (now (t .entry)) to ⌝ }
 {
     let own = Line {

@@ -6,13 +6,11 @@ use text::Line;
 use text::Position;
 use text::most;
 ghost use mathlib.Core.Path.{_≡_};
-ghost use Prim.Native.Nat.{_<_};
-ghost use Rattle.positions.specs.Positions.{Accepted};
-ghost use Rattle.text_moves.specs.Sections.{sectionBack, sectionOn};
+ghost use Rattle.text_moves.specs.Sections.{sectionBack, sectionOn, Marked};
 
 // Back to the start of the row that begins with x, so many times, or to the first row.
 pub fn section_back(t: &[u32], p: Position, e: Entry, x: u32, count: u32) -> Position
-    requires { ⌜ Accepted (now t) p e × (10 < x) ⌝ }
+    requires { ⌜ Marked (now t) p e x ⌝ }
     ensures { λ r. ⌜ r ≡ sectionBack (now (t .entry)) x count p ⌝ }
 {
     let l = Line {
@@ -25,7 +23,7 @@ pub fn section_back(t: &[u32], p: Position, e: Entry, x: u32, count: u32) -> Pos
 
 // On to the start of the row that begins with x, so many times, or to the last row.
 pub fn section_on(t: &[u32], p: Position, e: Entry, x: u32, count: u32) -> Position
-    requires { ⌜ Accepted (now t) p e × (10 < x) ⌝ }
+    requires { ⌜ Marked (now t) p e x ⌝ }
     ensures { λ r. ⌜ r ≡ sectionOn (now (t .entry)) x count p ⌝ }
 {
     let l = Line {

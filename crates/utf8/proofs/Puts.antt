@@ -6,6 +6,7 @@ use Rattle.lists.proofs.Lists.{drop-at}
 use Rattle.chars.specs.Scalar.{isScalar, notScalar}
 use Rattle.utf8.specs.Encoding.{encoding, utf8}
 use Rattle.utf8.specs.Walks.{Put}
+use Rattle.utf8.specs.Rooms.{PointRoom}
 use Rattle.utf8.proofs.Encodings.{scalar-most, encoding-one, encoding-two, encoding-three, encoding-four, size-one, size-two, size-three, size-four}
 
 -- what is written of one
@@ -70,12 +71,15 @@ pub record Laying (t room : List ℕ) (at i : ℕ) (bytes : List ℕ) : Type 0 w
   pub size : length bytes ≡ length room
 
 module _ {t room bytes : List ℕ} {at i : ℕ} (w : Laying t room at i bytes) where
-  pub laying-room : i < length t → length (utf8 t) ≤ length room → (getD t i 0 ≤ 0x10ffff) × (at + length (encoding (getD t i 0)) ≤ length bytes)
+  pub laying-room : i < length t → length (utf8 t) ≤ length room → PointRoom (getD t i 0) at bytes
   laying-room h k =
       let value = getD t i 0 in
       let rest = utf8 (drop (i + 1) t) in
       let by-scalar-first = scalar-first value (drop (i + 1) t) (rw (drop-at t i h) at (w .scalar)) in
-      (scalar-most value (by-scalar-first .0), omega (arith, w .total, w .size, ap length (utf8-at t i h), length-append (encoding value) rest))
+      record {
+        point = scalar-most value (by-scalar-first .0);
+        room = omega (arith, w .total, w .size, ap length (utf8-at t i h), length-append (encoding value) rest);
+      }
 
   pub laying-on : i < length t → {at′ : ℕ} {bytes′ : List ℕ} → Put bytes at (encoding (getD t i 0)) at′ bytes′ → Laying t room at′ (i + 1) bytes′
   laying-on h {at′} {bytes′} p =

@@ -3,3 +3,4 @@ pub mod Decoding
 pub mod Sequences
 pub mod Calls
 pub mod Walks
+pub mod Rooms

@@ -7,14 +7,14 @@ use crate::Step;
 use crate::Walk;
 use crate::sequences::step;
 ghost use mathlib.Core.Path.{_≡_};
-ghost use mathlib.Core.Bool.{not, false};
-ghost use Prim.Native.Nat.{_+_, _-_, _≤_, _<_};
-ghost use lib.ListN.{length, take, drop};
+ghost use mathlib.Core.Bool.{not};
+ghost use Prim.Native.Nat.{_<_};
 ghost use Rattle.lists.specs.Lists.{any};
 ghost use Rattle.utf8.specs.Encoding.{isAbove};
 ghost use Rattle.utf8.specs.Decoding.{decoding};
 ghost use Rattle.utf8.specs.Calls.{checked, decodedIn, DecodesTo};
-ghost use Rattle.utf8.specs.Walks.{Counts, Onward, Walked, Holds, Wrote};
+ghost use Rattle.utf8.specs.Walks.{Onward, Walked, Holds, Wrote};
+ghost use Rattle.utf8.specs.Rooms.{CountsUntil, HoldsUntil, PlainUntil};
 
 // How many bytes a stretch has.
 const STRETCH: usize = 64;
@@ -47,7 +47,7 @@ fn stretch(at: usize, len: usize) -> usize
 
 // Counts on, sequence by sequence, to an index at or past `until`.
 fn count_on(bytes: &[u8], at: usize, until: usize, count: usize) -> Walk
-    requires { ⌜ Counts (now bytes) at count × (until ≤ length (now bytes)) ⌝ }
+    requires { ⌜ CountsUntil (now bytes) at count until ⌝ }
     ensures { λ r. ⌜ Walked (now (bytes .entry)) until r ⌝ }
 {
     let mut i = at;
@@ -95,8 +95,7 @@ pub fn check(bytes: &[u8]) -> Checked
 
 // Writes on, byte by byte, what is ASCII up to `until`.
 fn widen_on(bytes: &[u8], points: &mut [u32], at: usize, until: usize, count: usize) -> Spot
-    requires { ⌜ Holds (now bytes) at count (now points) × (until ≤ length (now bytes)) ⌝ }
-    requires { ⌜ any isAbove (take (until - at) (drop at (now bytes))) ≡ false ⌝ }
+    requires { ⌜ PlainUntil (now bytes) at count (now points) until ⌝ }
     ensures { λ r. ⌜ Wrote (now (bytes .entry)) (now (points .entry)) count until r
         (now (points .exit)) ⌝ }
 {
@@ -113,7 +112,7 @@ fn widen_on(bytes: &[u8], points: &mut [u32], at: usize, until: usize, count: us
 // Writes on, sequence by sequence, to an index at or past `until`. No sequence is bad where the
 // first pass went through.
 fn write_on(bytes: &[u8], points: &mut [u32], at: usize, until: usize, count: usize) -> Spot
-    requires { ⌜ Holds (now bytes) at count (now points) × (until ≤ length (now bytes)) ⌝ }
+    requires { ⌜ HoldsUntil (now bytes) at count (now points) until ⌝ }
     ensures { λ r. ⌜ Wrote (now (bytes .entry)) (now (points .entry)) count until r
         (now (points .exit)) ⌝ }
 {

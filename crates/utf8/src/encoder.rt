@@ -1,15 +1,13 @@
 // Bytes from code points: everything is checked and counted first, and then written.
 use crate::Encoded;
 ghost use mathlib.Core.Path.{_≡_};
-ghost use mathlib.Core.Bool.{false};
-ghost use Prim.Native.Nat.{_+_, _≤_};
+ghost use Prim.Native.Nat.{_≤_};
 ghost use lib.ListN.{length};
 ghost use lib.Seq.{sets};
-ghost use Rattle.lists.specs.Lists.{any};
-ghost use Rattle.chars.specs.Scalar.{notScalar};
 ghost use Rattle.utf8.specs.Encoding.{encoding, utf8};
 ghost use Rattle.utf8.specs.Calls.{EncodesTo};
 ghost use Rattle.utf8.specs.Walks.{Put};
+ghost use Rattle.utf8.specs.Rooms.{PointRoom, TextRoom};
 
 // How many bytes the encoding of x has.
 fn size(x: u32) -> usize
@@ -43,7 +41,7 @@ fn size_all(points: &[u32]) -> usize
 
 // Writes the encoding of x at an index, and answers the index behind it.
 fn put(bytes: &mut [u8], at: usize, x: u32) -> usize
-    requires { ⌜ (x ≤ 0x10ffff) × (at + length (encoding x) ≤ length (now bytes)) ⌝ }
+    requires { ⌜ PointRoom x at (now bytes) ⌝ }
     ensures { λ r. ⌜ Put (now (bytes .entry)) at (encoding x) r (now (bytes .exit)) ⌝ }
 {
     if x < 0x80 {
@@ -70,8 +68,7 @@ fn put(bytes: &mut [u8], at: usize, x: u32) -> usize
 
 // Writes the encoding of a text at the start of `bytes`.
 fn write(points: &[u32], bytes: &mut [u8])
-    requires { ⌜ any notScalar (now points) ≡ false ⌝ }
-    requires { ⌜ length (utf8 (now points)) ≤ length (now bytes) ⌝ }
+    requires { ⌜ TextRoom (now points) (now bytes) ⌝ }
     ensures { λ _. ⌜ now (bytes .exit) ≡ sets (now (bytes .entry)) 0
         (utf8 (now (points .entry))) ⌝ }
 {

@@ -4,11 +4,12 @@ use Rattle.text.specs.Text.{rowCount, rowAt}
 use Rattle.text.proofs.Parts.{row-fits}
 use Rattle.text.specs.Offsets.{lineAt}
 use Rattle.text.specs.declared.Line.{Line}
+use Rattle.row_columns.specs.Ready.{Fits}
 use Rattle.vertical.specs.Moves.{AcceptedRow}
 
 module _ {t : List ℕ} {row tabstop : ℕ} (a : AcceptedRow t row tabstop) where
-  pub row-ready : {line : List ℕ} → line ≡ rowAt t row → (length line ≤ 1048576) × (tabstop ≤ 1000)
-  row-ready e = (omega (arith, ap length e, row-fits t row (a .in-rows), a .brief), a .stop)
+  pub row-ready : {line : List ℕ} → line ≡ rowAt t row → Fits line tabstop
+  row-ready e = record { brief = omega (arith, ap length e, row-fits t row (a .in-rows), a .brief); near = a .stop }
 
   -- the row is found by its number
   pub line-is : {l : Line} → l ≡ lineAt t (min row (rowCount t - 1)) → l ≡ lineAt t row

@@ -5,8 +5,11 @@ use mathlib.Core.Path.{_≡_}
 use mathlib.Core.List.{List}
 use mathlib.Core.Bool.{cond}
 use lib.Dec.{eqb}
-use lib.IntN.{ℤ}
+use lib.IntN.{ℤ, negℤ}
 use lib.ListN.{length}
+use mir.Syntax.{w64}
+use mir.Val.{SFits}
+use Rattle.chars.specs.Width.{Widths}
 use Rattle.row_columns.specs.Columns.{cursorCol, charCol}
 use Rattle.text.specs.Text.{rowCount, rowAt, lastCol}
 use Rattle.text.specs.Offsets.{Stands, IsLine}
@@ -46,3 +49,24 @@ pub record Accepted (t folds : List ℕ) (l : Line) (col tabstop : ℕ) : Type 0
   pub here : Stands t (l .row) (l .start) (l .start + col)
   pub line : IsLine t l
   pub folds-good : foldRefusal folds (rowCount t) ≡ 0
+
+-- the same with the tables of widths that are lent, and with the count of rows
+pub record AcceptedBy (zeros doubles t folds : List ℕ) (l : Line) (col tabstop : ℕ) : Type 0 where
+  pub widths : Widths zeros doubles
+  pub place : Accepted t folds l col tabstop
+
+pub record Ready (zeros doubles t folds : List ℕ) (rows : ℕ) (l : Line) (col tabstop : ℕ) : Type 0 where
+  pub accepted : AcceptedBy zeros doubles t folds l col tabstop
+  pub all-rows : rows ≡ rowCount t
+
+-- and with a delta whose negative fits in 64 bits, too
+pub record ReadyBy (zeros doubles t folds : List ℕ) (rows : ℕ) (l : Line) (col tabstop : ℕ) (delta : ℤ) : Type 0 where
+  pub ready : Ready zeros doubles t folds rows l col tabstop
+  pub turns : SFits w64 (negℤ delta)
+
+-- what the search for a column of a row requires, from a row with its start
+pub record Aims (zeros doubles t : List ℕ) (rows : ℕ) (from : Line) (row tabstop : ℕ) : Type 0 where
+  pub widths : Widths zeros doubles
+  pub row-good : AcceptedRow t row tabstop
+  pub line : IsLine t from
+  pub all-rows : rows ≡ rowCount t

@@ -7,15 +7,10 @@ use text::least;
 use text::minus;
 use visible_rows::rows;
 ghost use mathlib.Core.Path.{_≡_};
-ghost use lib.IntN.{negℤ};
-ghost use mir.Syntax.{w64};
-ghost use mir.Val.{SFits};
-ghost use Rattle.chars.specs.Width.{widthBy, Widths};
-ghost use Rattle.text.specs.Text.{rowCount};
-ghost use Rattle.text.specs.Offsets.{IsLine};
+ghost use Rattle.chars.specs.Width.{widthBy};
 ghost use Rattle.visible_rows.specs.Visible.{deltaOf};
-ghost use Rattle.vertical.specs.Moves.{Accepted, AcceptedRow, wantedCol, aimedCol};
-ghost use Rattle.vertical.specs.Moves.{moveVertical};
+ghost use Rattle.vertical.specs.Moves.{AcceptedBy, Ready, ReadyBy, Aims, wantedCol};
+ghost use Rattle.vertical.specs.Moves.{aimedCol, moveVertical};
 
 // The visual column to aim for: the sticky one, or else the cursor's own.
 pub fn wanted(
@@ -28,8 +23,7 @@ pub fn wanted(
     sticky: Sticky,
     tabstop: u32,
 ) -> u32
-    requires { ⌜ Widths (now zeros) (now doubles) ⌝ }
-    requires { ⌜ Accepted (now t) (now folds) l col tabstop ⌝ }
+    requires { ⌜ AcceptedBy (now zeros) (now doubles) (now t) (now folds) l col tabstop ⌝ }
     ensures { λ r. ⌜ r ≡ wantedCol (widthBy (now (zeros .entry)) (now (doubles .entry)))
         (now (t .entry)) tabstop (l .row) col sticky ⌝ }
 {
@@ -53,8 +47,7 @@ fn aimed(
     want: u32,
     tabstop: u32,
 ) -> usize
-    requires { ⌜ Widths (now zeros) (now doubles) × AcceptedRow (now t) row tabstop ⌝ }
-    requires { ⌜ IsLine (now t) from × (rows ≡ rowCount (now t)) ⌝ }
+    requires { ⌜ Aims (now zeros) (now doubles) (now t) rows from row tabstop ⌝ }
     ensures { λ r. ⌜ r ≡ aimedCol (widthBy (now (zeros .entry)) (now (doubles .entry)))
         (now (t .entry)) tabstop want row ⌝ }
 {
@@ -77,9 +70,7 @@ fn move_vertical(
     delta: i64,
     tabstop: u32,
 ) -> Target
-    requires { ⌜ Widths (now zeros) (now doubles) ⌝ }
-    requires { ⌜ Accepted (now t) (now folds) l col tabstop × SFits w64 (negℤ delta) ⌝ }
-    requires { ⌜ rows ≡ rowCount (now t) ⌝ }
+    requires { ⌜ ReadyBy (now zeros) (now doubles) (now t) (now folds) rows l col tabstop delta ⌝ }
     ensures { λ r. ⌜ r ≡ moveVertical (widthBy (now (zeros .entry)) (now (doubles .entry)))
         (now (t .entry)) (now (folds .entry)) tabstop delta (l .row) col sticky ⌝ }
 {
@@ -115,8 +106,7 @@ pub fn move_rows(
     count: u32,
     tabstop: u32,
 ) -> Target
-    requires { ⌜ Widths (now zeros) (now doubles) ⌝ }
-    requires { ⌜ Accepted (now t) (now folds) l col tabstop × (rows ≡ rowCount (now t)) ⌝ }
+    requires { ⌜ Ready (now zeros) (now doubles) (now t) (now folds) rows l col tabstop ⌝ }
     ensures { λ r. ⌜ r ≡ moveVertical (widthBy (now (zeros .entry)) (now (doubles .entry)))
         (now (t .entry)) (now (folds .entry)) tabstop (deltaOf down count) (l .row) col sticky ⌝ }
 {

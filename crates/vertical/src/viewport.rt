@@ -7,14 +7,14 @@ use text::minus;
 use text::most;
 ghost use mathlib.Core.Path.{_≡_};
 ghost use Prim.Native.Nat.{_-_, min};
-ghost use Rattle.text.specs.Text.{rowCount, contentRows};
+ghost use Rattle.text.specs.Text.{contentRows};
 ghost use Rattle.text.specs.Offsets.{lineAt};
 ghost use Rattle.vertical.specs.Viewport.{bottomRow, topRow, middleRow, baseRow};
-ghost use Rattle.vertical.specs.Viewport.{viewportRow};
+ghost use Rattle.vertical.specs.Viewport.{viewportRow, Counts};
 
 // Row `row`, or the last row with content where there are fewer of those.
 fn content_line(t: &[u32], rows: usize, content: usize, row: usize) -> Line
-    requires { ⌜ (rows ≡ rowCount (now t)) × (content ≡ contentRows (now t)) ⌝ }
+    requires { ⌜ Counts (now t) rows content ⌝ }
     ensures { λ r. ⌜ r ≡ lineAt (now (t .entry)) (min row (contentRows (now (t .entry)) - 1)) ⌝ }
 {
     text::offsets::row_line(t, rows, least(row, content - 1))
@@ -31,7 +31,7 @@ fn bottom_row(t: &[u32], content: usize, top: u32, height: u16) -> usize
 
 // `H`: so many rows below the viewport's first, or the last row with content.
 fn viewport_top(t: &[u32], rows: usize, content: usize, top: u32, offset: u32) -> Line
-    requires { ⌜ (rows ≡ rowCount (now t)) × (content ≡ contentRows (now t)) ⌝ }
+    requires { ⌜ Counts (now t) rows content ⌝ }
     ensures { λ r. ⌜ r ≡ lineAt (now (t .entry)) (topRow (now (t .entry)) top offset) ⌝ }
 {
     content_line(t, rows, content, top as usize + offset as usize)
@@ -39,7 +39,7 @@ fn viewport_top(t: &[u32], rows: usize, content: usize, top: u32, offset: u32) -
 
 // `M`: the row in the middle between the viewport's first row and its last.
 fn viewport_middle(t: &[u32], rows: usize, content: usize, top: u32, height: u16) -> Line
-    requires { ⌜ (rows ≡ rowCount (now t)) × (content ≡ contentRows (now t)) ⌝ }
+    requires { ⌜ Counts (now t) rows content ⌝ }
     ensures { λ r. ⌜ r ≡ lineAt (now (t .entry)) (middleRow (now (t .entry)) top height) ⌝ }
 {
     let bottom = bottom_row(t, content, top, height);
@@ -61,7 +61,7 @@ fn viewport_bottom(
     height: u16,
     offset: u32,
 ) -> Line
-    requires { ⌜ (rows ≡ rowCount (now t)) × (content ≡ contentRows (now t)) ⌝ }
+    requires { ⌜ Counts (now t) rows content ⌝ }
     ensures { λ r. ⌜ r ≡ lineAt (now (t .entry)) (baseRow (now (t .entry)) top height offset) ⌝ }
 {
     let bottom = bottom_row(t, content, top, height);
@@ -84,7 +84,7 @@ pub fn viewport_line(
     height: u16,
     offset: u32,
 ) -> Line
-    requires { ⌜ (rows ≡ rowCount (now t)) × (content ≡ contentRows (now t)) ⌝ }
+    requires { ⌜ Counts (now t) rows content ⌝ }
     ensures { λ r. ⌜ r ≡ lineAt (now (t .entry))
         (viewportRow edge (now (t .entry)) top height offset) ⌝ }
 {

@@ -1,5 +1,5 @@
 -- The refusals of a word motion by a Vim list, check by check, and what an accepted call has. Assumes nothing.
-use Rattle.lists.proofs.Kit.{_≡_, ap, sym, _∙_, List, Bool, true, ℕ, _≤_, eq-eqb, ne-eqb}
+use Rattle.lists.proofs.Kit.{_≡_, ap, sym, _∙_, List, Bool, ℕ, eq-eqb, ne-eqb}
 use Rattle.text.specs.Text.{rowCount}
 use Rattle.folds.specs.Folds.{foldRefusal}
 use Rattle.positions.specs.declared.Entry.{Entry}
@@ -7,14 +7,14 @@ use Rattle.positions.specs.Positions.{refusalFolds, orFolds, Accepted}
 use Rattle.positions.proofs.Checks.{entered}
 use Rattle.positions.proofs.Entered.{folds-none, folds-number}
 use Rattle.vim_reader.specs.declared.VimRead.{VimRead}
-use Rattle.vim_reader.specs.Table.{kept, readOf}
+use Rattle.vim_reader.specs.Table.{readOf}
 use Rattle.vim_reader.proofs.Answers.{read-few}
 use Rattle.word_rounds.specs.declared.Motion.{Motion}
 use Rattle.motions.specs.declared.Caret.{Caret}
 use Rattle.motions.specs.Carets.{here, entryOf}
 use Rattle.motions.specs.WordMoves.{wordCaret}
 use Rattle.vim_words.specs.declared.VimMoved.the-variants.{To, Bad, Refused}
-use Rattle.vim_words.specs.Flags.{lowEnds}
+use Rattle.vim_words.specs.Flags.{LowTable}
 use Rattle.vim_words.specs.ByVim.{inVimList, byRead, wordByVim}
 use Rattle.vim_words.proofs.Above.{read-low}
 
@@ -30,8 +30,8 @@ entered-none t own k e is z =
     (by-entered, rw (sym (by-entered .all-rows)) (none .1))
 
 -- the list
-pub read-ready : (list : List ℕ) (r : VimRead) → r ≡ readOf list → r .refusal ≡ 0 → (r .spec .len ≤ 128) × (lowEnds (kept (r .spec)) ≡ true)
-read-ready list r w z = rw w (read-few list, read-low list (sym (ap (λ (x : VimRead). x .refusal) w) ∙ z))
+pub read-ready : (list : List ℕ) (r : VimRead) → r ≡ readOf list → r .refusal ≡ 0 → LowTable (r .spec)
+read-ready list r w z = rw w (record { short = read-few list; low = read-low list (sym (ap (λ (x : VimRead). x .refusal) w) ∙ z) })
 
 -- a caret, or what the list is refused with
 module _ (r : VimRead) (k : Caret) where

@@ -7,17 +7,12 @@ use vim_reader::VimSpec;
 use word_kinds::Spot;
 use word_rounds::Motion;
 ghost use mathlib.Core.Path.{_≡_};
-ghost use mathlib.Core.Bool.{true};
-ghost use Prim.Native.Nat.{_≤_, _<_, _^_};
-ghost use Rattle.text.specs.Text.{rowCount};
-ghost use Rattle.folds.specs.Folds.{foldRefusal};
-ghost use Rattle.positions.specs.Positions.{Accepted};
+ghost use Prim.Native.Nat.{_<_, _^_};
 ghost use Rattle.vim_grammar.specs.Tokens.{inVim};
 ghost use Rattle.vim_reader.specs.Table.{kept};
-ghost use Rattle.motions.specs.Carets.{here, placed};
+ghost use Rattle.motions.specs.Carets.{placed};
 ghost use Rattle.motions.specs.WordMoves.{foldsOf, wordCaret};
-ghost use Rattle.vim_words.specs.Flags.{lowEnds};
-ghost use Rattle.vim_words.specs.ByVim.{wordByVim};
+ghost use Rattle.vim_words.specs.ByVim.{wordByVim, Movable};
 
 // The caret at another row and column: its sticky column stays.
 fn placed(k: Caret, row: usize, col: usize) -> Caret
@@ -40,8 +35,7 @@ fn to_word(
     stop: bool,
     count: u32,
 ) -> Caret
-    requires { ⌜ Accepted (now t) (here k) e × (foldRefusal (now own) (rowCount (now t)) ≡ 0) ×
-        (spec .len ≤ 128) × (lowEnds (kept spec) ≡ true) ⌝ }
+    requires { ⌜ Movable (now t) (now own) spec k e ⌝ }
     ensures { λ r. ⌜ r ≡ wordCaret (now (t .entry)) (now (own .entry)) (inVim (kept spec)) big m
         stop count k ⌝ }
 {

@@ -5,23 +5,20 @@ use word_kinds::Setting;
 use word_kinds::Spot;
 use word_rounds::Motion;
 use words::Prepared;
-ghost use mathlib.Core.Path.{_≡_};
-ghost use mathlib.Core.Bool.{true};
-ghost use Prim.Native.Nat.{_≤_};
 ghost use Rattle.vim_grammar.specs.Tokens.{inVim};
 ghost use Rattle.vim_reader.specs.Table.{kept};
 ghost use Rattle.word_kinds.specs.Places.{kindOf};
 ghost use Rattle.word_kinds.specs.Spots.{placeOf, Lands};
 ghost use Rattle.word_rounds.specs.Rounds.{wordMotion};
-ghost use Rattle.word_rounds.specs.Turns.{Folded};
 ghost use Rattle.words.specs.Prepared.{Prepares};
-ghost use Rattle.vim_words.specs.Flags.{lowEnds};
+ghost use Rattle.vim_words.specs.Flags.{LowTable};
+ghost use Rattle.vim_words.specs.ByVim.{Walkable};
 
 // The flags of the table, the setting, and whether the ranges of the letters are to be lent. The
 // rows of the text, and those with content, are handed in. No token that was read has an end above
 // 255.
 pub fn prepare_vim(t: &[u32], spec: VimSpec, big: bool, rows: usize, content: usize) -> Prepared
-    requires { ⌜ (spec .len ≤ 128) × (lowEnds (kept spec) ≡ true) ⌝ }
+    requires { ⌜ LowTable spec ⌝ }
     ensures { λ r. ⌜ Prepares (now (t .entry)) (inVim (kept spec)) big rows content r ⌝ }
 {
     let told = flags::flags_of(spec);
@@ -54,8 +51,7 @@ pub fn vim_motion(
     count: u32,
     p: Spot,
 ) -> Spot
-    requires { ⌜ Folded (now t) (now folds) rows content p × (spec .len ≤ 128) ×
-        (lowEnds (kept spec) ≡ true) ⌝ }
+    requires { ⌜ Walkable (now t) (now folds) spec rows content p ⌝ }
     ensures { λ r.
         ⌜ Lands (now (t .entry)) r
         (wordMotion (now (t .entry)) (now (folds .entry)) (kindOf (inVim (kept spec)) big) big

@@ -5,6 +5,7 @@ ghost use mathlib.Core.Path.{_≡_};
 ghost use Prim.Native.Nat.{_+_, _≤_, _<_};
 ghost use lib.ListN.{length, take};
 ghost use Rattle.print.specs.Print.{Wrote, decimal};
+ghost use Rattle.vim_writer.specs.Rooms.{PartRoom};
 
 // Writes one code point.
 pub fn put(out: &mut [u32], at: usize, x: u32) -> usize
@@ -17,7 +18,7 @@ pub fn put(out: &mut [u32], at: usize, x: u32) -> usize
 
 // Writes the first n of s, which are ASCII characters.
 fn put_ascii(out: &mut [u32], at: usize, s: &[u8], n: usize) -> usize
-    requires { ⌜ (n ≤ length (now s)) × (at + n ≤ length (now out)) ⌝ }
+    requires { ⌜ PartRoom (now s) n at (now out) ⌝ }
     ensures { λ r. ⌜ Wrote (now (out .entry)) at (take n (now (s .entry))) r (now (out .exit)) ⌝ }
 {
     let mut i: usize = 0;

@@ -7,6 +7,7 @@ ghost use lib.ListN.{length};
 ghost use Rattle.print.specs.Print.{Wrote};
 ghost use Rattle.vim_reader.specs.Table.{kept};
 ghost use Rattle.vim_writer.specs.Written.{written, writtenOf, writtenIn};
+ghost use Rattle.vim_writer.specs.Rooms.{ListRoom};
 
 // `,`.
 const COMMA: u32 = 44;
@@ -33,7 +34,7 @@ fn list_size(spec: VimSpec) -> usize
 
 // Writes the list of a table to the front of the room.
 fn put_list(spec: VimSpec, room: &mut [u32]) -> usize
-    requires { ⌜ (spec .len ≤ 128) × (length (written (kept spec)) ≤ length (now room)) ⌝ }
+    requires { ⌜ ListRoom spec (now room) ⌝ }
     ensures { λ r. ⌜ Wrote (now (room .entry)) 0 (written (kept spec)) r (now (room .exit)) ⌝ }
 {
     let len = spec.len;

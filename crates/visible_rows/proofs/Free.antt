@@ -32,6 +32,7 @@ module _ {down : Bool} {row s e closed free : ℕ} where
 
 -- the first i numbers of the folds hide none of the next `free` rows
 pub record FreeTo (folds : List ℕ) (rows : ℕ) (down : Bool) (row free i : ℕ) : Type 0 where
+  pub inside : i ≤ length folds + 2
   pub within : free ≤ rowsBeyond down rows row
   pub shown : (k : ℕ) → 0 < k → k ≤ free → hidden folds (shift down row k) ≡ anyFold (foldHides (shift down row k)) (drop i folds)
 
@@ -40,6 +41,7 @@ module _ {folds : List ℕ} {rows : ℕ} {down : Bool} {row free i : ℕ} (so-fa
       FreeTo folds rows down row r (i + 3)
   free-step {r} h clear =
       record {
+        inside = omega arith;
         within = omega (arith, so-far .within, clear .most);
         shown = λ k p l. so-far .shown k p (omega (arith, clear .most)) ∙ any-fold-on folds i h (foldHides (shift down row k)) ∙ rw (clear .shown k p l);
       }

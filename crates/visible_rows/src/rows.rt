@@ -13,11 +13,11 @@ ghost use lib.IntN.{pos, negℤ, natAbs};
 ghost use lib.Signed.{ltZ};
 ghost use mir.Syntax.{w64};
 ghost use mir.Val.{SFits};
-ghost use Rattle.folds.specs.Folds.{foldRefusal};
 ghost use Rattle.lists.specs.Rounds.{rounds};
 ghost use Rattle.visible_rows.specs.Visible.{toward, stepRow, shownRow, verticalRow, deltaOf};
 ghost use Rattle.visible_rows.specs.Visible.{shift};
 ghost use Rattle.visible_rows.specs.Visible.{RowIs, rowsBeyond, Clear, Free, HopTo};
+ghost use Rattle.visible_rows.specs.Ready.{RowReady, WalkReady, HopReady, DeltaReady};
 
 // So many rows or segments further, down or up, where up stops at 0.
 pub fn shifted(down: bool, i: usize, n: usize) -> usize
@@ -70,7 +70,7 @@ pub fn free_rows(folds: &[u32], rows: usize, down: bool, row: usize) -> usize
 
 // The nearest visible row below or above.
 pub fn visible_row(folds: &[u32], rows: usize, down: bool, row: usize) -> Visible
-    requires { ⌜ (foldRefusal (now folds) rows ≡ 0) × (row < rows) ⌝ }
+    requires { ⌜ RowReady (now folds) rows row ⌝ }
     ensures { λ r. ⌜ r ≡ toward (now (folds .entry)) rows down row ⌝ }
 {
     if down {
@@ -82,8 +82,7 @@ pub fn visible_row(folds: &[u32], rows: usize, down: bool, row: usize) -> Visibl
 // The nearest visible row, where it is known how many rows come next that no fold hides: the folds
 // are asked only where there are none.
 pub fn hop(folds: &[u32], rows: usize, down: bool, row: usize, free: usize) -> Hop
-    requires { ⌜ (foldRefusal (now folds) rows ≡ 0) × (row < rows) × (rows ≤ 1048577) ×
-        Free (now folds) rows down row free ⌝ }
+    requires { ⌜ HopReady (now folds) rows down row free ⌝ }
     ensures { λ r. ⌜ HopTo (now (folds .entry)) rows down row r ⌝ }
 {
     if free > 0 {
@@ -106,7 +105,7 @@ pub fn hop(folds: &[u32], rows: usize, down: bool, row: usize, free: usize) -> H
 
 // So many visible rows on, or the last one that there is.
 fn rows_on(folds: &[u32], rows: usize, down: bool, row: usize, n: usize) -> usize
-    requires { ⌜ (foldRefusal (now folds) rows ≡ 0) × (row < rows) × (rows ≤ 1048577) ⌝ }
+    requires { ⌜ WalkReady (now folds) rows row ⌝ }
     ensures { λ r. ⌜ RowIs (rounds (stepRow (now (folds .entry)) rows down) n row) rows r ⌝ }
 {
     let mut r = row;
@@ -164,7 +163,7 @@ pub fn delta_of(down: bool, count: u32) -> i64
 
 // The row itself, or the first row of the fold that hides it.
 fn shown_row(folds: &[u32], rows: usize, row: usize) -> usize
-    requires { ⌜ (foldRefusal (now folds) rows ≡ 0) × (row < rows) ⌝ }
+    requires { ⌜ RowReady (now folds) rows row ⌝ }
     ensures { λ r. ⌜ RowIs (shownRow (now (folds .entry)) rows row) rows r ⌝ }
 {
     if !folds::is_row_hidden(folds, row) {
@@ -179,8 +178,7 @@ fn shown_row(folds: &[u32], rows: usize, row: usize) -> usize
 // The row that a signed step of visible rows leads to; the way up starts from the first row of the
 // fold that hides the row, the way down from the row itself.
 pub fn vertical_row(folds: &[u32], rows: usize, row: usize, delta: i64) -> usize
-    requires { ⌜ (foldRefusal (now folds) rows ≡ 0) × (row < rows) × (rows ≤ 1048577) × SFits w64
-        (negℤ delta) ⌝ }
+    requires { ⌜ DeltaReady (now folds) rows row delta ⌝ }
     ensures { λ r. ⌜ RowIs (verticalRow (now (folds .entry)) rows delta row) rows r ⌝ }
 {
     if delta < 0 {

@@ -10,6 +10,8 @@ use Rattle.text.specs.declared.Position.{Position}
 use Rattle.folds.specs.Folds.{foldRefusal, closedFoldAt}
 use Rattle.folds.specs.declared.Span.{Span}
 use Rattle.folds.specs.declared.Span.the-variants.{Of, NoSpan}
+use Rattle.fold_stretches.specs.declared.Stretch.{Stretch}
+use Rattle.fold_stretches.specs.Stretches.{NoFold}
 use Rattle.word_kinds.specs.declared.Spot.{Spot}
 use Rattle.word_rounds.specs.declared.Motion.{Motion}
 use Rattle.word_rounds.specs.declared.Motion.the-variants.{Fwd, Back, End, EndBack}
@@ -71,6 +73,16 @@ motion c folds big m stop count i = after (roundOf c folds big m stop i) (counte
 abbrev pub positionOf : List ℕ → ℕ → Position
 positionOf c i = position (rowOf c i) (i - startOf c (rowOf c i))
 
+-- what the way to a row requires: a spot to begin at, and the row
+pub record RowFrom (c : List ℕ) (p : Spot) (row : ℕ) : Type 0 where
+  pub stands : Stands c p
+  pub in-row : row < rowsOf c
+
+-- and that the slice holds classes, where the row may be empty
+pub record ClassRow (c : List ℕ) (p : Spot) (row : ℕ) : Type 0 where
+  pub classes : Classes c
+  pub from : RowFrom c p row
+
 -- what a round requires: the slice holds classes, the folds are accepted, and the spot is one of its places
 pub record Ready (c folds : List ℕ) (rows content : ℕ) (p : Spot) : Type 0 where
   pub classes : Classes c
@@ -79,6 +91,11 @@ pub record Ready (c folds : List ℕ) (rows content : ℕ) (p : Spot) : Type 0 w
   pub content-rows : content ≡ contentOf c
   pub stands : Stands c p
   pub inside : p .at + 1 ≤ length c
+
+-- and with a stretch of rows without closed folds
+pub record Near (c folds : List ℕ) (rows content : ℕ) (w : Stretch) (p : Spot) : Type 0 where
+  pub ready : Ready c folds rows content p
+  pub bare : NoFold folds w
 
 -- and a motion from a row and a column: they are those of a place
 pub record Asked (c folds : List ℕ) (p : Position) : Type 0 where

@@ -4,14 +4,12 @@ use folds::Span;
 use word_classes::EMPTY_ROW;
 use word_kinds::Spot;
 ghost use mathlib.Core.Path.{_≡_};
-ghost use Prim.Native.Nat.{_<_};
-ghost use Rattle.word_class_rows.specs.Rows.{rowsOf, endOf, lastOf, Stands};
-ghost use Rattle.word_class_laws.specs.Determines.{Classes};
-ghost use Rattle.word_by_class.specs.Rounds.{jumpFwd, jumpBack, Ready};
+ghost use Rattle.word_class_rows.specs.Rows.{endOf, lastOf};
+ghost use Rattle.word_by_class.specs.Rounds.{jumpFwd, jumpBack, RowFrom, ClassRow, Ready};
 
 // The place that ends a row, from any place: of row 0, from 4, place 2.
 fn end_of(c: &[u8], p: Spot, row: usize) -> usize
-    requires { ⌜ Stands (now c) p × (row < rowsOf (now c)) ⌝ }
+    requires { ⌜ RowFrom (now c) p row ⌝ }
     ensures { λ r. ⌜ r ≡ endOf (now (c .entry)) row ⌝ }
 {
     if row < p.row {
@@ -31,7 +29,7 @@ fn end_of(c: &[u8], p: Spot, row: usize) -> usize
 // The last character of a row, or its only place where it is empty: of row 0 place 1, of row 1
 // place 3.
 fn row_last(c: &[u8], p: Spot, row: usize) -> usize
-    requires { ⌜ Classes (now c) × Stands (now c) p × (row < rowsOf (now c)) ⌝ }
+    requires { ⌜ ClassRow (now c) p row ⌝ }
     ensures { λ r. ⌜ r ≡ lastOf (now (c .entry)) row ⌝ }
 {
     let end = end_of(c, p, row);

@@ -17,11 +17,10 @@ ghost use mathlib.Core.Path.{_≡_};
 ghost use mathlib.Core.Bool.{false};
 ghost use Prim.Native.Nat.{_+_, _-_, _<_, max};
 ghost use lib.ListN.{length};
-ghost use Rattle.fold_stretches.specs.Stretches.{NoFold};
 ghost use Rattle.word_class_rows.specs.Rows.{rowsOf, startOf};
 ghost use Rattle.word_by_class.specs.Rounds.{turn, endTurn, roundOf, counted};
 ghost use Rattle.word_by_class.specs.Rounds.{motion as Rounds·motion};
-ghost use Rattle.word_by_class.specs.Rounds.{positionOf, Ready, Asked};
+ghost use Rattle.word_by_class.specs.Rounds.{positionOf, Ready, Near, Asked};
 
 // The round's answer: the word found, or the place from which none was found. From 0, with the word
 // at 3, it goes on from 3; from 8, with none, it ends at 8.
@@ -89,7 +88,7 @@ fn round_near(
     w: Stretch,
     p: Spot,
 ) -> Turn
-    requires { ⌜ Ready (now c) (now folds) rows content p × NoFold (now folds) w ⌝ }
+    requires { ⌜ Near (now c) (now folds) rows content w p ⌝ }
     ensures { λ r. ⌜ r ≡ roundOf (now (c .entry)) (now (folds .entry)) big m false (p .at) ⌝ }
 {
     if (w.lo <= p.row) & (p.row < w.hi) {

@@ -1,6 +1,6 @@
 -- Rows by the classes alone: the row of a place, and the first, the last and the end place of a row. Document 02, #113.
 -- Every row has one place that ends it. Definitions only; the laws are in `proofs/Counting.antt`. Assumes nothing.
-use Prim.Native.Nat.{ℕ, zero, suc, _+_, _-_, _≤_}
+use Prim.Native.Nat.{ℕ, zero, suc, _+_, _-_, _≤_, _<_}
 use mathlib.Core.Path.{_≡_}
 use mathlib.Core.List.{List, [], _∷_}
 use mathlib.Core.Bool.{cond}
@@ -46,3 +46,24 @@ pub record Stands (c : List ℕ) (p : Spot) : Type 0 where
 pub record StandsAt (c : List ℕ) (i : ℕ) (p : Spot) : Type 0 where
   pub place : p .at ≡ i
   pub stands : Stands c p
+
+-- what the functions require: places from a up to b
+pub record Places (c : List ℕ) (a b : ℕ) : Type 0 where
+  pub order : a ≤ b
+  pub within : b ≤ length c
+
+-- a spot, and another place
+pub record Apart (c : List ℕ) (p : Spot) (i : ℕ) : Type 0 where
+  pub stands : Stands c p
+  pub within : i ≤ length c
+
+-- a spot, and its row or one behind it
+pub record Onward (c : List ℕ) (p : Spot) (row : ℕ) : Type 0 where
+  pub stands : Stands c p
+  pub not-past : p .row ≤ row
+  pub in-row : row < rowsOf c
+
+-- a spot, and its row or one before it
+pub record Backward (c : List ℕ) (p : Spot) (row : ℕ) : Type 0 where
+  pub stands : Stands c p
+  pub not-before : row ≤ p .row

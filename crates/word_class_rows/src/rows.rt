@@ -2,14 +2,13 @@
 // empty one and `c`, with the classes 0 0 4 3 0 4.
 use word_kinds::Spot;
 ghost use mathlib.Core.Path.{_≡_};
-ghost use Prim.Native.Nat.{_+_, _≤_, _<_};
-ghost use lib.ListN.{length};
+ghost use Prim.Native.Nat.{_+_};
 ghost use Rattle.word_class_rows.specs.Rows.{rowOf, rowsOf, contentOf, endOf, startOf};
-ghost use Rattle.word_class_rows.specs.Rows.{Stands, StandsAt};
+ghost use Rattle.word_class_rows.specs.Rows.{StandsAt, Places, Apart, Onward, Backward};
 
 // How many rows end from place a up to place b, b not among them: from 0 to 4 there are 2.
 pub fn ends(c: &[u8], a: usize, b: usize) -> usize
-    requires { ⌜ (a ≤ b) × (b ≤ length (now c)) ⌝ }
+    requires { ⌜ Places (now c) a b ⌝ }
     ensures { λ r. ⌜ rowOf (now (c .entry)) a + r ≡ rowOf (now (c .entry)) b ⌝ }
 {
     let mut n: usize = 0;
@@ -39,7 +38,7 @@ pub fn content_of(c: &[u8], rows: usize) -> usize
 
 // Another place with its row: from 0 in row 0 to 4, which is in row 2.
 pub fn moved(c: &[u8], p: Spot, i: usize) -> Spot
-    requires { ⌜ Stands (now c) p × (i ≤ length (now c)) ⌝ }
+    requires { ⌜ Apart (now c) p i ⌝ }
     ensures { λ r. ⌜ StandsAt (now (c .entry)) i r ⌝ }
 {
     if i < p.at {
@@ -56,7 +55,7 @@ pub fn moved(c: &[u8], p: Spot, i: usize) -> Spot
 
 // The place that ends a row, from a place in it or before it: of row 1, from 0, place 3.
 pub fn row_end(c: &[u8], p: Spot, row: usize) -> usize
-    requires { ⌜ Stands (now c) p × (p .row ≤ row) × (row < rowsOf (now c)) ⌝ }
+    requires { ⌜ Onward (now c) p row ⌝ }
     ensures { λ r. ⌜ r ≡ endOf (now (c .entry)) row ⌝ }
 {
     let mut r = p.row;
@@ -76,7 +75,7 @@ pub fn row_end(c: &[u8], p: Spot, row: usize) -> usize
 
 // The first place of a row, from a place in it or behind it: of row 1, from 4, place 3.
 pub fn row_start(c: &[u8], p: Spot, row: usize) -> usize
-    requires { ⌜ Stands (now c) p × (row ≤ p .row) ⌝ }
+    requires { ⌜ Backward (now c) p row ⌝ }
     ensures { λ r. ⌜ r ≡ startOf (now (c .entry)) row ⌝ }
 {
     let mut r = p.row;

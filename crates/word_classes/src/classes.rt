@@ -7,18 +7,14 @@ use crate::WORD;
 use keywords::KeywordSpec;
 use keywords::Matched;
 ghost use mathlib.Core.Path.{_≡_};
-ghost use mathlib.Core.Bool.{true};
-ghost use Prim.Native.Nat.{_≤_, _<_};
-ghost use lib.ListN.{length};
-ghost use Rattle.chars.specs.Scalar.{isScalar};
-ghost use Rattle.text_check.specs.Accept.{textRefusal};
 ghost use Rattle.list_tokens.specs.Tokens.{anyToken};
 ghost use Rattle.keywords.specs.Table.{kept};
 ghost use Rattle.word_classes.specs.Classes.{charClass, endClass, classesOf, holding};
+ghost use Rattle.word_classes.specs.Classes.{Askable, Writable};
 
 // Whether the keyword list holds a character: `@,48-57,_` holds `f` and not `(`.
 fn is_word(spec: KeywordSpec, x: u32) -> bool
-    requires { ⌜ (isScalar x ≡ true) × (spec .len ≤ 128) ⌝ }
+    requires { ⌜ Askable spec x ⌝ }
     ensures { λ r. ⌜ r ≡ anyToken (kept spec) x ⌝ }
 {
     match spec.matches(x) {
@@ -30,7 +26,7 @@ fn is_word(spec: KeywordSpec, x: u32) -> bool
 // The class of a character: `f` is a word, `(` a mark. White space is a space, also where the list
 // holds it.
 fn char_class(spec: KeywordSpec, x: u32) -> u8
-    requires { ⌜ (isScalar x ≡ true) × (spec .len ≤ 128) ⌝ }
+    requires { ⌜ Askable spec x ⌝ }
     ensures { λ r. ⌜ r ≡ charClass (anyToken (kept spec)) x ⌝ }
 {
     if chars::is_white(x) {
@@ -56,8 +52,7 @@ fn end_class(first: bool) -> u8
 // Writes the classes of a text that was accepted to the front of a slice that has the places. The
 // other places stay. Of `a`, a separator and the end they are 0, 4, 3.
 pub fn write_classes(t: &[u32], spec: KeywordSpec, classes: &mut [u8])
-    requires { ⌜ (textRefusal (now t) ≡ 0) × (spec .len ≤ 128) ×
-        (length (now t) < length (now classes)) ⌝ }
+    requires { ⌜ Writable (now t) spec (now classes) ⌝ }
     ensures { λ r. ⌜ now (classes .exit) ≡
         holding (classesOf (anyToken (kept spec)) (now (t .entry))) (now (classes .entry)) ⌝ }
 {

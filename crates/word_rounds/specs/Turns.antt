@@ -1,6 +1,6 @@
 -- What the code's rounds say of places, and what a round requires of what its caller checked.
 -- Definitions only. Assumes nothing.
-use Prim.Native.Nat.{ℕ}
+use Prim.Native.Nat.{ℕ, _<_}
 use mathlib.Core.Path.{_≡_}
 use mathlib.Core.List.{List}
 use Rattle.text.specs.Text.{rowCount, contentRows}
@@ -34,7 +34,11 @@ TurnIn t (variant.Off q) = IsSpot t q
 abbrev pub ComesTo : List ℕ → code.Turn → Turn → Type 0
 ComesTo t = Tells (turnOf t) (TurnIn t)
 
--- what a jump out of a fold requires, and a round
+-- what the way from a spot to a row requires, a jump out of a fold, and a round
+pub record SpotReady (t : List ℕ) (p : Spot) (row : ℕ) : Type 0 where
+  pub spot : IsSpot t p
+  pub in-rows : row < rowCount t
+
 pub record Folded (t folds : List ℕ) (rows content : ℕ) (p : Spot) : Type 0 where
   pub good : foldRefusal folds rows ≡ 0
   pub all-rows : rows ≡ rowCount t

@@ -2,15 +2,15 @@
 use folds::Span;
 use text::offsets;
 use word_kinds::Spot;
-ghost use Prim.Native.Nat.{_-_, _<_};
-ghost use Rattle.text.specs.Text.{rowCount, rowLen, position};
+ghost use Prim.Native.Nat.{_-_};
+ghost use Rattle.text.specs.Text.{rowLen, position};
 ghost use Rattle.word_rounds.specs.Rounds.{jumpFwd, jumpBack};
-ghost use Rattle.word_kinds.specs.Spots.{placeOf, IsSpot, Lands};
-ghost use Rattle.word_rounds.specs.Turns.{Folded};
+ghost use Rattle.word_kinds.specs.Spots.{placeOf, Lands};
+ghost use Rattle.word_rounds.specs.Turns.{Folded, SpotReady};
 
 // The last character of a row, or its only place where it is empty.
 fn row_last(t: &[u32], p: Spot, row: usize) -> Spot
-    requires { ⌜ IsSpot (now t) p × (row < rowCount (now t)) ⌝ }
+    requires { ⌜ SpotReady (now t) p row ⌝ }
     ensures { λ r.
         ⌜ Lands (now (t .entry)) r (position row (rowLen (now (t .entry)) row - 1)) ⌝ }
 {
@@ -30,7 +30,7 @@ fn row_last(t: &[u32], p: Spot, row: usize) -> Spot
 
 // The first place of a row.
 fn row_first(t: &[u32], p: Spot, row: usize) -> Spot
-    requires { ⌜ IsSpot (now t) p × (row < rowCount (now t)) ⌝ }
+    requires { ⌜ SpotReady (now t) p row ⌝ }
     ensures { λ r. ⌜ Lands (now (t .entry)) r (position row 0) ⌝ }
 {
     let l = offsets::line_to(t, p.row, p.at, row);

@@ -9,6 +9,7 @@ use Rattle.word_rounds.specs.Rounds.{wordMotion}
 use Rattle.word_rounds.specs.Turns.{Folded}
 use Rattle.words.specs.declared.Prepared.{Prepared}
 use Rattle.words.specs.Prepared.{Prepares}
+use Rattle.words.specs.Ready.{MadeReady}
 
 module _ {t : List ℕ} {word : ℕ → Bool} {big : Bool} {rows content : ℕ} {r : Prepared} (made : Prepares t word big rows content r) where
   pub made-folded : {folds : List ℕ} {p : Spot} → Folded t folds rows content p → Folded t folds (r .setting .rows) (r .setting .content) p
@@ -19,6 +20,10 @@ module _ {t : List ℕ} {word : ℕ → Bool} {big : Bool} {rows content : ℕ} 
         content-rows = made .content-rows ∙ f .content-rows;
         spot = f .spot;
       }
+
+  -- the walk by what was made
+  pub made-ready : {folds : List ℕ} {p : Spot} → Folded t folds rows content p → MadeReady t folds (r .bounds) (r .setting) (r .high) p
+  made-ready f = record { bounded = record { room = made .room; folded = made-folded f }; none-high = made .none-high }
 
   pub made-motion : (folds : List ℕ) (m : Motion) (stop : Bool) (count : ℕ) (p : Position) →
       wordMotion t folds (kindBy (r .bounds) (r .setting)) (r .setting .big) m stop count p ≡

@@ -9,17 +9,15 @@ use word_kinds::Spot;
 use word_rounds::Motion;
 use word_rounds::Turn;
 ghost use mathlib.Core.Path.{_≡_};
-ghost use mathlib.Core.Bool.{false};
-ghost use Prim.Native.Nat.{_+_, _-_, _≤_, max};
-ghost use lib.ListN.{length};
-ghost use Rattle.lists.specs.Lists.{any};
+ghost use Prim.Native.Nat.{_-_, max};
 ghost use Rattle.list_tokens.specs.Tokens.{anyToken};
 ghost use Rattle.keywords.specs.Table.{kept};
 ghost use Rattle.word_kinds.specs.Places.{kindOf};
 ghost use Rattle.word_rounds.specs.Rounds.{wordMotion};
 ghost use Rattle.word_kinds.specs.Spots.{placeOf, Lands};
-ghost use Rattle.word_rounds.specs.Turns.{Folded, Set};
-ghost use Rattle.word_kinds.specs.Lent.{kindBy, isHigh};
+ghost use Rattle.word_rounds.specs.Turns.{Set};
+ghost use Rattle.word_kinds.specs.Lent.{kindBy};
+ghost use Rattle.words.specs.Ready.{BoundsReady, MadeReady, ListReady};
 
 // How many rounds follow the first: count 0 acts as 1.
 fn rest(count: u32) -> u32
@@ -68,8 +66,7 @@ fn walk_with_letters(
     count: u32,
     p: Spot,
 ) -> Spot
-    requires { ⌜ (s .pairs + s .pairs ≤ length (now bounds)) ×
-        Folded (now t) (now folds) (s .rows) (s .content) p ⌝ }
+    requires { ⌜ BoundsReady (now t) (now folds) (now bounds) s p ⌝ }
     ensures { λ r.
         ⌜ Lands (now (t .entry)) r
         (wordMotion (now (t .entry)) (now (folds .entry)) (kindBy (now (bounds .entry)) s)
@@ -102,9 +99,7 @@ pub fn walk_made(
     count: u32,
     p: Spot,
 ) -> Spot
-    requires { ⌜ (s .pairs + s .pairs ≤ length (now bounds)) ×
-        (high ≡ false → any isHigh (now t) ≡ false) ×
-        Folded (now t) (now folds) (s .rows) (s .content) p ⌝ }
+    requires { ⌜ MadeReady (now t) (now folds) (now bounds) s high p ⌝ }
     ensures { λ r.
         ⌜ Lands (now (t .entry)) r
         (wordMotion (now (t .entry)) (now (folds .entry)) (kindBy (now (bounds .entry)) s)
@@ -131,7 +126,7 @@ pub fn word_motion(
     count: u32,
     p: Spot,
 ) -> Spot
-    requires { ⌜ Folded (now t) (now folds) rows content p × (spec .len ≤ 128) ⌝ }
+    requires { ⌜ ListReady (now t) (now folds) spec rows content p ⌝ }
     ensures { λ r.
         ⌜ Lands (now (t .entry)) r
         (wordMotion (now (t .entry)) (now (folds .entry)) (kindOf (anyToken (kept spec)) big) big

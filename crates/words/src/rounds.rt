@@ -9,10 +9,10 @@ use word_rounds::Turn;
 ghost use mathlib.Core.Bool.{false};
 ghost use Rattle.word_kinds.specs.Spots.{placeOf, Lands};
 ghost use Rattle.word_kinds.specs.Lent.{kindBy};
-ghost use Rattle.fold_stretches.specs.Stretches.{NoFold};
 ghost use Rattle.word_rounds.specs.Rounds.{roundOf, counted};
 ghost use Rattle.word_rounds.specs.Turns.{ComesTo, Set};
 ghost use Rattle.words.specs.Walked.{Rounded};
+ghost use Rattle.words.specs.Ready.{NearReady};
 
 // A round after the first, where a stretch of rows without closed folds is known: outside it the
 // folds are lent, and in it none.
@@ -27,8 +27,7 @@ fn round_near(
     w: Stretch,
     p: Spot,
 ) -> Turn
-    requires { ⌜ Set (now t) (now folds) (now bounds) (now starts) (now lengths) s p ×
-        NoFold (now folds) w ⌝ }
+    requires { ⌜ NearReady (now t) (now folds) (now bounds) (now starts) (now lengths) s w p ⌝ }
     ensures { λ r.
         ⌜ ComesTo (now (t .entry)) r
         (roundOf (now (t .entry)) (now (folds .entry)) (kindBy (now (bounds .entry)) s) (s .big) m
@@ -60,8 +59,8 @@ pub fn rounds_from(
     count: u32,
     p: Spot,
 ) -> Walked
-    requires { ⌜ Set (now t) (now folds) (now bounds) (now starts) (now lengths) s p ×
-        NoFold (now folds) known ⌝ }
+    requires { ⌜ NearReady (now t) (now folds) (now bounds) (now starts) (now lengths) s known
+        p ⌝ }
     ensures { λ r.
         ⌜ Rounded (now (t .entry)) (now (folds .entry)) (kindBy (now (bounds .entry)) s) (s .big) m
         count (placeOf (now (t .entry)) p) r ⌝ }

@@ -8,12 +8,12 @@ use Rattle.edit_checks.proofs.spot_in.Tie as tie
 returns : tie.Need-returns
 returns c =
     let at-start = c .before .before .before in
-    spot-row (at-start .args .t .now) (at-start .args .p) (omega (arith, at-start .pre .1, c .if1 .taken))
+    spot-row (at-start .args .t .now) (at-start .args .p) (omega (arith, at-start .pre .rows-are, c .if1 .taken))
 
 row-len-requires : tie.Need-row-len-requires
 row-len-requires c κs =
     let at-start = c .before .before .before .before in
-    line-there (at-start .args .t .now) (c .line-from .result) _ (c .line-from .ensures) (omega (arith, at-start .pre .1, c .before .if1 .left))
+    line-there (at-start .args .t .now) (c .line-from .result) _ (c .line-from .ensures) (omega (arith, at-start .pre .rows-are, c .before .if1 .left))
 
 returns-2 : tie.Need-returns-2
 returns-2 c =
@@ -23,7 +23,7 @@ returns-2 c =
     let text-now = at-start .args .t .now in
     let given-p = at-start .args .p in
     let by-long = long text-now given-p (found .line-from .result) _ (found .line-from .ensures) (measured .row-len .ensures) in
-    spot-col text-now given-p (omega (arith, at-start .pre .1, found .before .if1 .left)) (omega (arith, by-long, c .if2 .taken))
+    spot-col text-now given-p (omega (arith, at-start .pre .rows-are, found .before .if1 .left)) (omega (arith, by-long, c .if2 .taken))
 
 returns-3 : tie.Need-returns-3
 returns-3 c =
@@ -33,7 +33,7 @@ returns-3 c =
     let text-now = at-start .args .t .now in
     let given-p = at-start .args .p in
     let by-long = long text-now given-p (found .line-from .result) _ (found .line-from .ensures) (measured .row-len .ensures) in
-    spot-there text-now given-p (found .line-from .result) (found .line-from .ensures) (omega (arith, at-start .pre .1, found .before .if1 .left))
+    spot-there text-now given-p (found .line-from .result) (found .line-from .ensures) (omega (arith, at-start .pre .rows-are, found .before .if1 .left))
     (omega (arith, by-long, c .if2 .left))
 
 pub spot-in-spec : {M : Type 1} → statement M

@@ -8,7 +8,7 @@ use Rattle.edit_checks.proofs.stretch.Statement.{statement}
 use Rattle.edit_checks.proofs.stretch.Tie as tie
 
 spot-in-requires : tie.Need-spot-in-requires
-spot-in-requires c κs = (first-line _, c .before .pre .0)
+spot-in-requires c κs = record { line = first-line _; rows-are = c .before .pre .rows-are }
 
 -- the first position stands outside
 returns : tie.Need-returns
@@ -23,10 +23,11 @@ returns c =
 spot-in-requires-2 : tie.Need-spot-in-requires-2
 spot-in-requires-2 c κs =
     let found = c .before .before .before in
-    let at-start = found .before .before in (
-      in-line (at-start .args .t .now) (at-start .args .p) (c .before .l .given .0 .0) (sym (found .spot-in .ensures) ∙ c .before .l .given .1),
-      at-start .pre .0,
-    )
+    let at-start = found .before .before in
+    record {
+      line = in-line (at-start .args .t .now) (at-start .args .p) (c .before .l .given .0 .0) (sym (found .spot-in .ensures) ∙ c .before .l .given .1);
+      rows-are = at-start .pre .rows-are;
+    }
 
 -- the second
 returns-2 : tie.Need-returns-2
@@ -74,7 +75,7 @@ add-t12 c =
     let at-start = next .before .before .before .before .before .before in
     let given = at-start .args in
     let by-in-fits = in-fits (given.t .now) given.q (second .m .given .0 .0) (sym (next .spot-in2 .ensures) ∙ second .m .given .1) in
-    let sum-below : second .m .given .0 .0 .start + given.q .col < 2 ^ 64 = omega (arith, by-in-fits, at-start .pre .1) in
+    let sum-below : second .m .given .0 .0 .start + given.q .col < 2 ^ 64 = omega (arith, by-in-fits, at-start .pre .brief) in
     record { fits = sum-below }
 
 returns-4 : tie.Need-returns-4
@@ -89,7 +90,7 @@ returns-4 c =
     let text-now = given.t .now in
     let in-p = in-inside text-now given.p (first .l .given .0 .0) (sym (found .spot-in .ensures) ∙ first .l .given .1) in
     let in-q = in-inside text-now given.q (second .m .given .0 .0) (sym (next .spot-in2 .ensures) ∙ second .m .given .1) in
-    stretch-none text-now given.p given.q (first .l .given .0 .0) (second .m .given .0 .0) given.rows (at-start .pre .0) in-p in-q
+    stretch-none text-now given.p given.q (first .l .given .0 .0) (second .m .given .0 .0) given.rows (at-start .pre .rows-are) in-p in-q
     (sym (asked .is-before .ensures) ∙ c .before .before .before .before .if1 .left)
 
 pub stretch-spec : {M : Type 1} → statement M

@@ -18,14 +18,20 @@ map-row-requires c κs =
     let at-loop = c .before .before .before .before .loop in
     let at-start = c .before .before .before .before .before .before in
     let at = 3 * at-loop.i in
-    (omega arith, omega (arith, moved-read at-loop.inv at (omega arith), at-start .pre .1 .room at (omega arith)))
+    record {
+      order = at-start .pre .order;
+      near = omega (arith, moved-read at-loop.inv at (omega arith), at-start .pre .raises .room at (omega arith));
+    }
 
 map-row-requires-2 : tie.Need-map-row-requires-2 Inv-loop μ-loop
 map-row-requires-2 c κs =
     let at-loop = c .before .before .before .before .before .loop in
     let at-start = c .before .before .before .before .before .before .before in
     let at = 3 * at-loop.i + 1 in
-    (omega arith, omega (arith, moved-read at-loop.inv at (omega arith), at-start .pre .1 .room at (omega arith)))
+    record {
+      order = at-start .pre .order;
+      near = omega (arith, moved-read at-loop.inv at (omega arith), at-start .pre .raises .room at (omega arith));
+    }
 
 -- the fold is lost
 loop-again : tie.Need-loop-again Inv-loop μ-loop

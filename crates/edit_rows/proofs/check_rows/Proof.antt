@@ -9,7 +9,7 @@ use Rattle.edit_rows.proofs.check_rows.Statement.{statement}
 use Rattle.edit_rows.proofs.check_rows.Tie as tie
 
 slice-t : tie.Need-slice-aggregate-t
-slice-t c = sym (length-take-le _ _ (c .before .before .before .before .pre .0 .0 .fits))
+slice-t c = sym (length-take-le _ _ (c .before .before .before .before .pre .stretch .fits))
 
 add-after : tie.Need-add-after
 add-after c =
@@ -18,11 +18,11 @@ add-after c =
     let front = take given.len (given.text .now) in
     omega (
       arith,
-      at-start .pre .0 .1,
+      at-start .pre .rows-are,
       c .separators .ensures,
       count-le front,
-      length-take-le given.len (given.text .now) (at-start .pre .0 .0 .fits),
-      at-start .pre .0 .0 .brief,
+      length-take-le given.len (given.text .now) (at-start .pre .stretch .fits),
+      at-start .pre .stretch .brief,
     )
 
 returns : tie.Need-returns
@@ -34,11 +34,11 @@ returns c =
     let front = take given.len (given.text .now) in
     let new = textAfter front given.p given.q (given.points .now) in
     let after-is : given.before - (given.q .row - given.p .row) + counted .separators .result ≡ rowCount new =
-    omega (arith, at-start .pre .0 .1, counted .separators .ensures .count, rows-after (at-start .pre .0 .0) (given.points .now)) in
-    let need : most .most .result ≡ max (rowCount front) (rowCount new) = most .most .ensures ∙ (λ i. max (at-start .pre .0 .1 i) (after-is i)) in
+    omega (arith, at-start .pre .rows-are, counted .separators .ensures .count, rows-after (at-start .pre .stretch) (given.points .now)) in
+    let need : most .most .result ≡ max (rowCount front) (rowCount new) = most .most .ensures ∙ (λ i. max (at-start .pre .rows-are i) (after-is i)) in
     record {
       refusal-is = c .table-refusal .ensures ∙ ap (λ (n : ℕ). tableRefusal n front (given.starts .now) given.content) need;
-      before-is = at-start .pre .0 .1;
+      before-is = at-start .pre .rows-are;
       after-is = after-is;
     }
 

@@ -6,14 +6,14 @@ use Rattle.edit_rows.proofs.content_in.Statement.{statement}
 use Rattle.edit_rows.proofs.content_in.Tie as tie
 
 slice-t : tie.Need-slice-aggregate-t
-slice-t c = sym (length-take-le _ _ (c .before .before .pre .0))
+slice-t c = sym (length-take-le _ _ (c .before .before .pre .fits))
 
 cast-result : tie.Need-cast-result
 cast-result c =
     let at-start = c .before .before .before in
     let given = at-start .args in
     let front = take given.len (given.text .now) in
-    omega (arith, c .content-of .ensures, content-near front, count-le front, length-take-le given.len (given.text .now) (at-start .pre .0))
+    omega (arith, c .content-of .ensures, content-near front, count-le front, length-take-le given.len (given.text .now) (at-start .pre .fits))
 
 pub content-in-spec : {M : Type 1} → statement M
 content-in-spec = tie.close (tie.spec slice-t (λ c κs. search needs) cast-result (λ c. search needs))

@@ -24,7 +24,7 @@ check-rows-requires c κs =
     let none = sym (number-is (given.text .now) (given.folds .now) given.s given.p given.q (given.points .now) given.k (checked .check .result) is)
     ∙ tested .if1 .left in
     let by-editable = editable (given.text .now) (given.folds .now) given.s given.p given.q (given.points .now) given.k none (checked .check .result) is in
-    ((stretch by-editable, by-editable .rows-is), by-editable .points-brief)
+    record { stretch = stretch by-editable; rows-are = by-editable .rows-is; points-brief = by-editable .points-brief }
 
 returns-2 : tie.Need-returns-2
 returns-2 c =
@@ -47,10 +47,11 @@ make-rows-requires c κs =
     let given = checked .before .before .before .before .before .before .before .before .before .args in
     let is = checked .check .ensures in
     let none = sym (number-is (given.text .now) (given.folds .now) given.s given.p given.q (given.points .now) given.k (checked .check .result) is)
-    ∙ tested .if1 .left in (
-      editable (given.text .now) (given.folds .now) given.s given.p given.q (given.points .now) given.k none (checked .check .result) is,
-      tabled (found .check-rows .ensures) (right .if2 .left),
-    )
+    ∙ tested .if1 .left in
+    record {
+      editable = editable (given.text .now) (given.folds .now) given.s given.p given.q (given.points .now) given.k none (checked .check .result) is;
+      tabled = tabled (found .check-rows .ensures) (right .if2 .left);
+    }
 
 returns-3 : tie.Need-returns-3
 returns-3 c =

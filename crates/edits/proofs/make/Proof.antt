@@ -53,7 +53,8 @@ map-folds-requires : tie.Need-map-folds-requires
 map-folds-requires c κs =
     let found = c .before .before .before .before .before .before .before .before .before .before .before in
     let at-start = found .before .before .before .before in
-    ((at-start .pre .rows-order, at-start .pre .folds-fit), folds-asked (at-start .pre) (found .end-of .ensures))
+    let required = at-start .pre in
+    record { order = required .rows-order; fit = required .folds-fit; raises = folds-asked required (found .end-of .ensures) }
 
 corrected-requires : tie.Need-corrected-requires
 corrected-requires c κs =

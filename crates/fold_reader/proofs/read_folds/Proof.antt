@@ -24,7 +24,7 @@ take-all-requires c κs =
     let at-layout-refusal = c .before .before in
     let at-start = at-layout-refusal .before .before .before .before .before .before in
     let whole = layout-whole (at-start .args .file .now) (sym (at-layout-refusal .layout-refusal .ensures) ∙ c .before .if2 .left) in
-    (whole .laid, folds-most _ whole)
+    record { unbroken = whole .laid; room = folds-most _ whole }
 
 array-share-prefix-list : tie.Need-array-share-prefix-list
 array-share-prefix-list c =
@@ -88,7 +88,7 @@ take-all-requires-2 c κs =
     let at-layout-refusal = at-if2 .before in
     let at-start = at-layout-refusal .before .before .before .before .before .before in
     let whole = layout-whole (at-start .args .file .now) (sym (at-layout-refusal .layout-refusal .ensures) ∙ at-if2 .if2 .left) in
-    (whole .laid, omega (arith, c .before .if4 .left, at-take-all .take-all .ensures))
+    record { unbroken = whole .laid; room = omega (arith, c .before .if4 .left, at-take-all .take-all .ensures) }
 
 -- the folds
 returns-5 : tie.Need-returns-5

@@ -10,21 +10,21 @@ part-sum-end : tie.Need-part-sum-end
 part-sum-end c =
     let at-start = c .before .before .before .before .before .before .before in
     let given = at-start .args in
-    omega (arith, c .before .before .before .put-body .ensures, length-body (given .n) (given .k) (given .folds .now) (at-start .pre .0), at-start .pre .1)
+    omega (arith, c .before .before .before .put-body .ensures, length-body (given .n) (given .k) (given .folds .now) (at-start .pre .few), at-start .pre .room)
 
 sum-requires : tie.Need-sum-requires
 sum-requires c κs =
     let at-start = c .before .before .before .before .before .before .before .before in
     let given = at-start .args in
-    let long = length-body (given .n) (given .k) (given .folds .now) (at-start .pre .0) in
-    omega (arith, long, ap length (wrote-part (c .before .before .before .before .put-body .ensures) (omega (arith, long, at-start .pre .1))))
+    let long = length-body (given .n) (given .k) (given .folds .now) (at-start .pre .few) in
+    omega (arith, long, ap length (wrote-part (c .before .before .before .before .put-body .ensures) (omega (arith, long, at-start .pre .room))))
 
 put-two-requires : tie.Need-put-two-requires
 put-two-requires c κs =
     let at-put-body = c .before .before .before .before .before .before in
     let at-start = at-put-body .before .before .before .before in
     let given = at-start .args in
-    omega (arith, at-put-body .put-body .ensures, length-body (given .n) (given .k) (given .folds .now) (at-start .pre .0), at-start .pre .1)
+    omega (arith, at-put-body .put-body .ensures, length-body (given .n) (given .k) (given .folds .now) (at-start .pre .few), at-start .pre .room)
 
 returns : tie.Need-returns
 returns c =
@@ -33,9 +33,9 @@ returns c =
     let at-put-body = at-sum .before .before .before .before .before in
     let at-start = at-put-body .before .before .before .before in
     let given = at-start .args in
-    let long = length-body (given .n) (given .k) (given .folds .now) (at-start .pre .0) in
+    let long = length-body (given .n) (given .k) (given .folds .now) (at-start .pre .few) in
     let first = at-put-body .put-body .ensures in
-    let part = wrote-part first (omega (arith, long, at-start .pre .1)) in
+    let part = wrote-part first (omega (arith, long, at-start .pre .room)) in
     wrote-block (given .n) (given .k) (given .folds .now) (at-sum .sum .result) first (at-sum .sum .ensures ∙ ap sum part) (at-put-two .put-two .ensures)
 
 pub put-block-spec : {M : Type 1} → statement M

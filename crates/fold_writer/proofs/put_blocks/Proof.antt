@@ -17,10 +17,11 @@ loop-holds c = laying-start _ _ _ (c .blocks-for .ensures)
 put-block-requires : tie.Need-put-block-requires Inv-loop μ-loop
 put-block-requires c κs =
     let at-loop = c .before .before .before .before in
-    let at-start = at-loop .before .before .before .before in (
-      part-most (at-start .args .folds .now) (at-loop .loop .from) (c .before .before .end-of .result) (c .before .before .end-of .ensures),
-      laying-room (at-loop .loop .inv) (c .before .before .before .loop-test .taken) (at-start .pre .1),
-    )
+    let at-start = at-loop .before .before .before .before in
+    record {
+      few = part-most (at-start .args .folds .now) (at-loop .loop .from) (c .before .before .end-of .result) (c .before .before .end-of .ensures);
+      room = laying-room (at-loop .loop .inv) (c .before .before .before .loop-test .taken) (at-start .pre .room);
+    }
 
 loop-again : tie.Need-loop-again Inv-loop μ-loop
 loop-again c =

@@ -48,10 +48,11 @@ returns-3 c =
 
 put-blocks-requires : tie.Need-put-blocks-requires
 put-blocks-requires c κs =
-    let given = c .before .before .before .before .before .before .before .before .before .before .before .args in (
-      folds-few (given .folds .now) _ (sym (c .before .before .before .before .fold-refusal .ensures) ∙ c .before .before .before .if2 .left),
-      omega (arith, c .before .if3 .left, c .before .before .blocks-for .ensures, length-file (given .folds .now)),
-    )
+    let given = c .before .before .before .before .before .before .before .before .before .before .before .args in
+    record {
+      few = folds-few (given .folds .now) _ (sym (c .before .before .before .before .fold-refusal .ensures) ∙ c .before .before .before .if2 .left);
+      room = omega (arith, c .before .if3 .left, c .before .before .blocks-for .ensures, length-file (given .folds .now));
+    }
 
 -- the file
 returns-4 : tie.Need-returns-4

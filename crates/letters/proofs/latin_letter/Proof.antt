@@ -5,7 +5,7 @@ use Rattle.letters.proofs.latin_letter.Statement.{statement}
 use Rattle.letters.proofs.latin_letter.Tie as tie
 
 returns : tie.Need-returns
-returns c = sym (letter-plain (c .args .x) (c .pre .0) (c .pre .1))
+returns c = sym (letter-plain (c .args .x) (c .pre .low) (c .pre .no-sign))
 
 pub latin-letter-spec : {M : Type 1} → statement M
 latin-letter-spec = tie.close (tie.spec returns)

@@ -15,7 +15,7 @@ returns c =
       c .before .before .indent .ensures,
       ap indentOf (at-row .row .ensures),
       ap length (at-row .row .ensures),
-      row-fits (at-start .args .t .now) (at-start .args .l .row) (at-start .pre .0 .in-row),
+      row-fits (at-start .args .t .now) (at-start .args .l .row) (at-start .pre .line .in-row),
     )
 
 pub first-non-blank-spec : {M : Type 1} → statement M

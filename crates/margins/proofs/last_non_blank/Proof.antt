@@ -23,7 +23,7 @@ returns c =
       c .before .solid .ensures,
       ap solidOf (at-row .row .ensures),
       solid-le (rowAt (at-start .args .t .now) (at-start .args .l .row)),
-      row-fits (at-start .args .t .now) (at-start .args .l .row) (at-start .pre .0 .in-row),
+      row-fits (at-start .args .t .now) (at-start .args .l .row) (at-start .pre .line .in-row),
     )
 
 pub last-non-blank-spec : {M : Type 1} → statement M

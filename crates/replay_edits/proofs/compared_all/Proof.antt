@@ -26,8 +26,7 @@ lent c =
       put-all3-told .size,
       put-all4-told .next,
       put-all4-told .size,
-      at-start .pre .0,
-      at-start .pre .1,
+      at-start .pre,
     )))
 
 returns : tie.Need-returns
@@ -43,7 +42,7 @@ returns c =
     let put-all4-told = at-put-all4 .put-all4 .ensures in
     let all = wrote-then (wrote-then (wrote-then put-all-told put-all2-told) put-all3-told) put-all4-told in
     let front = written-front all
-    (omega (arith, all .next, put-all-told .next, put-all2-told .next, put-all3-told .next, put-all4-told .next, at-start .pre .0, at-start .pre .1)) in
+    (omega (arith, all .next, put-all-told .next, put-all2-told .next, put-all3-told .next, put-all4-told .next, at-start .pre)) in
     rw front at (c .compared .ensures)
 
 pub compared-all-spec : {M : Type 1} → statement M

@@ -33,7 +33,10 @@ edit-into-requires c κs =
     let at-if1 = at-if2 .before in
     let text-fits = at-if1 .if1 .left in
     let folds-fit = at-if2 .if2 .left in
-    (rw (lent-front (at-put-all .put-all .ensures) text-fits) text-fits, rw (lent-front (at-put-all2 .put-all2 .ensures) folds-fit) folds-fit)
+    record {
+      text-fits = rw (lent-front (at-put-all .put-all .ensures) text-fits) text-fits;
+      folds-fit = rw (lent-front (at-put-all2 .put-all2 .ensures) folds-fit) folds-fit;
+    }
 
 returns-3 : tie.Need-returns-3
 unfolding editVerdict

@@ -7,7 +7,7 @@ returns : tie.Need-returns
 returns c = rw (eq-eqb _ 0 (c .if1 .taken))
 
 char-at-requires : tie.Need-char-at-requires
-char-at-requires c κs = let at-start = c .before .before .before .before .before in ready (at-start .pre .0) (at-start .pre .1) (c .stop-of .ensures)
+char-at-requires c κs = let at-start = c .before .before .before .before .before in ready (at-start .pre) (c .stop-of .ensures)
 
 returns-2 : tie.Need-returns-2
 returns-2 c = rw (ne-eqb _ 0 (c .before .before .if1 .left), ← c .before .stop-of .ensures) (c .char-at .ensures)

@@ -12,13 +12,13 @@ narrow-requires : tie.Need-narrow-column-requires
 narrow-requires c κs =
     let at-if1 = c .before .before in
     let given = at-if1 .before .refused .ensures in
-    (brief _ _ given (at-if1 .if1 .left), near _ _ given (at-if1 .if1 .left))
+    record { brief = brief _ _ given (at-if1 .if1 .left); near = near _ _ given (at-if1 .if1 .left) }
 
 wide-requires : tie.Need-wide-column-requires
 wide-requires c κs =
     let at-if1 = c .before .before in
     let given = at-if1 .before .refused .ensures in
-    (brief _ _ given (at-if1 .if1 .left), near _ _ given (at-if1 .if1 .left))
+    record { brief = brief _ _ given (at-if1 .if1 .left); near = near _ _ given (at-if1 .if1 .left) }
 
 narrow : tie.Need-returns-2
 narrow c =

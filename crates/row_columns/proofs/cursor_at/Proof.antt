@@ -15,7 +15,7 @@ sub-result c =
     let at-start = c .before .before .before .before .before .before .before in
     let given = at-start .args in
     let ends = tab-ends (widthBy (given .zeros .now) (given .doubles .now)) (given .tab) (given .row .now) (given .col) (c .before .before .before .if1 .left)
-    (at-start .pre .tables .stops) (c .before .if2 .taken) in
+    (at-start .pre .tables .stop .some) (c .before .if2 .taken) in
     omega (arith, c .visual-at2 .ensures, ends)
 
 returns-2 : tie.Need-returns-2

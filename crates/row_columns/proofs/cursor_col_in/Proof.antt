@@ -4,7 +4,7 @@ use Rattle.row_columns.proofs.cursor_col_in.Statement.{statement}
 use Rattle.row_columns.proofs.cursor_col_in.Tie as tie
 
 cursor-at-requires : tie.Need-cursor-at-requires
-cursor-at-requires c κs = let at-start = c .before .before .before .before in ready (at-start .pre .0) (at-start .pre .1) (c .stop-of .ensures)
+cursor-at-requires c κs = let at-start = c .before .before .before .before in ready (at-start .pre) (c .stop-of .ensures)
 
 returns : tie.Need-returns
 returns c = rw (← c .before .stop-of .ensures) (c .cursor-at .ensures)

@@ -9,7 +9,7 @@ use Rattle.row_columns.proofs.narrow_column.Tie as tie
 
 column-in-requires : tie.Need-column-in-requires
 unfolding zeroWidths doubleWidths doublesOf
-column-in-requires c κs = (widths-lent Narrow refl refl, c .before .before .before .pre)
+column-in-requires c κs = record { widths = widths-lent Narrow refl refl; fits = c .before .before .before .pre }
 
 returns : tie.Need-returns
 unfolding zeroWidths doubleWidths doublesOf

@@ -4,7 +4,7 @@ use Rattle.row_columns.proofs.visual_col_in.Statement.{statement}
 use Rattle.row_columns.proofs.visual_col_in.Tie as tie
 
 visual-at-requires : tie.Need-visual-at-requires
-visual-at-requires c κs = let at-start = c .before .before .before .before in ready (at-start .pre .0) (at-start .pre .1) (c .stop-of .ensures)
+visual-at-requires c κs = let at-start = c .before .before .before .before in ready (at-start .pre) (c .stop-of .ensures)
 
 returns : tie.Need-returns
 returns c = rw (← c .before .stop-of .ensures) (c .visual-at .ensures)

@@ -10,7 +10,7 @@ use Rattle.row_columns.proofs.wide_column.Tie as tie
 
 column-in-requires : tie.Need-column-in-requires
 unfolding zeroWidths wideDoubles doublesOf
-column-in-requires c κs = (widths-lent Wide refl refl, c .before .before .before .pre)
+column-in-requires c κs = record { widths = widths-lent Wide refl refl; fits = c .before .before .before .pre }
 
 returns : tie.Need-returns
 unfolding zeroWidths wideDoubles doublesOf

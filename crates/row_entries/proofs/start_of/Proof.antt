@@ -8,7 +8,7 @@ cast-result : tie.Need-cast-result
 cast-result c = omega (arith, c .shared-slice-known .given (c .before .args .row))
 
 returns : tie.Need-returns
-returns c = start-by (c .before .pre .0) (c .before .pre .1)
+returns c = start-by (c .before .pre .held) (c .before .pre .in-row)
 
 pub start-of-spec : {M : Type 1} → statement M
 start-of-spec = tie.close (tie.spec (λ c. search needs) (λ c. search needs) cast-result returns)

@@ -9,7 +9,7 @@ use Rattle.row_offsets.proofs.narrow_offset.Tie as tie
 
 offset-in-requires : tie.Need-offset-in-requires
 unfolding zeroWidths doubleWidths doublesOf
-offset-in-requires c κs = (widths-lent Narrow refl refl, c .before .before .before .pre)
+offset-in-requires c κs = record { widths = widths-lent Narrow refl refl; brief = c .before .before .before .pre }
 
 returns : tie.Need-returns
 unfolding zeroWidths doubleWidths doublesOf

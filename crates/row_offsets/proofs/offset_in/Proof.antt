@@ -12,7 +12,7 @@ cells-in-requires c κs =
     let at-start = c .before .before .before .before .before .before in
     let given = at-start .args in
     let most = part-most (given .row .now) (given .start) (given .n) .1 in
-    (at-start .pre .0, rw (c .part-of .ensures) (omega (arith, at-start .pre .1)))
+    (at-start .pre .widths, rw (c .part-of .ensures) (omega (arith, at-start .pre .brief)))
 
 returns-2 : tie.Need-returns-2
 returns-2 c =

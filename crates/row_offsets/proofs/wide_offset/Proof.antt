@@ -10,7 +10,7 @@ use Rattle.row_offsets.proofs.wide_offset.Tie as tie
 
 offset-in-requires : tie.Need-offset-in-requires
 unfolding zeroWidths wideDoubles doublesOf
-offset-in-requires c κs = (widths-lent Wide refl refl, c .before .before .before .pre)
+offset-in-requires c κs = record { widths = widths-lent Wide refl refl; brief = c .before .before .before .pre }
 
 returns : tie.Need-returns
 unfolding zeroWidths wideDoubles doublesOf

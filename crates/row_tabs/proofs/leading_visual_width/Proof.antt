@@ -13,7 +13,7 @@ leading-at-requires : tie.Need-leading-at-requires
 leading-at-requires c κs =
     let refused-told = c .before .before .refused .ensures in
     let left = c .before .if1 .left in
-    (brief _ _ refused-told left, stops _ _ refused-told left (c .stop-of .ensures))
+    record { brief = brief _ _ refused-told left; stop = stops _ _ refused-told left (c .stop-of .ensures) }
 
 returns-2 : tie.Need-returns-2
 returns-2 c =

@@ -21,8 +21,8 @@ returns c =
     let at-loop-test = at-first-segment .before .before in
     let at-start = at-loop-test .before .before .before .before .before .before in
     record {
-      part = found-index (at-start .pre .1) (at-loop-test .before .loop .inv) (at-loop-test .loop-test .taken) (at-first-segment .first-segment .ensures .count)
-          (c .if1 .taken);
+      part = found-index (at-start .pre .wide) (at-loop-test .before .loop .inv) (at-loop-test .loop-test .taken)
+          (at-first-segment .first-segment .ensures .count) (c .if1 .taken);
       inside = omega (arith, at-loop-test .before .loop .inv .few);
     }
 
@@ -32,8 +32,8 @@ returns-2 c =
     let at-loop-test = at-first-segment .before .before in
     let at-start = at-loop-test .before .before .before .before .before .before in
     record {
-      part = found-col (at-start .pre .1) (at-loop-test .before .loop .inv) (at-loop-test .loop-test .taken) (at-first-segment .first-segment .ensures .count)
-          (c .if2 .taken);
+      part = found-col (at-start .pre .wide) (at-loop-test .before .loop .inv) (at-loop-test .loop-test .taken)
+          (at-first-segment .first-segment .ensures .count) (c .if2 .taken);
       inside = omega (arith, at-loop-test .before .loop .inv .few);
     }
 
@@ -43,8 +43,8 @@ returns-3 c =
     let at-loop-test = at-first-segment .before .before in
     let at-start = at-loop-test .before .before .before .before .before .before in
     record {
-      part = found-last (at-start .pre .1) (at-loop-test .before .loop .inv) (at-loop-test .loop-test .taken) (at-first-segment .first-segment .ensures .count)
-          (c .if3 .taken) (omega (arith, c .before .if2 .left));
+      part = found-last (at-start .pre .wide) (at-loop-test .before .loop .inv) (at-loop-test .loop-test .taken)
+          (at-first-segment .first-segment .ensures .count) (c .if3 .taken) (omega (arith, c .before .if2 .left));
       inside = omega (arith, at-loop-test .before .loop .inv .few);
     }
 
@@ -53,7 +53,7 @@ loop-again c =
     let at-first-segment = c .before .before .before in
     let at-loop-test = at-first-segment .before .before in
     let at-start = at-loop-test .before .before .before .before .before .before in
-    seek-on (at-start .pre .1) (at-loop-test .before .loop .inv) (at-loop-test .loop-test .taken) (at-first-segment .first-segment .ensures .count)
+    seek-on (at-start .pre .wide) (at-loop-test .before .loop .inv) (at-loop-test .loop-test .taken) (at-first-segment .first-segment .ensures .count)
     (c .before .before .if1 .left) (omega (arith, c .before .if2 .left)) (c .if3 .left)
 
 -- the row is empty

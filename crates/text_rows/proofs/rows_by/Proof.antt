@@ -40,7 +40,7 @@ add-more c =
 go-on-requires : tie.Need-go-on-requires Inv-loop μ-loop
 go-on-requires c κs =
     let so-far = c .before .before .before .before .before .before .before .before .loop .inv in
-    (so-far .ascend, omega arith, omega (arith, c .if5 .left))
+    record { ascend = so-far .ascend; order = omega arith; room = omega (arith, c .if5 .left) }
 
 -- the stretch's starts go on from those before it
 loop-again : tie.Need-loop-again Inv-loop μ-loop

@@ -10,7 +10,10 @@ ranges-of-requires c κs =
     let at-start = walk .before .before in
     let given = at-start .args in
     let there = sym (walk .match-forward .ensures) ∙ c .before .q .given .1 in
-    (at-start .pre .2, close-brief (given .t .now) (at-start .pre .0 .short) (given .opening) (given .closing) (given .at) there)
+    record {
+      first = at-start .pre .brief;
+      second = close-brief (given .t .now) (at-start .pre .goes .short) (given .opening) (given .closing) (given .at) there;
+    }
 
 returns : tie.Need-returns
 returns c =

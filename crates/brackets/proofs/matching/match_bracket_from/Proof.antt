@@ -13,7 +13,7 @@ starts c =
     let at-f = c .before in
     let at-first-bracket = at-f .before .before in
     let at-start = at-first-bracket .before .before .before in
-    jump-starts (at-start .args .t .now) (at-start .pre .0) (at-start .pre .1) (at-start .args .col) (at-first-bracket .before .row .ensures)
+    jump-starts (at-start .args .t .now) (at-start .pre .clear) (at-start .pre .line) (at-start .args .col) (at-first-bracket .before .row .ensures)
     (at-first-bracket .first-bracket .ensures) _ (at-f .f .given .1)
 
 add-partner : tie.Need-add-partner
@@ -25,14 +25,14 @@ returns c =
     let at-first-bracket = at-f .before .before in
     let at-start = at-first-bracket .before .before .before in
     let row-told = at-first-bracket .before .row .ensures in
-    jump-answer (at-start .args .t .now) (at-start .pre .0) (at-start .pre .1) (at-start .args .col) row-told
+    jump-answer (at-start .args .t .now) (at-start .pre .clear) (at-start .pre .line) (at-start .args .col) row-told
     (at-first-bracket .first-bracket .ensures) _ (at-f .f .given .1) (c .partner .ensures)
 
 returns-2 : tie.Need-returns-2
 returns-2 c =
     let at-first-bracket = c .before .before in
     let at-start = at-first-bracket .before .before .before in
-    jump-none (at-start .args .t .now) (at-start .pre .0) (at-start .pre .1) (at-start .args .col) (at-first-bracket .before .row .ensures)
+    jump-none (at-start .args .t .now) (at-start .pre .clear) (at-start .pre .line) (at-start .args .col) (at-first-bracket .before .row .ensures)
     (at-first-bracket .first-bracket .ensures) (c .enum-told .given .1)
 
 pub match-bracket-from-spec : {M : Type 1} → statement M

@@ -1,14 +1,18 @@
 -- `brackets::matching::offset_of` meets its contract. The invariant of its loop: i stands in the row, `left` columns before the one sought.
 -- The measure is the text's length less i. Assumes nothing.
-use Rattle.lists.proofs.Kit.{_≡_, _+_, _-_, arith, length, needs}
+use Rattle.lists.proofs.Kit.{_≡_, List, ℕ, _+_, _-_, arith, length, needs}
 use Rattle.text.specs.Offsets.{Stands}
 use Rattle.text.proofs.Stands.{step-char}
 use Rattle.brackets.proofs.Columns.{column-at, column-nl, column-end}
 use Rattle.brackets.proofs.matching.offset_of.Statement.{statement}
 use Rattle.brackets.proofs.matching.offset_of.Tie as tie
 
+record Walked (t : List ℕ) (row start col i left : ℕ) : Type 0 where
+  stands : Stands t row start i
+  away : i + left ≡ start + col
+
 abbrev Inv-loop : tie.InvT-loop
-Inv-loop t row start col i₀ left₀ i left = Stands t row start i × (i + left ≡ start + col)
+Inv-loop t row start col i₀ left₀ i left = Walked t row start col i left
 
 abbrev μ-loop : tie.MeasureT-loop
 μ-loop t row start col i₀ left₀ i left = length t - i
@@ -18,24 +22,27 @@ returns : tie.Need-returns Inv-loop μ-loop
 returns c =
     let at-loop-test = c .before .before in
     let invariant = at-loop-test .before .loop .inv in
-    column-nl (invariant .0) _ _ (invariant .1) (at-loop-test .loop-test .taken) (c .if1 .taken)
+    column-nl (invariant .stands) _ _ (invariant .away) (at-loop-test .loop-test .taken) (c .if1 .taken)
 
 -- the column
 returns-2 : tie.Need-returns-2 Inv-loop μ-loop
 returns-2 c =
     let at-loop-test = c .before .before .before in
     let invariant = at-loop-test .before .loop .inv in
-    column-at (invariant .0) _ _ (invariant .1) (at-loop-test .loop-test .taken) (c .before .if1 .left) (c .if2 .taken)
+    column-at (invariant .stands) _ _ (invariant .away) (at-loop-test .loop-test .taken) (c .before .if1 .left) (c .if2 .taken)
 
 loop-again : tie.Need-loop-again Inv-loop μ-loop
 loop-again c =
     let at-loop-test = c .before .before .before in
     let invariant = at-loop-test .before .loop .inv in
-    (step-char (invariant .0) (at-loop-test .loop-test .taken) (c .before .if1 .left), omega (arith, invariant .1, c .if2 .left))
+    record {
+      stands = step-char (invariant .stands) (at-loop-test .loop-test .taken) (c .before .if1 .left);
+      away = omega (arith, invariant .away, c .if2 .left);
+    }
 
 -- or with the text
 returns-3 : tie.Need-returns-3 Inv-loop μ-loop
-returns-3 c = let invariant = c .before .loop .inv in column-end (invariant .0) _ _ (invariant .1) (c .loop-test .left)
+returns-3 c = let invariant = c .before .loop .inv in column-end (invariant .stands) _ _ (invariant .away) (c .loop-test .left)
 
 pub offset-of-spec : {M : Type 1} → statement M
 offset-of-spec = tie.close

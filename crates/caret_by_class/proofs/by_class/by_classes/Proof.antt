@@ -22,17 +22,17 @@ word-by-class-requires c κs =
     let at-write = c .before .before .before .before .before .before in
     let at-start = at-write .before .before .before .before .before in
     let given = at-start .args in
-    asked-of (given .t .now) (anyToken (kept (given .spec))) (given .classes .now) _ (at-write .write-classes .ensures) (here (given .k)) (at-start .pre .1)
-    (given .own .now) (at-start .pre .2)
+    asked-of (given .t .now) (anyToken (kept (given .spec))) (given .classes .now) _ (at-write .write-classes .ensures) (here (given .k))
+    (at-start .pre .inside) (given .own .now) (at-start .pre .good)
 
 placed-requires : tie.Need-placed-requires
 placed-requires c κs =
     let at-write = c .before .before .before .before .before .before .before in
     let at-start = at-write .before .before .before .before .before in
     let given = at-start .args in
-    led-fits (given .t .now) (anyToken (kept (given .spec))) (given .classes .now) _ (at-write .write-classes .ensures) (here (given .k)) (at-start .pre .1)
-    (given .own .now) (given .big) (given .m) (given .stop) (given .count) (c .word-by-class .result) (c .word-by-class .ensures)
-    (accepted-short (given .t .now) (at-start .pre .0))
+    led-fits (given .t .now) (anyToken (kept (given .spec))) (given .classes .now) _ (at-write .write-classes .ensures) (here (given .k))
+    (at-start .pre .inside) (given .own .now) (given .big) (given .m) (given .stop) (given .count) (c .word-by-class .result) (c .word-by-class .ensures)
+    (accepted-short (given .t .now) (at-start .pre .writable .clear))
 
 returns : tie.Need-returns
 returns c =
@@ -43,7 +43,7 @@ returns c =
     record {
       answer = c .placed .ensures
           ∙ ap (atPlace (given .k)) (leads-to (given .t .now) (anyToken (kept (given .spec))) (given .classes .now) _ (at-write .write-classes .ensures)
-          (here (given .k)) (at-start .pre .1) (given .own .now) (given .big) (given .m) (given .stop) (given .count) (at-walk .word-by-class .result)
+          (here (given .k)) (at-start .pre .inside) (given .own .now) (given .big) (given .m) (given .stop) (given .count) (at-walk .word-by-class .result)
           (at-walk .word-by-class .ensures));
       left = at-write .write-classes .ensures;
     }

@@ -78,13 +78,17 @@ by-classes-requires c κs =
     let by-entered-three = entered-three (given .t .now) _ (take (at-own .taken .result) (given .folds .now)) (given .k) _ (at-entry .enter .ensures) refl
     (at-folds .or-folds .ensures) in
     let by-three-none = three-none (given .t .now) (take (at-own .taken .result) (given .folds .now)) (given .k)
-    (sym by-entered-three ∙ at-test .if1 .left) in (
-      by-three-none .0,
-      by-three-none .1,
-      by-three-none .2,
-      parse-length (given .list .now) (at-parse .parse .result) (at-parse .parse .ensures) (at-list .if2 .left),
-      places-there (given .t .now) (given .classes .now) (sym (at-places .places-refusal .ensures) ∙ c .before .if3 .left),
-    )
+    (sym by-entered-three ∙ at-test .if1 .left) in
+    record {
+      writable =
+          record {
+            clear = by-three-none .0;
+            short = parse-length (given .list .now) (at-parse .parse .result) (at-parse .parse .ensures) (at-list .if2 .left);
+            places = places-there (given .t .now) (given .classes .now) (sym (at-places .places-refusal .ensures) ∙ c .before .if3 .left);
+          };
+      inside = by-three-none .1;
+      good = by-three-none .2;
+    }
 
 returns-4 : tie.Need-returns-4
 returns-4 c =

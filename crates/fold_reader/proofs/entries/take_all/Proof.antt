@@ -13,22 +13,23 @@ abbrev μ-loop : tie.MeasureT-loop
 μ-loop file out₀ many next₀ k₀ out next k = many - k
 
 loop-holds : tie.Need-loop-holds Inv-loop μ-loop
-loop-holds c = taking-begun _ _ (c .before .before .pre .0)
+loop-holds c = taking-begun _ _ (c .before .before .pre .unbroken)
 
 take-entries-requires : tie.Need-take-entries-requires Inv-loop μ-loop
 take-entries-requires c κs =
     let at-loop = c .before .before .before .before in
     let at-start = at-loop .before .before .before in
     let more = c .before .before .before .loop-test .taken in
-    let count = c .before .before .two-at .ensures .same in (
-      omega (
+    let count = c .before .before .two-at .ensures .same in
+    record {
+      there = omega (
         arith,
         count,
         taking-few (at-loop .loop .inv) more,
         length-block-at (at-start .args .file .now) (512 * at-loop .loop .k) (omega (arith, more)),
-      ),
-      omega (arith, count, taking-room (at-loop .loop .inv) more (at-start .pre .1)),
-    )
+      );
+      room = omega (arith, count, taking-room (at-loop .loop .inv) more (at-start .pre .room));
+    }
 
 loop-again : tie.Need-loop-again Inv-loop μ-loop
 loop-again c =

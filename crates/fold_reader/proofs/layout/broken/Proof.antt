@@ -18,10 +18,11 @@ loop-holds c = record { inside = omega arith; same = broken-start (c .before .be
 breaks-requires : tie.Need-breaks-requires Inv-loop μ-loop
 breaks-requires c κs =
     let at-loop = c .before .before in
-    let at-start = at-loop .before .before .before in (
-      length-block-at (at-start .args .file .now) (512 * at-loop .loop .k) (omega (arith, c .before .loop-test .taken)),
-      omega (arith, c .before .loop-test .taken, at-start .pre),
-    )
+    let at-start = at-loop .before .before .before in
+    record {
+      size = length-block-at (at-start .args .file .now) (512 * at-loop .loop .k) (omega (arith, c .before .loop-test .taken));
+      few = omega (arith, c .before .loop-test .taken, at-start .pre);
+    }
 
 returns : tie.Need-returns Inv-loop μ-loop
 returns c =

@@ -21,7 +21,7 @@ returns-2 c =
     let at-start = at-if1 .before .before .before .before in
     let given = at-start .args in
     rw (key-none (given .key) (given .numbers .now) (given .bytes .now) (at-if1 .if1 .left) (at-if2 .if2 .taken))
-    (prints unread-fits (at-start .pre .1) (at-not-read .not-read .ensures))
+    (prints unread-fits (at-start .pre .room) (at-not-read .not-read .ensures))
 
 returns-3 : tie.Need-returns-3
 returns-3 c =
@@ -32,7 +32,7 @@ returns-3 c =
     let at-start = at-if1 .before .before .before .before in
     let given = at-start .args in
     rw (key-many (given .key) (given .numbers .now) (given .bytes .now) (at-if1 .if1 .left) (at-if2 .if2 .left) (at-if3 .if3 .taken))
-    (prints unread-fits (at-start .pre .1) (at-not-read2 .not-read2 .ensures))
+    (prints unread-fits (at-start .pre .room) (at-not-read2 .not-read2 .ensures))
 
 returns-4 : tie.Need-returns-4
 returns-4 c =

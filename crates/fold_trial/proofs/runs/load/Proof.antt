@@ -46,7 +46,7 @@ put-folds-requires c κs =
     let given = at-start .args in
     let read-folds-is = sym (answered .read-folds .ensures .answer) ∙ at-n .n .given .1 in
     let front = loaded-front (given .text .now) (given .file .now) room roomy _ _ read-folds-is (answered .read-folds .ensures .left) in
-    (rw front (loaded-within (given .text .now) (given .file .now) room roomy _ read-folds-is), at-start .pre)
+    record { few = rw front (loaded-within (given .text .now) (given .file .now) room roomy _ read-folds-is); room = at-start .pre }
 
 returns : tie.Need-returns
 returns c =

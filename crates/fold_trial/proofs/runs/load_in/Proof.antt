@@ -12,7 +12,7 @@ returns c =
     let at-if1 = at-not-read .before .before in
     let at-start = at-if1 .before .before .before in
     let given = at-start .args in
-    rw (load-long (given .n) (given .bytes .now) (at-if1 .if1 .taken)) (prints unread-fits (at-start .pre .1) (at-not-read .not-read .ensures))
+    rw (load-long (given .n) (given .bytes .now) (at-if1 .if1 .taken)) (prints unread-fits (at-start .pre .room) (at-not-read .not-read .ensures))
 
 lent : tie.Need-slice-aggregate-load-2
 lent c =
@@ -40,7 +40,7 @@ returns-3 c =
     let at-start = at-if1 .before .before .before in
     let given = at-start .args in
     let bad = check-bad _ (sym (at-enum-told2 .enum-told2 .given .1) ∙ at-check .check .ensures) in
-    rw (load-bad (given .n) (given .bytes .now) (at-if1 .if1 .left) bad) (prints unread-fits (at-start .pre .1) (at-not-read2 .not-read2 .ensures))
+    rw (load-bad (given .n) (given .bytes .now) (at-if1 .if1 .left) bad) (prints unread-fits (at-start .pre .room) (at-not-read2 .not-read2 .ensures))
 
 pub load-in-spec : {M : Type 1} → statement M
 load-in-spec = tie.close (tie.spec (λ c κs. search needs) (λ c. search needs) returns (λ c. search needs) (λ c. search needs) (λ c. search needs)

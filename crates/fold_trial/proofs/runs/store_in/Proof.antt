@@ -25,7 +25,7 @@ returns-2 c =
     let at-start = at-check .before .before .before .before in
     let given = at-start .args in
     let bad = check-bad (given .bytes .now) (sym (at-enum-told2 .enum-told2 .given .1) ∙ at-check .check .ensures) in
-    rw (store-bad (given .bytes .now) (given .folds .now) bad) (prints unread-fits (at-start .pre .1) (at-not-read .not-read .ensures))
+    rw (store-bad (given .bytes .now) (given .folds .now) bad) (prints unread-fits (at-start .pre .room) (at-not-read .not-read .ensures))
 
 pub store-in-spec : {M : Type 1} → statement M
 store-in-spec = tie.close (tie.spec (λ c κs. search needs) (λ c. search needs) (λ c. search needs) (λ c κs. search needs) (λ c. search needs)

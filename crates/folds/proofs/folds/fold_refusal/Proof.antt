@@ -1,13 +1,17 @@
 -- `folds::folds::fold_refusal` meets its contract. The invariant of its loop: the folds from i on decide. The measure is what is left of them.
 -- Assumes nothing.
-use Rattle.lists.proofs.Kit.{_≡_, _∙_, _-_, _≤_, arith, length, drop, needs, eq-eqb, ne-eqb, lt-ltb, le-ltb}
+use Rattle.lists.proofs.Kit.{_≡_, _∙_, List, ℕ, _-_, _≤_, arith, length, drop, needs, eq-eqb, ne-eqb, lt-ltb, le-ltb}
 use Rattle.folds.specs.Folds.{anyFold, badFold, foldRefusal}
 use Rattle.folds.proofs.Hiding.{any-fold-on, any-fold-end}
 use Rattle.folds.proofs.folds.fold_refusal.Statement.{statement}
 use Rattle.folds.proofs.folds.fold_refusal.Tie as tie
 
+record Passed (folds : List ℕ) (rows i : ℕ) : Type 0 where
+  within : i ≤ length folds
+  rest : anyFold (badFold rows) folds ≡ anyFold (badFold rows) (drop i folds)
+
 abbrev Inv-loop : tie.InvT-loop
-Inv-loop folds rows i₀ i = (i ≤ length folds) × (anyFold (badFold rows) folds ≡ anyFold (badFold rows) (drop i folds))
+Inv-loop folds rows i₀ i = Passed folds rows i
 
 abbrev μ-loop : tie.MeasureT-loop
 μ-loop folds rows i₀ i = length folds - i
@@ -28,7 +32,7 @@ returns-3 c =
     rw (
       eq-eqb _ _ (at-loop .before .before .if1 .left),
       le-ltb _ _ (at-loop .before .if2 .left),
-      at-loop .loop .inv .1,
+      at-loop .loop .inv .rest,
       any-fold-on (at-start .args .folds .now) (at-loop .loop .i) (c .before .before .before .before .before .loop-test .taken)
           (badFold (at-start .args .rows)),
       ← c .before .bad-fold .ensures,
@@ -39,14 +43,15 @@ loop-again : tie.Need-loop-again Inv-loop μ-loop
 loop-again c =
     let at-loop = c .before .before .before .before .before .before in
     let at-start = at-loop .before .before .before .before in
-    let more = c .before .before .before .before .before .loop-test .taken in (
-      omega (arith, more),
-      at-loop .loop .inv .1 ∙ rw (
+    let more = c .before .before .before .before .before .loop-test .taken in
+    record {
+      within = omega (arith, more);
+      rest = at-loop .loop .inv .rest ∙ rw (
         any-fold-on (at-start .args .folds .now) (at-loop .loop .i) more (badFold (at-start .args .rows)),
         ← c .before .bad-fold .ensures,
         c .if3 .left,
-      ),
-    )
+      );
+    }
 
 returns-4 : tie.Need-returns-4 Inv-loop μ-loop
 unfolding foldRefusal
@@ -56,7 +61,7 @@ returns-4 c =
     rw (
       eq-eqb _ _ (at-loop .before .before .if1 .left),
       le-ltb _ _ (at-loop .before .if2 .left),
-      at-loop .loop .inv .1,
+      at-loop .loop .inv .rest,
       any-fold-end (at-start .args .folds .now) (at-loop .loop .i) (c .loop-test .left) (badFold (at-start .args .rows)),
     )
 

@@ -8,22 +8,22 @@ use Rattle.jumps.proofs.call.caret_of.Tie as tie
 start-of-requires : tie.Need-start-of-requires
 start-of-requires c κs =
     let at-start = c .before .before in
-    (at-start .pre .1, at-start .pre .2 .in-row)
+    record { tabled = at-start .pre .tabled; in-row = at-start .pre .spot .in-row }
 
 cast-at : tie.Need-cast-at
 cast-at c =
     let at-start = c .before .before .before .before in
-    omega (arith, spot-short (at-start .pre .0) (at-start .pre .2) .0)
+    omega (arith, spot-short (at-start .pre .clear) (at-start .pre .spot) .0)
 
 sub-at : tie.Need-sub-at
 sub-at c =
     let at-start = c .before .before .before .before .before in
-    omega (arith, c .before .before .start-of .ensures, at-start .pre .2 .from)
+    omega (arith, c .before .before .start-of .ensures, at-start .pre .spot .from)
 
 cast-at-2 : tie.Need-cast-at-2
 cast-at-2 c =
     let at-start = c .before .before .before .before .before in
-    omega (arith, spot-short (at-start .pre .0) (at-start .pre .2) .1)
+    omega (arith, spot-short (at-start .pre .clear) (at-start .pre .spot) .1)
 
 returns : tie.Need-returns
 returns c =

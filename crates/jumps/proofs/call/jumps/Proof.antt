@@ -85,14 +85,15 @@ to-end-requires c κs =
     let clear = entry-clear (given .t .now) (here (given .k)) enter-result is (none .0) in
     let accepted = entered (given .t .now) (here (given .k)) enter-result is (none .0) in
     let last = late-accepted (given .t .now) (given .starts .now) (given .content) (given .jumps .now) (given .answers .now) clear
-    (sym (late .late-refusal .ensures) ∙ c .before .before .if3 .left) in (
-      clear,
-      accepted,
-      rw (sym (accepted .all-rows)) (none .1),
-      parse-length (given .list .now) (parsed .parse .result) (parsed .parse .ensures) (tested .if2 .left),
-      last .0,
-      last .1,
-    )
+    (sym (late .late-refusal .ensures) ∙ c .before .before .if3 .left) in
+    record {
+      clear = clear;
+      tabled = last .0;
+      short = parse-length (given .list .now) (parsed .parse .result) (parsed .parse .ensures) (tested .if2 .left);
+      accepted = accepted;
+      good = rw (sym (accepted .all-rows)) (none .1);
+      course = last .1;
+    }
 
 same-length : tie.Need-same-length
 same-length c = c .before .before .to-end .ensures .left .size

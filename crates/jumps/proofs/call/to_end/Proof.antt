@@ -13,24 +13,26 @@ use Rattle.jumps.proofs.call.to_end.Tie as tie
 add-at : tie.Need-add-at
 add-at c =
     let at-start = c .before .before .before .before .before .before .before in
-    omega (arith, at-start .pre .1 .here .within, at-start .pre .1 .brief)
+    omega (arith, at-start .pre .accepted .here .within, at-start .pre .accepted .brief)
 
 run-by-requires : tie.Need-run-by-requires
 run-by-requires c κs =
     let at-start = c .before .before .before .before .before .before .before .before .before in
-    let given = at-start .args in (
-      at-start .pre .0,
-      at-start .pre .4,
-      at-start .pre .3,
-      word-ready (given .t .now) (given .folds .now) (given .k) (given .e) (at-start .pre .1) (at-start .pre .2),
-      at-start .pre .5,
-    )
+    let given = at-start .args in
+    let required = at-start .pre in
+    record {
+      clear = required .clear;
+      tabled = required .tabled;
+      short = required .short;
+      folded = word-ready (given .t .now) (given .folds .now) (given .k) (given .e) (required .accepted) (required .good);
+      course = required .course;
+    }
 
 caret-of-requires : tie.Need-caret-of-requires
 caret-of-requires c κs =
     let ran = c .before .before in
     let at-start = ran .before .before .before .before .before .before .before .before .before .before in
-    (at-start .pre .0, at-start .pre .4, ran .run-by .ensures .lands .inside)
+    record { clear = at-start .pre .clear; tabled = at-start .pre .tabled; spot = ran .run-by .ensures .lands .inside }
 
 same-length : tie.Need-same-length
 same-length c = c .before .before .before .run-by .ensures .left .size
@@ -41,7 +43,7 @@ returns c =
     let at-start = ran .before .before .before .before .before .before .before .before .before .before in
     let given = at-start .args in
     let class = kindOf (anyToken (kept (given .spec))) false in
-    let from = place-of (given .t .now) (given .k) (given .e) (at-start .pre .1) in
+    let from = place-of (given .t .now) (given .k) (given .e) (at-start .pre .accepted) in
     record {
       caret = c .caret-of .ensures
           ∙ ap (put (given .k)) (ran .run-by .ensures .lands .place ∙ ap (leapEnd (given .t .now) (given .folds .now) class (given .jumps .now)) from);

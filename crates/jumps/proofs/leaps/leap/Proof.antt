@@ -10,8 +10,8 @@ use Rattle.jumps.proofs.leaps.leap.Tie as tie
 to-partner-requires : tie.Need-to-partner-requires
 to-partner-requires c κs =
     let at-start = c .before .before .before .before .before .before in
-    let required = at-start .pre .0 in
-    (required .clear, required .tabled, required .round .folded .spot)
+    let footing = at-start .pre .footing in
+    record { clear = footing .clear; tabled = footing .tabled; spot = footing .round .folded .spot }
 
 returns : tie.Need-returns
 returns c =
@@ -21,13 +21,13 @@ returns c =
       lands = tells-too (c .to-partner .ensures)
           (sym (leapt-key (given .t .now) (given .folds .now) (kindBy (given .bounds .now) (given .s)) (given .kind) (given .count)
           (placeOf (given .t .now) (given .p)) (c .before .if1 .taken)));
-      bare = at-start .pre .1;
+      bare = at-start .pre .bare;
     }
 
 rounds-from-requires : tie.Need-rounds-from-requires
 rounds-from-requires c κs =
     let at-start = c .before .before .before .before .before .before .before .before in
-    (at-start .pre .0 .round, at-start .pre .1)
+    record { round = at-start .pre .footing .round; bare = at-start .pre .bare }
 
 returns-2 : tie.Need-returns-2
 returns-2 c =
@@ -38,7 +38,7 @@ returns-2 c =
     let walked = c .rounds-from .ensures in
     record {
       lands = tells-too (walked .lands) (rounds-leapt (given .t .now) (given .folds .now) (kindBy (given .bounds .now) (given .s)) (given .kind) (given .count)
-          (placeOf (given .t .now) (given .p)) (at-start .pre .0 .small) (told .motion-of .ensures) (counted .rounds-of .ensures) (told .before .if1 .left));
+          (placeOf (given .t .now) (given .p)) (at-start .pre .footing .small) (told .motion-of .ensures) (counted .rounds-of .ensures) (told .before .if1 .left));
       bare = walked .bare;
     }
 

@@ -8,21 +8,21 @@ use Rattle.jumps.proofs.leaps.spot_of.Tie as tie
 start-of-requires : tie.Need-start-of-requires
 start-of-requires c κs =
     let at-start = c .before .before in
-    (at-start .pre .1, at-start .pre .2 .in-row)
+    record { tabled = at-start .pre .tabled; in-row = at-start .pre .inside .in-row }
 
 add-t6 : tie.Need-add-t6
 add-t6 c =
     let at-start = c .before .before .before .before in
     omega (
       arith,
-      spot-there (at-start .args .t .now) (at-start .args .q) (at-start .pre .2) (c .before .start-of .ensures) .within,
-      accepted-short (at-start .args .t .now) (at-start .pre .0),
+      spot-there (at-start .args .t .now) (at-start .args .q) (at-start .pre .inside) (c .before .start-of .ensures) .within,
+      accepted-short (at-start .args .t .now) (at-start .pre .clear),
     )
 
 returns : tie.Need-returns
 returns c =
     let at-start = c .before .before .before .before in
-    spot-lands (at-start .args .t .now) (at-start .args .q) (at-start .pre .2) (c .before .start-of .ensures)
+    spot-lands (at-start .args .t .now) (at-start .args .q) (at-start .pre .inside) (c .before .start-of .ensures)
 
 pub spot-of-spec : {M : Type 1} → statement M
 spot-of-spec = tie.close (tie.spec start-of-requires add-t6 returns)

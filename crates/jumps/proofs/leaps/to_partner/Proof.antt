@@ -8,18 +8,21 @@ use Rattle.jumps.proofs.leaps.to_partner.Tie as tie
 start-of-requires : tie.Need-start-of-requires
 start-of-requires c κs =
     let at-start = c .before .before in
-    (at-start .pre .1, at-start .pre .2 .in-row)
+    record { tabled = at-start .pre .tabled; in-row = at-start .pre .spot .in-row }
 
 -- the row starts at or before the spot
 sub-match-bracket-from : tie.Need-sub-match-bracket-from
 sub-match-bracket-from c =
     let at-start = c .before .before .before .before in
-    omega (arith, c .before .start-of .ensures, at-start .pre .2 .from)
+    omega (arith, c .before .start-of .ensures, at-start .pre .spot .from)
 
 match-bracket-from-requires : tie.Need-match-bracket-from-requires
 match-bracket-from-requires c κs =
     let at-start = c .before .before .before .before in
-    (at-start .pre .0, line-here (at-start .args .t .now) (at-start .args .p) (c .before .start-of .ensures) (at-start .pre .2 .in-row))
+    record {
+      clear = at-start .pre .clear;
+      line = line-here (at-start .args .t .now) (at-start .args .p) (c .before .start-of .ensures) (at-start .pre .spot .in-row);
+    }
 
 -- the partner is in the text
 spot-of-requires : tie.Need-spot-of-requires
@@ -28,12 +31,13 @@ spot-of-requires c κs =
     let walked = found .before .before in
     let started = walked .before .before in
     let at-start = started .before .before .before in
-    let given-p = at-start .args .p in (
-      at-start .pre .0,
-      at-start .pre .1,
-      key-inside (at-start .args .t .now) (given-p .row) (given-p .at - started .start-of .result) _ (at-start .pre .0)
-          (sym (walked .match-bracket-from .ensures) ∙ found .q .given .1),
-    )
+    let given-p = at-start .args .p in
+    record {
+      clear = at-start .pre .clear;
+      tabled = at-start .pre .tabled;
+      inside = key-inside (at-start .args .t .now) (given-p .row) (given-p .at - started .start-of .result) _ (at-start .pre .clear)
+          (sym (walked .match-bracket-from .ensures) ∙ found .q .given .1);
+    }
 
 returns : tie.Need-returns
 returns c =
@@ -49,7 +53,7 @@ returns-2 c =
     let walked = c .before .before in
     let started = walked .before .before in
     let at-start = started .before .before .before in
-    tells-too (lands-here (at-start .pre .2))
+    tells-too (lands-here (at-start .pre .spot))
     (partner-is (at-start .args .t .now) (at-start .args .p) (started .start-of .ensures) (walked .match-bracket-from .ensures) (c .enum-told .given .1))
 
 returns-3 : tie.Need-returns-3
@@ -57,7 +61,7 @@ returns-3 c =
     let walked = c .before .before in
     let started = walked .before .before in
     let at-start = started .before .before .before in
-    tells-too (lands-here (at-start .pre .2))
+    tells-too (lands-here (at-start .pre .spot))
     (partner-is (at-start .args .t .now) (at-start .args .p) (started .start-of .ensures) (walked .match-bracket-from .ensures) (c .enum-told2 .given .1))
 
 pub to-partner-spec : {M : Type 1} → statement M

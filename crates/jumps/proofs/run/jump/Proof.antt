@@ -7,29 +7,29 @@ use Rattle.jumps.proofs.run.jump.Tie as tie
 leap-requires : tie.Need-leap-requires
 leap-requires c κs =
     let at-start = c .before .before .before .before .before .before .before .before .before in
-    (at-start .pre .0, at-start .pre .1)
+    at-start .pre .leap
 
 start-of-requires : tie.Need-start-of-requires
 start-of-requires c κs =
     let leapt = c .before in
     let at-start = leapt .before .before .before .before .before .before .before .before .before .before in
-    (at-start .pre .0 .tabled, leapt .leap .ensures .lands .inside .in-row)
+    record { tabled = at-start .pre .leap .footing .tabled; in-row = leapt .leap .ensures .lands .inside .in-row }
 
 cast-answers : tie.Need-cast-answers
 cast-answers c =
     let leapt = c .before .before .before in
     let at-start = leapt .before .before .before .before .before .before .before .before .before .before in
-    omega (arith, spot-short (at-start .pre .0 .clear) (leapt .leap .ensures .lands .inside) .0)
+    omega (arith, spot-short (at-start .pre .leap .footing .clear) (leapt .leap .ensures .lands .inside) .0)
 
 mul-answers : tie.Need-mul-answers
 mul-answers c =
     let at-start = c .before .before .before .before .before .before .before .before .before .before .before .before .before in
-    omega (arith, at-start .pre .3)
+    omega (arith, at-start .pre .room)
 
 slice-write-answers : tie.Need-slice-write-answers
 slice-write-answers c =
     let at-start = c .before .before .before .before .before .before .before .before .before .before .before .before .before in
-    omega (arith, at-start .pre .3)
+    omega (arith, at-start .pre .room)
 
 sub-answers : tie.Need-sub-answers
 sub-answers c =
@@ -40,23 +40,23 @@ cast-answers-2 : tie.Need-cast-answers-2
 cast-answers-2 c =
     let leapt = c .before .before .before .before in
     let at-start = leapt .before .before .before .before .before .before .before .before .before .before in
-    omega (arith, spot-short (at-start .pre .0 .clear) (leapt .leap .ensures .lands .inside) .1)
+    omega (arith, spot-short (at-start .pre .leap .footing .clear) (leapt .leap .ensures .lands .inside) .1)
 
 add-answers : tie.Need-add-answers
 add-answers c =
     let at-start = c .before .before .before .before .before .before .before .before .before .before .before .before .before .before in
-    omega (arith, at-start .pre .2)
+    omega (arith, at-start .pre .listed)
 
 mul-answers-2 : tie.Need-mul-answers-2
 mul-answers-2 c =
     let at-start = c .before .before .before .before .before .before .before .before .before .before .before .before .before .before in
-    omega (arith, at-start .pre .3)
+    omega (arith, at-start .pre .room)
 
 slice-write-answers-2 : tie.Need-slice-write-answers-2
 slice-write-answers-2 c =
     let leapt = c .before .before .before .before in
     let at-start = leapt .before .before .before .before .before .before .before .before .before .before in
-    omega (arith, at-start .pre .3, length-set (at-start .args .answers .now) (at-start .args .i) (leapt .leap .result .spot .row))
+    omega (arith, at-start .pre .room, length-set (at-start .args .answers .now) (at-start .args .i) (leapt .leap .result .spot .row))
 
 returns : tie.Need-returns
 returns c =

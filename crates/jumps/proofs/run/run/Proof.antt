@@ -21,11 +21,11 @@ loop-holds : tie.Need-loop-holds Inv-loop μ-loop
 loop-holds c =
     let at-start = c .before .before .before .before .before .before .before .before in
     let given = at-start .args in
-    let course = at-start .pre .1 in
+    let course = at-start .pre .course in
     record {
       running = running-first (given .t .now) (given .folds .now) (kindBy (given .bounds .now) (given .s)) (given .jumps .now) (given .answers .now)
           (placeOf (given .t .now) (given .p)) (course .kinds) (course .room);
-      spot = at-start .pre .0 .round .folded .spot;
+      spot = at-start .pre .footing .round .folded .spot;
       bare = c .around .ensures;
       all = refl;
     }
@@ -35,13 +35,18 @@ jump-requires c κs =
     let tested = c .before in
     let at-loop = tested .before .loop in
     let at-start = tested .before .before .before .before .before .before .before .before .before .before in
-    let required = at-start .pre .0 in
-    let two = running-two (at-loop .inv .running) (omega (arith, tested .loop-test .taken, at-loop .inv .all)) in (
-      record { clear = required .clear; tabled = required .tabled; small = required .small; round = set-at (required .round) _ (at-loop .inv .spot) },
-      at-loop .inv .bare,
-      two,
-      omega (arith, two, at-loop .inv .running .room),
-    )
+    let footing = at-start .pre .footing in
+    let two = running-two (at-loop .inv .running) (omega (arith, tested .loop-test .taken, at-loop .inv .all)) in
+    record {
+      leap =
+          record {
+            footing =
+                record { clear = footing .clear; tabled = footing .tabled; small = footing .small; round = set-at (footing .round) _ (at-loop .inv .spot) };
+            bare = at-loop .inv .bare;
+          };
+      listed = two;
+      room = omega (arith, two, at-loop .inv .running .room);
+    }
 
 -- the length of a list fits a usize
 add-i : tie.Need-add-i Inv-loop μ-loop

@@ -10,8 +10,16 @@ run-with-letters-requires : tie.Need-run-with-letters-requires
 run-with-letters-requires c κs =
     let prepared = c .before .before .before .before .before in
     let at-start = prepared .before .before .before .before .before .before in
+    let required = at-start .pre in
     let made = prepared .prepare .ensures in
-    (at-start .pre .0, at-start .pre .1, made .is-big, made .room, made-folded made (at-start .pre .3), at-start .pre .4)
+    record {
+      clear = required .clear;
+      tabled = required .tabled;
+      small = made .is-big;
+      room = made .room;
+      folded = made-folded made (required .folded);
+      course = required .course;
+    }
 
 same-length : tie.Need-same-length
 same-length c = c .before .before .run-with-letters .ensures .left .size
@@ -28,20 +36,23 @@ run-requires c κs =
     let low-test = c .before .before .before .before in
     let prepared = low-test .before .before .before in
     let at-start = prepared .before .before .before .before .before .before in
+    let required = at-start .pre in
     let made = prepared .prepare .ensures in
-    let low = made .none-high (low-test .if1 .left) in (
-      record {
-        clear = at-start .pre .0;
-        tabled = at-start .pre .1;
-        small = made .is-big;
-        round =
-            record {
-              lent = record { room = made .room; lent = λ h. let never : _≡_ {A = ℕ} 0 1 = cc (sym h ∙ low) in absurd (omega arith) };
-              folded = made-folded made (at-start .pre .3);
-            };
-      },
-      at-start .pre .4,
-    )
+    let low = made .none-high (low-test .if1 .left) in
+    record {
+      footing =
+          record {
+            clear = required .clear;
+            tabled = required .tabled;
+            small = made .is-big;
+            round =
+                record {
+                  lent = record { room = made .room; lent = λ h. let never : _≡_ {A = ℕ} 0 1 = cc (sym h ∙ low) in absurd (omega arith) };
+                  folded = made-folded made (required .folded);
+                };
+          };
+      course = required .course;
+    }
 
 same-length-2 : tie.Need-same-length-2
 same-length-2 c = c .before .before .run .ensures .left .size

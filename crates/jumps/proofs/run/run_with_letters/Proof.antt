@@ -7,15 +7,18 @@ use Rattle.jumps.proofs.run.run_with_letters.Tie as tie
 run-requires : tie.Need-run-requires
 unfolding letters
 run-requires c κs =
-    let at-start = c .before .before .before .before .before .before .before .before in (
-      record {
-        clear = at-start .pre .0;
-        tabled = at-start .pre .1;
-        small = at-start .pre .2;
-        round = record { lent = record { room = at-start .pre .3; lent = λ h. record { starts-are = refl; lengths-are = refl } }; folded = at-start .pre .4 };
-      },
-      at-start .pre .5,
-    )
+    let at-start = c .before .before .before .before .before .before .before .before in
+    let required = at-start .pre in
+    record {
+      footing =
+          record {
+            clear = required .clear;
+            tabled = required .tabled;
+            small = required .small;
+            round = record { lent = record { room = required .room; lent = λ h. record { starts-are = refl; lengths-are = refl } }; folded = required .folded };
+          };
+      course = required .course;
+    }
 
 same-length : tie.Need-same-length
 same-length c = c .before .before .run .ensures .left .size

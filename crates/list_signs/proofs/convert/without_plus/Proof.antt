@@ -27,11 +27,12 @@ write-plain-requires : tie.Need-write-plain-requires
 write-plain-requires c κs =
     let at-count = c .before .before .before in
     let at-marks = at-count .before .before in
-    let at-check = at-marks .before in (
-      enough (at-check .before .before .before .before .args .list .now) _ (at-check .before .refused-list .ensures) (at-check .if1 .left) _
-          (at-marks .marks-of .ensures),
-      omega (arith, at-count .count-plain .ensures, c .before .before .if2 .left),
-    )
+    let at-check = at-marks .before in
+    record {
+      marks-there = enough (at-check .before .before .before .before .args .list .now) _ (at-check .before .refused-list .ensures) (at-check .if1 .left) _
+          (at-marks .marks-of .ensures);
+      fits = omega (arith, at-count .count-plain .ensures, c .before .before .if2 .left);
+    }
 
 returns-3 : tie.Need-returns-3
 returns-3 c =

@@ -19,7 +19,10 @@ to-word-requires : tie.Need-to-word-requires
 to-word-requires c κs =
     let at-parse = c .before .before in
     let at-start = at-parse .before .before .before .before in
-    (at-start .pre .0, at-start .pre .1, parse-length (at-start .args .list .now) (at-parse .parse .result) (at-parse .parse .ensures) (c .if1 .left))
+    record {
+      word = at-start .pre;
+      short = parse-length (at-start .args .list .now) (at-parse .parse .result) (at-parse .parse .ensures) (c .if1 .left);
+    }
 
 returns-2 : tie.Need-returns-2
 returns-2 c =

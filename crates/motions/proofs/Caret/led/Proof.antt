@@ -8,12 +8,11 @@ use Rattle.motions.proofs.Caret.led.Tie as tie
 walk-as-requires : tie.Need-walk-as-requires
 walk-as-requires c κs =
     let at-start = c .before .before .before .before in
-    let given = at-start .args in
-    let accepted = at-start .pre .0 in (
-      upright-ready (given .t .now) (given .folds .now) (given .tabstop) (given .self) (given .e) accepted (at-start .pre .1) (at-start .pre .2),
-      accepted .all-rows,
-      accepted .content-rows,
-    )
+    let accepted = at-start .pre .accepted in
+    record {
+      place = upright-ready (at-start .pre);
+      counts = record { all-rows = accepted .all-rows; content-rows = accepted .content-rows };
+    }
 
 pub led-spec : {M : Type 1} → statement M
 led-spec = tie.close (tie.spec (λ c. search needs) (λ c. search needs) walk-as-requires (λ c. search needs))

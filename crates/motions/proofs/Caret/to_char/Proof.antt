@@ -20,13 +20,14 @@ placed-requires c κs =
     let at-search = at-column .before .before in
     let at-row = at-search .before .before in
     let at-start = at-row .before .before .before in
-    let given = at-start .args in (
-      omega arith,
-      found-fits (rowAt (given .t .now) (given .self .row)) (given .self .col) (given .x) (given .forward) (given .till) (given .skip)
+    let given = at-start .args in
+    record {
+      row = omega arith;
+      col = found-fits (rowAt (given .t .now) (given .self .row)) (given .self .col) (given .x) (given .forward) (given .till) (given .skip)
           (at-search .find-on-row .ensures
           ∙ ap (λ (l : List ℕ). findOnRow l (given .self .col) (given .x) (given .forward) (given .till) (given .skip)) (at-row .row .ensures))
-          (at-column .i .given .1) (omega (arith, at-start .pre .here .in-col)) (at-start .pre .room),
-    )
+          (at-column .i .given .1) (omega (arith, at-start .pre .here .in-col)) (at-start .pre .room);
+    }
 
 returns : tie.Need-returns
 unfolding landsOn

@@ -13,10 +13,11 @@ use Rattle.motions.proofs.Caret.to_edge.Tie as tie
 at-line-requires : tie.Need-at-line-requires
 at-line-requires c κs =
     let at-start = c .before .before in
-    let given = at-start .args in (
-      line-there (given .t .now) _ _ (c .viewport-line .ensures) (viewport-within (given .t .now) (given .edge) (given .top) (given .height) (given .offset)),
-      at-start .pre .brief,
-    )
+    let given = at-start .args in
+    record {
+      line = line-there (given .t .now) _ _ (c .viewport-line .ensures) (viewport-within (given .t .now) (given .edge) (given .top) (given .height) (given .offset));
+      brief = at-start .pre .brief;
+    }
 
 placed-requires : tie.Need-placed-requires
 placed-requires c κs =

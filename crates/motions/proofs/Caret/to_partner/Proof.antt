@@ -14,7 +14,7 @@ placed-requires c κs =
     let at-walk = at-partner .before .before in
     let at-start = at-walk .before .before .before .before in
     let self = at-start .args .self in
-    key-fits (at-start .args .t .now) (self .row) (self .col) _ (at-start .pre .0) (at-start .pre .1 .brief)
+    key-fits (at-start .args .t .now) (self .row) (self .col) _ (at-start .pre .clear) (at-start .pre .accepted .brief)
     (sym (at-walk .match-bracket-from .ensures) ∙ at-partner .q .given .1)
 
 returns : tie.Need-returns

@@ -15,9 +15,8 @@ caret-at-requires c κs =
     let led = c .before in
     let at-start = led .before .before .before in
     let given = at-start .args in
-    target-fits (given .self)
-    (upright-ready (given .t .now) (given .folds .now) (given .tabstop) (given .self) (given .e) (at-start .pre .0) (at-start .pre .1) (at-start .pre .2))
-    (given .ambiguous) (given .mode) (given .width) (given .down) (given .count) Absent _ (led .led .ensures)
+    target-fits (given .self) (upright-ready (at-start .pre)) (given .ambiguous) (given .mode) (given .width) (given .down) (given .count) Absent _
+    (led .led .ensures)
 
 returns : tie.Need-returns
 returns c =

@@ -10,24 +10,18 @@ cast-with c =
     let led = c .before .before in
     let at-start = led .before .before .before in
     let given = at-start .args in
-    omega (
-      arith,
-      target-fits (given .self)
-          (upright-ready (given .t .now) (given .folds .now) (given .tabstop) (given .self) (given .e) (at-start .pre .0) (at-start .pre .1) (at-start .pre .2))
-          (given .ambiguous) (given .mode) (given .width) (given .down) (given .count) (given .self .offset) _ (led .led .ensures),
-    )
+    let by-target-fits = target-fits (given .self) (upright-ready (at-start .pre)) (given .ambiguous) (given .mode) (given .width) (given .down) (given .count)
+    (given .self .offset) _ (led .led .ensures) in
+    omega (arith, by-target-fits .row)
 
 cast-with-2 : tie.Need-cast-with-2
 cast-with-2 c =
     let led = c .before .before .before in
     let at-start = led .before .before .before in
     let given = at-start .args in
-    omega (
-      arith,
-      target-fits (given .self)
-          (upright-ready (given .t .now) (given .folds .now) (given .tabstop) (given .self) (given .e) (at-start .pre .0) (at-start .pre .1) (at-start .pre .2))
-          (given .ambiguous) (given .mode) (given .width) (given .down) (given .count) (given .self .offset) _ (led .led .ensures),
-    )
+    let by-target-fits = target-fits (given .self) (upright-ready (at-start .pre)) (given .ambiguous) (given .mode) (given .width) (given .down) (given .count)
+    (given .self .offset) _ (led .led .ensures) in
+    omega (arith, by-target-fits .col)
 
 returns : tie.Need-returns
 returns c = c .with .ensures ∙ ap atKept (c .before .before .before .before .led .ensures)

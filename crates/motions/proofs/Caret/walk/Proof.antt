@@ -9,28 +9,25 @@ by-list-requires : tie.Need-by-list-requires
 by-list-requires c κs =
     let at-move = c .before in
     let at-start = at-move .before .before .before .before .before in
-    (at-start .pre .accepted, rw (at-move .m2 .given .1) at (at-start .pre .takes))
+    record { accepted = at-start .pre .accepted; folds-good = rw (at-move .m2 .given .1) at (at-start .pre .takes) }
 
 to-row-requires : tie.Need-to-row-requires
 to-row-requires c κs =
     let at-move = c .before in
     let at-start = at-move .before .before .before .before .before in
-    let takes = rw (at-move .m3 .given .1) at (at-start .pre .takes) in
-    (at-start .pre .accepted, takes .0, takes .1)
+    record { accepted = at-start .pre .accepted; takes = rw (at-move .m3 .given .1) at (at-start .pre .takes) }
 
 to-row-requires-2 : tie.Need-to-row-requires-2
 to-row-requires-2 c κs =
     let at-move = c .before in
     let at-start = at-move .before .before .before .before .before in
-    let takes = rw (at-move .m4 .given .1) at (at-start .pre .takes) in
-    (at-start .pre .accepted, takes .0, takes .1)
+    record { accepted = at-start .pre .accepted; takes = rw (at-move .m4 .given .1) at (at-start .pre .takes) }
 
 to-row-kept-requires : tie.Need-to-row-kept-requires
 to-row-kept-requires c κs =
     let at-move = c .before in
     let at-start = at-move .before .before .before .before .before in
-    let takes = rw (at-move .m5 .given .1) at (at-start .pre .takes) in
-    (at-start .pre .accepted, takes .0, takes .1)
+    record { accepted = at-start .pre .accepted; takes = rw (at-move .m5 .given .1) at (at-start .pre .takes) }
 
 ways : tie.Need-returns
 ways c = rw (c .before .before .m .given .1) (ap Found (c .to-place .ensures))

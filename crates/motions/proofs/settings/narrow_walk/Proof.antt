@@ -9,7 +9,12 @@ use Rattle.motions.proofs.settings.narrow_walk.Tie as tie
 
 move-screen-requires : tie.Need-move-screen-requires
 unfolding zeroWidths doubleWidths doublesOf
-move-screen-requires c κs = (widths-lent Narrow refl refl, c .before .before .before .before .pre)
+move-screen-requires c κs =
+    let required = c .before .before .before .before .pre in
+    record {
+      accepted = record { widths = widths-lent Narrow refl refl; place = required .place };
+      counts = required .counts;
+    }
 
 returns : tie.Need-returns
 unfolding zeroWidths doubleWidths doublesOf

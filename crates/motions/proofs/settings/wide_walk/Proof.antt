@@ -10,7 +10,12 @@ use Rattle.motions.proofs.settings.wide_walk.Tie as tie
 
 move-screen-requires : tie.Need-move-screen-requires
 unfolding zeroWidths wideDoubles doublesOf
-move-screen-requires c κs = (widths-lent Wide refl refl, c .before .before .before .before .pre)
+move-screen-requires c κs =
+    let required = c .before .before .before .before .pre in
+    record {
+      accepted = record { widths = widths-lent Wide refl refl; place = required .place };
+      counts = required .counts;
+    }
 
 returns : tie.Need-returns
 unfolding zeroWidths wideDoubles doublesOf

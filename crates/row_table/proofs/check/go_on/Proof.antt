@@ -24,7 +24,7 @@ cast-last c = omega (arith, c .shared-slice-known .given (c .before .args .from 
 loop-holds : tie.Need-loop-holds Inv-loop μ-loop
 loop-holds c =
     let at-start = c .before in
-    record { ascend = at-start .pre .0; last-is = refl; within = at-start .pre .1 }
+    record { ascend = at-start .pre .ascend; last-is = refl; within = at-start .pre .order }
 
 cast-s : tie.Need-cast-s Inv-loop μ-loop
 cast-s c = omega (arith, c .shared-slice-known2 .given (c .before .before .loop .i))

@@ -9,7 +9,7 @@ use Rattle.row_table.proofs.check.holds.Tie as tie
 shared-slice-read-if1 : tie.Need-shared-slice-read-if1
 shared-slice-read-if1 c =
     let at-start = c .before .before .before in
-    omega (arith, at-start .pre .0, at-start .pre .1, rows-pos (at-start .args .t .now))
+    omega (arith, at-start .pre .enough, at-start .pre .room, rows-pos (at-start .args .t .now))
 
 -- the first start isn't 0
 returns : tie.Need-returns
@@ -20,16 +20,17 @@ returns c =
 
 go-on-requires : tie.Need-go-on-requires
 go-on-requires c κs =
-    let at-start = c .before .before .before .before in (
-      ascend-first (at-start .args .t .now) (at-start .args .starts .now) (c .if1 .left),
-      omega (arith, at-start .pre .0, rows-pos (at-start .args .t .now)),
-      at-start .pre .1,
-    )
+    let at-start = c .before .before .before .before in
+    record {
+      ascend = ascend-first (at-start .args .t .now) (at-start .args .starts .now) (c .if1 .left);
+      order = omega (arith, at-start .pre .enough, rows-pos (at-start .args .t .now));
+      room = at-start .pre .room;
+    }
 
 returns-2 : tie.Need-returns-2
 returns-2 c =
     let at-start = c .before .before .before .before .before in
-    goes-held _ (c .go-on .ensures) (at-start .pre .0) (at-start .pre .1)
+    goes-held _ (c .go-on .ensures) (at-start .pre .enough) (at-start .pre .room)
 
 pub holds-spec : {M : Type 1} → statement M
 holds-spec = tie.close (tie.spec shared-slice-read-if1 returns go-on-requires returns-2)

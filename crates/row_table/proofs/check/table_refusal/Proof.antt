@@ -13,7 +13,7 @@ returns-2 : tie.Need-returns-2
 unfolding tableRefusal
 returns-2 c =
     let held = c .before in
-    let same = held-same _ _ _ (held .before .before .before .before .pre .0) in
+    let same = held-same _ _ _ (held .before .before .before .before .pre .rows-are) in
     rw (le-ltb _ _ (held .before .if1 .left), sym same ∙ sym (held .holds .ensures) ∙ not-true _ (c .if2 .taken))
 
 returns-3 : tie.Need-returns-3
@@ -28,7 +28,7 @@ unfolding tableRefusal
 returns-4 c =
     let counted = c .before in
     let held = counted .before .before in
-    let same = held-same _ _ _ (held .before .before .before .before .pre .0) in
+    let same = held-same _ _ _ (held .before .before .before .before .pre .rows-are) in
     rw (
       le-ltb _ _ (held .before .if1 .left),
       ← counted .content-of .ensures,

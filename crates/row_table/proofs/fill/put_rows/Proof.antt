@@ -11,7 +11,7 @@ slice-write-starts c = omega (arith, rows-pos (c .before .before .args .t .now))
 put-starts-requires : tie.Need-put-starts-requires
 put-starts-requires c κs =
     let given = c .before .before .before .args in
-    (omega (arith, length-set (given.starts .now) 0 0), omega arith)
+    record { room = omega (arith, length-set (given.starts .now) 0 0); short = omega arith }
 
 same-length : tie.Need-same-length
 same-length c =

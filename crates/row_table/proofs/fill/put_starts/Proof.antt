@@ -12,7 +12,7 @@ abbrev μ-loop : tie.MeasureT-loop
 μ-loop starts₀ place at part n₀ i₀ starts n i = length part - i
 
 loop-holds : tie.Need-loop-holds Inv-loop μ-loop
-loop-holds c = putting-none _ _ _ _ (c .pre .0)
+loop-holds c = putting-none _ _ _ _ (c .pre .room)
 
 cast-starts : tie.Need-cast-starts Inv-loop μ-loop
 cast-starts c = omega (arith, c .before .before .loop-test .taken)

@@ -26,10 +26,11 @@ put-rows-requires : tie.Need-put-rows-requires
 put-rows-requires c κs =
     let counted = c .before .before in
     let checked = counted .before .before in
-    let given = checked .before .before .before .args in (
-      omega (arith, c .before .if2 .left, counted .row-count .ensures),
-      accepted-short (given.t .now) (sym (checked .text-refusal .ensures) ∙ counted .before .if1 .left),
-    )
+    let given = checked .before .before .before .args in
+    record {
+      room = omega (arith, c .before .if2 .left, counted .row-count .ensures);
+      short = accepted-short (given.t .now) (sym (checked .text-refusal .ensures) ∙ counted .before .if1 .left);
+    }
 
 cast-content : tie.Need-cast-t11
 cast-content c =

@@ -14,10 +14,12 @@ abbrev μ-loop : tie.MeasureT-loop
 μ-loop t forward last n here₀ owed₀ here owed = owed
 
 loop-holds : tie.Need-loop-holds Inv-loop μ-loop
-loop-holds c = record { line = c .before .pre .0; same = refl }
+loop-holds c = record { line = c .before .pre .round .line; same = refl }
 
 paragraph-round-requires : tie.Need-paragraph-round-requires Inv-loop μ-loop
-paragraph-round-requires c κs = (c .loop .inv .line, c .before .before .pre .1, c .before .before .pre .3)
+paragraph-round-requires c κs =
+    let required = c .before .before .pre .round in
+    record { line = c .loop .inv .line; is-last = required .is-last; brief = required .brief }
 
 -- the round has found its row
 returns : tie.Need-returns Inv-loop μ-loop

@@ -20,17 +20,17 @@ cast-end : tie.Need-cast-end Inv-loop μ-loop
 cast-end c =
     let at-start = c .before in
     fits-pos (at-start .args .last)
-    (omega (arith, at-start .pre .1, at-start .pre .2, content-near (at-start .args .t .now), count-le (at-start .args .t .now)))
+    (omega (arith, at-start .pre .is-last, at-start .pre .brief, content-near (at-start .args .t .now), count-le (at-start .args .t .now)))
 
 cast-curr : tie.Need-cast-curr Inv-loop μ-loop
 cast-curr c =
     let at-start = c .before .before .before in
-    fits-pos (at-start .args .from .row) (omega (arith, at-start .pre .0 .below, at-start .pre .0 .within, at-start .pre .2))
+    fits-pos (at-start .args .from .row) (omega (arith, at-start .pre .line .below, at-start .pre .line .within, at-start .pre .brief))
 
 loop-holds : tie.Need-loop-holds Inv-loop μ-loop
 loop-holds c =
     let at-start = c .before .before .before in
-    rounding-start (at-start .args .t .now) (at-start .args .forward) (at-start .args .last) _ _ (at-start .pre .0) (at-start .pre .1) (at-start .pre .2)
+    rounding-start (at-start .args .t .now) (at-start .args .forward) (at-start .args .last) (at-start .args .from) (at-start .pre)
 
 cast-t15 : tie.Need-cast-t15 Inv-loop μ-loop
 cast-t15 c = rounding-fits (c .loop .inv)

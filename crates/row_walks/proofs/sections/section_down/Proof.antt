@@ -17,7 +17,7 @@ abbrev μ-loop : tie.MeasureT-loop
 μ-loop t last x n row₀ start₀ left₀ row start left = last - row
 
 loop-holds : tie.Need-loop-holds Inv-loop μ-loop
-loop-holds c = record { line = c .before .pre .0; same = rw (c .before .pre .1) }
+loop-holds c = record { line = c .before .pre .section .line; same = rw (c .before .pre .is-last) }
 
 returns : tie.Need-returns Inv-loop μ-loop
 returns c =
@@ -29,14 +29,17 @@ next-line-requires : tie.Need-next-line-requires Inv-loop μ-loop
 next-line-requires c κs =
     let at-loop = c .before .before in
     let at-start = at-loop .before .before in
-    (at-loop .loop .inv .line, has-next (at-start .args .t .now) (at-loop .loop .row) _ (at-start .pre .1) (c .before .loop-test .taken))
+    (at-loop .loop .inv .line, has-next (at-start .args .t .now) (at-loop .loop .row) _ (at-start .pre .is-last) (c .before .loop-test .taken))
 
 begins-requires : tie.Need-begins-requires Inv-loop μ-loop
 begins-requires c κs =
     let at-loop = c .before .before .before in
     let at-start = at-loop .before .before in
-    let below = has-next (at-start .args .t .now) (at-loop .loop .row) _ (at-start .pre .1) (c .before .before .loop-test .taken) in
-    (line-there (at-start .args .t .now) (c .next-line .result) _ (c .next-line .ensures) below, at-start .pre .2)
+    let below = has-next (at-start .args .t .now) (at-loop .loop .row) _ (at-start .pre .is-last) (c .before .before .loop-test .taken) in
+    record {
+      line = line-there (at-start .args .t .now) (c .next-line .result) _ (c .next-line .ensures) below;
+      no-separator = at-start .pre .section .no-separator;
+    }
 
 loop-less : tie.Need-loop-less Inv-loop μ-loop
 loop-less c = omega (arith, ap (λ (l : Line). l .row) (c .before .before .next-line .ensures), c .before .before .before .before .loop-test .taken)
@@ -51,7 +54,7 @@ loop-again c =
     let given = at-start .args in
     let down = ap (λ (l : Line). l .row) (at-next-line .next-line .ensures) in
     seeks-on (at-loop .loop .inv) (line-there (given .t .now) (at-next-line .next-line .result) _ (at-next-line .next-line .ensures)
-    (has-next (given .t .now) (at-loop .loop .row) _ (at-start .pre .1) more))
+    (has-next (given .t .now) (at-loop .loop .row) _ (at-start .pre .is-last) more))
     (down-step (given .t .now) (given .x) (at-loop .loop .left) (at-loop .loop .row) (given .last) _ (omega (arith, at-next-line .before .if1 .left)) more down
     ∙ rw (sym (c .before .begins .ensures) ∙ c .if2 .taken))
 
@@ -67,7 +70,7 @@ loop-again-2 c =
     let given = at-start .args in
     let down = ap (λ (l : Line). l .row) (at-next-line .next-line .ensures) in
     seeks-on (at-loop .loop .inv) (line-there (given .t .now) (at-next-line .next-line .result) _ (at-next-line .next-line .ensures)
-    (has-next (given .t .now) (at-loop .loop .row) _ (at-start .pre .1) more))
+    (has-next (given .t .now) (at-loop .loop .row) _ (at-start .pre .is-last) more))
     (down-step (given .t .now) (given .x) (at-loop .loop .left) (at-loop .loop .row) (given .last) _ (omega (arith, at-next-line .before .if1 .left)) more down
     ∙ rw (sym (c .before .begins .ensures) ∙ c .if2 .left))
 

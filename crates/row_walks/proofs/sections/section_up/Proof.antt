@@ -23,10 +23,11 @@ returns c =
 begins-requires : tie.Need-begins-requires Inv-loop μ-loop
 begins-requires c κs =
     let at-loop = c .before .before .before in
-    let at-start = at-loop .before .before in (
-      line-there (at-start .args .t .now) (c .prev-line .result) _ (c .prev-line .ensures) (omega (arith, at-loop .loop .inv .line .in-row)),
-      at-start .pre .1,
-    )
+    let at-start = at-loop .before .before in
+    record {
+      line = line-there (at-start .args .t .now) (c .prev-line .result) _ (c .prev-line .ensures) (omega (arith, at-loop .loop .inv .line .in-row));
+      no-separator = at-start .pre .no-separator;
+    }
 
 loop-less : tie.Need-loop-less Inv-loop μ-loop
 loop-less c = omega (arith, ap (λ (l : Line). l .row) (c .before .before .prev-line .ensures))

@@ -7,7 +7,7 @@ use Rattle.row_walks.proofs.toward.beside.Tie as tie
 next-line-requires : tie.Need-next-line-requires
 next-line-requires c κs =
     let at-start = c .before .before in
-    (at-start .pre .0, rw (c .if1 .taken) at (at-start .pre .1))
+    (at-start .pre .line, rw (c .if1 .taken) at (at-start .pre .in-rows))
 
 returns : tie.Need-returns
 returns c = rw (c .before .if1 .taken) (c .next-line .ensures)

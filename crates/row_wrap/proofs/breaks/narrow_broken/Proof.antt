@@ -11,7 +11,7 @@ fit-segments-requires : tie.Need-fit-segments-requires
 unfolding whites zeroWidths doubleWidths doublesOf
 fit-segments-requires c κs =
     let at-start = c .before .before .before .before .before .before in
-    (record { widths = widths-lent Narrow refl refl; whites-are = refl }, at-start .pre)
+    record { tables = record { widths = widths-lent Narrow refl refl; whites-are = refl }; brief = at-start .pre }
 
 returns : tie.Need-returns
 unfolding zeroWidths doubleWidths doublesOf

@@ -8,18 +8,24 @@ use Rattle.screen.proofs.out_of_folds.jump.Tie as tie
 closed-fold-at-requires : tie.Need-closed-fold-at-requires
 closed-fold-at-requires c κs =
     let at-start = c .before .before in
-    (at-start .pre .1, omega (arith, at-start .pre .2 .in-row, at-start .pre .0), omega (arith, at-start .pre .4, content-near (at-start .args .t .now)))
+    let required = at-start .pre in (
+      required .folds-good,
+      omega (arith, required .line .in-row, required .counts .all-rows),
+      omega (arith, required .counts .content-rows, content-near (at-start .args .t .now)),
+    )
 
 jump-to-requires : tie.Need-jump-to-requires
 jump-to-requires c κs =
     let at-closed-fold-at = c .before .before .before .before in
     let at-start = at-closed-fold-at .before .before .before in
     let given = at-start .args in
+    let required = at-start .pre in
+    let all = required .counts .all-rows in
+    let content = required .counts .content-rows in
     let near = content-near (given .t .now) in
-    let by-end-within = end-within (given .folds .now) (given .rows) (given .content) (omega (arith, at-start .pre .4))
-    (omega (arith, at-start .pre .4, at-start .pre .0)) (given .down) (given .l .row) _ _ (omega (arith, at-start .pre .2 .in-row, at-start .pre .0))
-    (sym (at-closed-fold-at .closed-fold-at .ensures) ∙ c .before .before .first .given .1) in
-    (at-start .pre .2, omega (arith, by-end-within, c .pick .ensures, at-start .pre .0), at-start .pre .3)
+    let by-end-within = end-within (given .folds .now) (given .rows) (given .content) (omega (arith, content)) (omega (arith, content, all)) (given .down)
+    (given .l .row) _ _ (omega (arith, required .line .in-row, all)) (sym (at-closed-fold-at .closed-fold-at .ensures) ∙ c .before .before .first .given .1) in
+    record { line = required .line; small = required .small; in-rows = omega (arith, by-end-within, c .pick .ensures, all) }
 
 returns : tie.Need-returns
 returns c =
@@ -30,8 +36,8 @@ returns c =
     let jump-to-told = c .jump-to .ensures in
     record {
       place = jump-to-told .place ∙ ap (jumpedTo (given .t .now) (record { row = given .l .row; col = given .col })) (at-pick .pick .ensures) ∙
-          sym (jumped-out (given .t .now) (given .folds .now) (given .down) (record { row = given .l .row; col = given .col }) (at-start .pre .0)
-          (at-start .pre .4) (at-closed-fold-at .closed-fold-at .ensures) _ _ (at-pick .before .before .first .given .1));
+          sym (jumped-out (given .t .now) (given .folds .now) (given .down) (record { row = given .l .row; col = given .col })
+          (at-start .pre .counts) (at-closed-fold-at .closed-fold-at .ensures) _ _ (at-pick .before .before .first .given .1));
       line = jump-to-told .line;
       small = jump-to-told .small;
     }
@@ -42,10 +48,10 @@ returns-2 c =
     let at-start = at-closed-fold-at .before .before .before in
     let given = at-start .args in
     record {
-      place = sym (jumped-not (given .t .now) (given .folds .now) (given .down) (record { row = given .l .row; col = given .col }) (at-start .pre .0)
-          (at-start .pre .4) (at-closed-fold-at .closed-fold-at .ensures) (c .enum-told .given .1));
-      line = at-start .pre .2;
-      small = at-start .pre .3;
+      place = sym (jumped-not (given .t .now) (given .folds .now) (given .down) (record { row = given .l .row; col = given .col })
+          (at-start .pre .counts) (at-closed-fold-at .closed-fold-at .ensures) (c .enum-told .given .1));
+      line = at-start .pre .line;
+      small = at-start .pre .small;
     }
 
 pub jump-spec : {M : Type 1} → statement M

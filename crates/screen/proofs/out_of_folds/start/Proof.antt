@@ -9,7 +9,7 @@ returns c = rw (c .before .enum-told .given .1) (c .jump .ensures)
 returns-2 : tie.Need-returns-2
 returns-2 c =
     let at-start = c .before .before .before .before in
-    rw (c .enum-told2 .given .1) (record { place = refl; line = at-start .pre .2; small = at-start .pre .3 })
+    rw (c .enum-told2 .given .1) (record { place = refl; line = at-start .pre .line; small = at-start .pre .small })
 
 pub start-spec : {M : Type 1} → statement M
 start-spec = tie.close (tie.spec (λ c. search needs) (λ c κs. search needs) (λ c. search needs) returns returns-2)

@@ -15,7 +15,7 @@ ahead-of-requires c κs =
       arith,
       c .segment-count .ensures .count,
       ap (λ (x : List ℕ). segmentCount (layOf width (given .word) (given .width) x)) (c .before .row .ensures),
-      at-start .pre .1 .inside,
+      at-start .pre .spot .inside,
     )
 
 clamp-to-segment-requires : tie.Need-clamp-to-segment-requires
@@ -28,8 +28,8 @@ clamp-to-segment-requires c κs =
     let width = widthBy (given .zeros .now) (given .doubles .now) in
     let by-part-starts = part-starts width (given .t .now) (given .word) (given .width) (given .down) (given .s .row) (at-row .row .ensures)
     (given .s .ahead) (at-segment-count .segment-count .ensures .count)
-    (at-ahead-of .ahead-of .ensures) (c .find-segment .ensures .part) (at-start .pre .1 .inside) in
-    omega (arith, by-part-starts, row-fits (given .t .now) (given .s .row) (at-start .pre .1 .line .in-row), at-start .pre .0 .2, at-start .pre .0 .3)
+    (at-ahead-of .ahead-of .ensures) (c .find-segment .ensures .part) (at-start .pre .spot .inside) in
+    omega (arith, by-part-starts, row-fits (given .t .now) (given .s .row) (at-start .pre .spot .line .in-row), at-start .pre .brief, at-start .pre .small)
 
 returns : tie.Need-returns
 returns c =
@@ -41,8 +41,8 @@ returns c =
     let given = at-start .args in
     let width = widthBy (given .zeros .now) (given .doubles .now) in
     place-is width (given .t .now) (given .word) (given .width) (given .down) (given .s .row) (at-row .row .ensures) (given .s .ahead)
-    (at-segment-count .segment-count .ensures .count) (at-ahead-of .ahead-of .ensures) (at-find-segment .find-segment .ensures .part) (at-start .pre .1 .inside)
-    (given .offset) _ (c .clamp-to-segment .ensures)
+    (at-segment-count .segment-count .ensures .count) (at-ahead-of .ahead-of .ensures) (at-find-segment .find-segment .ensures .part)
+    (at-start .pre .spot .inside) (given .offset) _ (c .clamp-to-segment .ensures)
 
 pub land-spec : {M : Type 1} → statement M
 land-spec = tie.close (tie.spec (λ c κs. search needs) (λ c κs. search needs) ahead-of-requires (λ c κs. search needs) clamp-to-segment-requires returns)

@@ -11,9 +11,12 @@ glide-requires c κs =
     let at-start = c .before .before .before .before .before .before in
     let given = at-start .args in
     let width = widthBy (given .zeros .now) (given .doubles .now) in
-    let inside = from-inside width (given .t .now) (given .folds .now) (given .word) (given .width) (given .down) (given .n) (at-start .pre .0 .1)
-    (record { row = given .l .row; col = given .col }) (given .offset) (at-start .pre .1 .2) in
-    ((at-start .pre .0 .0, at-start .pre .1 .1), record { line = at-start .pre .1 .0; inside = inside })
+    let inside = from-inside width (given .t .now) (given .folds .now) (given .word) (given .width) (given .down) (given .n) (at-start .pre .sets-out .some)
+    (record { row = given .l .row; col = given .col }) (given .offset) (at-start .pre .ahead-is) in
+    record {
+      walks = record { ready = at-start .pre .sets-out .ready; spot = record { line = at-start .pre .sets-out .line; inside = inside } };
+      small = at-start .pre .small;
+    }
 
 returns : tie.Need-returns
 returns c =
@@ -21,22 +24,26 @@ returns c =
     let at-start = at-if1 .before .before .before .before .before .before in
     let given = at-start .args in
     let width = widthBy (given .zeros .now) (given .doubles .now) in
-    from-on width (given .t .now) (given .folds .now) (given .word) (given .width) (given .down) (given .n) (at-start .pre .0 .1)
-    (record { row = given .l .row; col = given .col }) (given .offset) (at-start .pre .1 .2) (c .glide .ensures) (at-if1 .if1 .taken)
+    from-on width (given .t .now) (given .folds .now) (given .word) (given .width) (given .down) (given .n) (at-start .pre .sets-out .some)
+    (record { row = given .l .row; col = given .col }) (given .offset) (at-start .pre .ahead-is) (c .glide .ensures) (at-if1 .if1 .taken)
 
 visible-row-requires : tie.Need-visible-row-requires
 visible-row-requires c κs =
     let at-start = c .before .before .before .before .before .before in
-    (at-start .pre .0 .0 .folds-good, omega (arith, at-start .pre .1 .0 .in-row, at-start .pre .0 .0 .all-rows))
+    let required = at-start .pre .sets-out in
+    record { folds-good = required .ready .folds-good; in-rows = omega (arith, required .line .in-row, required .ready .all-rows) }
 
 glide-requires-2 : tie.Need-glide-requires-2
 glide-requires-2 c κs =
     let at-start = c .before .before .before .before .before .before .before .before .before .before in
     let given = at-start .args in
     let width = widthBy (given .zeros .now) (given .doubles .now) in
-    let inside = from-inside width (given .t .now) (given .folds .now) (given .word) (given .width) (given .down) (given .n) (at-start .pre .0 .1)
-    (record { row = given .l .row; col = given .col }) (given .offset) (at-start .pre .1 .2) in
-    ((at-start .pre .0 .0, at-start .pre .1 .1), record { line = at-start .pre .1 .0; inside = inside })
+    let inside = from-inside width (given .t .now) (given .folds .now) (given .word) (given .width) (given .down) (given .n) (at-start .pre .sets-out .some)
+    (record { row = given .l .row; col = given .col }) (given .offset) (at-start .pre .ahead-is) in
+    record {
+      walks = record { ready = at-start .pre .sets-out .ready; spot = record { line = at-start .pre .sets-out .line; inside = inside } };
+      small = at-start .pre .small;
+    }
 
 returns-2 : tie.Need-returns-2
 returns-2 c =
@@ -45,11 +52,11 @@ returns-2 c =
     let at-start = at-if1 .before .before .before .before .before .before in
     let given = at-start .args in
     let width = widthBy (given .zeros .now) (given .doubles .now) in
-    let found = ap (λ (k : ℕ). toward (given .folds .now) k (given .down) (given .l .row)) (sym (at-start .pre .0 .0 .all-rows))
+    let found = ap (λ (k : ℕ). toward (given .folds .now) k (given .down) (given .l .row)) (sym (at-start .pre .sets-out .ready .all-rows))
     ∙ sym (at-visible-row .visible-row .ensures) ∙
     c .before .before .x .given .1 in
-    from-off width (given .t .now) (given .folds .now) (given .word) (given .width) (given .down) (given .n) (at-start .pre .0 .1)
-    (record { row = given .l .row; col = given .col }) (given .offset) (at-start .pre .1 .2) (c .glide2 .ensures) _ (omega (arith, at-if1 .if1 .left)) found
+    from-off width (given .t .now) (given .folds .now) (given .word) (given .width) (given .down) (given .n) (at-start .pre .sets-out .some)
+    (record { row = given .l .row; col = given .col }) (given .offset) (at-start .pre .ahead-is) (c .glide2 .ensures) _ (omega (arith, at-if1 .if1 .left)) found
 
 returns-3 : tie.Need-returns-3
 returns-3 c =
@@ -58,11 +65,11 @@ returns-3 c =
     let at-start = at-if1 .before .before .before .before .before .before in
     let given = at-start .args in
     let width = widthBy (given .zeros .now) (given .doubles .now) in
-    let none = ap (λ (k : ℕ). toward (given .folds .now) k (given .down) (given .l .row)) (sym (at-start .pre .0 .0 .all-rows))
+    let none = ap (λ (k : ℕ). toward (given .folds .now) k (given .down) (given .l .row)) (sym (at-start .pre .sets-out .ready .all-rows))
     ∙ sym (at-visible-row .visible-row .ensures) ∙
     c .enum-told .given .1 in
-    from-stuck width (given .t .now) (given .folds .now) (given .word) (given .width) (given .down) (given .n) (at-start .pre .0 .1)
-    (record { row = given .l .row; col = given .col }) (given .offset) (at-start .pre .1 .2) (omega (arith, at-if1 .if1 .left)) none
+    from-stuck width (given .t .now) (given .folds .now) (given .word) (given .width) (given .down) (given .n) (at-start .pre .sets-out .some)
+    (record { row = given .l .row; col = given .col }) (given .offset) (at-start .pre .ahead-is) (omega (arith, at-if1 .if1 .left)) none
 
 pub rounds-from-spec : {M : Type 1} → statement M
 rounds-from-spec = tie.close (tie.spec glide-requires returns visible-row-requires (λ c. search needs) glide-requires-2 (λ c. search needs) returns-2 returns-3)

@@ -14,7 +14,7 @@ or-own-requires c κs =
     omega (
       arith,
       seat-near (given .t .now) (given .folds .now) lay (given .down) (record { row = given .l .row; col = given .col }) (c .seat .ensures),
-      at-start .pre .1 .0,
+      at-start .pre .small,
     )
 
 rounds-from-requires : tie.Need-rounds-from-requires
@@ -22,14 +22,12 @@ rounds-from-requires c κs =
     let at-seat = c .before in
     let at-start = at-seat .before .before .before .before .before .before in
     let given = at-start .args in
-    let lay = layOf (widthBy (given .zeros .now) (given .doubles .now)) (given .word) (given .width) in (
-      at-start .pre .0,
-      (
-        at-start .pre .1 .1,
-        c .or-own .ensures .small,
-        seat-ahead (given .t .now) (given .folds .now) lay (given .down) (record { row = given .l .row; col = given .col }) (at-seat .seat .ensures),
-      ),
-    )
+    let lay = layOf (widthBy (given .zeros .now) (given .doubles .now)) (given .word) (given .width) in
+    record {
+      sets-out = at-start .pre .sets-out;
+      small = c .or-own .ensures .small;
+      ahead-is = seat-ahead (given .t .now) (given .folds .now) lay (given .down) (record { row = given .l .row; col = given .col }) (at-seat .seat .ensures);
+    }
 
 returns : tie.Need-returns
 returns c =

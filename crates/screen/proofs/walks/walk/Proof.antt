@@ -22,23 +22,25 @@ abbrev μ-loop : tie.MeasureT-loop
 free-rows-requires : tie.Need-free-rows-requires Inv-loop μ-loop
 free-rows-requires c κs =
     let at-start = c .before .before .before .before .before in
-    omega (arith, at-start .pre .1 .line .in-row, at-start .pre .0 .all-rows)
+    omega (arith, at-start .pre .spot .line .in-row, at-start .pre .ready .all-rows)
 
 loop-holds : tie.Need-loop-holds Inv-loop μ-loop
 loop-holds c =
     let at-start = c .before .before .before .before .before .before in
-    record { walking = walking-start (at-start .args .from) (at-start .pre .1); clear = c .free-rows .ensures }
+    record { walking = walking-start (at-start .args .from) (at-start .pre .spot); clear = c .free-rows .ensures }
 
 hop-requires : tie.Need-hop-requires Inv-loop μ-loop
 hop-requires c κs =
     let at-loop = c .before in
     let at-start = at-loop .before .before .before .before .before .before .before in
-    let all = at-start .pre .0 .all-rows in (
-      at-start .pre .0 .folds-good,
-      omega (arith, at-loop .loop .inv .walking .line .in-row, all),
-      omega (arith, all, count-le (at-start .args .t .now), at-start .pre .0 .brief),
-      at-loop .loop .inv .clear,
-    )
+    let all = at-start .pre .ready .all-rows in
+    record {
+      walk = record {
+        row-good = record { folds-good = at-start .pre .ready .folds-good; in-rows = omega (arith, at-loop .loop .inv .walking .line .in-row, all) };
+        few = omega (arith, all, count-le (at-start .args .t .now), at-start .pre .ready .brief);
+      };
+      clear = at-loop .loop .inv .clear;
+    }
 
 line-to-requires : tie.Need-line-to-requires Inv-loop μ-loop
 line-to-requires c κs =
@@ -46,7 +48,7 @@ line-to-requires c κs =
     let at-loop = at-hop .before .before in
     let at-start = at-loop .before .before .before .before .before .before .before in
     let given = at-start .args in
-    let all = at-start .pre .0 .all-rows in (
+    let all = at-start .pre .ready .all-rows in (
       stands-own (at-loop .loop .inv .walking .line),
       omega (
         arith,
@@ -62,7 +64,7 @@ row-requires c κs =
     let at-loop = at-hop .before .before in
     let at-start = at-loop .before .before .before .before .before .before .before in
     let given = at-start .args in
-    let all = at-start .pre .0 .all-rows in
+    let all = at-start .pre .ready .all-rows in
     line-there (given .t .now) (c .line-to .result) _ (c .line-to .ensures) (omega (
       arith,
       all,
@@ -72,8 +74,8 @@ row-requires c κs =
 
 segment-count-requires : tie.Need-segment-count-requires Inv-loop μ-loop
 segment-count-requires c κs =
-    let required = c .before .before .before .before .before .before .before .before .before .before .before .before .before .before .pre .0 in
-    (required .tables, required .wide)
+    let at-start = c .before .before .before .before .before .before .before .before .before .before .before .before .before .before in
+    at-start .pre .ready .breaks
 
 -- the next visible row comes, with the rows behind it that no fold hides
 loop-again : tie.Need-loop-again Inv-loop μ-loop
@@ -84,7 +86,7 @@ loop-again c =
     let at-loop = at-hop .before .before in
     let at-start = at-loop .before .before .before .before .before .before .before in
     let given = at-start .args in
-    let all = at-start .pre .0 .all-rows in
+    let all = at-start .pre .ready .all-rows in
     let width = widthBy (given .zeros .now) (given .doubles .now) in
     let is = at-line-to .before .before .seen .given .1 in
     let seen = sym (at-hop .hop .ensures .found) ∙ is in
@@ -109,7 +111,7 @@ returns c =
     let at-loop = at-hop .before .before in
     let at-start = at-loop .before .before .before .before .before .before .before in
     let given = at-start .args in
-    let none = ap (λ (k : ℕ). toward (given .folds .now) k (given .down) (at-loop .loop .row)) (sym (at-start .pre .0 .all-rows))
+    let none = ap (λ (k : ℕ). toward (given .folds .now) k (given .down) (at-loop .loop .row)) (sym (at-start .pre .ready .all-rows))
     ∙ sym (at-hop .hop .ensures .found) ∙
     c .enum-told .given .1 in
     record {

@@ -10,18 +10,19 @@ use Rattle.screen.proofs.wrapped.move_broken.Tie as tie
 start-requires : tie.Need-start-requires
 start-requires c κs =
     let at-start = c .before .before .before .before .before in
-    let required = at-start .pre .1 .0 in (
-      at-start .pre .1 .1,
-      rw (at-start .pre .1 .1) (required .folds-good),
-      required .line,
-      omega (
+    let required = at-start .pre .moving in
+    let place = required .accepted .place in
+    record {
+      counts = required .counts;
+      folds-good = rw (required .counts .all-rows) (place .folds-good);
+      line = place .line;
+      small = omega (
         arith,
-        required .here .in-col,
-        row-fits (at-start .args .t .now) (at-start .args .l .row) (required .row-good .in-rows),
-        required .row-good .brief,
-      ),
-      at-start .pre .1 .2,
-    )
+        place .here .in-col,
+        row-fits (at-start .args .t .now) (at-start .args .l .row) (place .row-good .in-rows),
+        place .row-good .brief,
+      );
+    }
 
 screen-from-requires : tie.Need-screen-from-requires
 unfolding whites
@@ -29,19 +30,21 @@ screen-from-requires c κs =
     let at-most = c .before in
     let at-start = at-most .before in
     let at-entry = at-start .before .before .before .before .before .before in
-    let required = at-entry .pre .1 .0 in (
-      (
-        record {
-          tables = record { widths = at-entry .pre .0 .0; whites-are = refl };
-          wide = at-entry .pre .0 .1;
-          brief = required .row-good .brief;
-          all-rows = at-entry .pre .1 .1;
-          folds-good = rw (at-entry .pre .1 .1) (required .folds-good);
-        },
-        omega (arith, at-most .most .ensures),
-      ),
-      (at-start .start .ensures .small, at-start .start .ensures .line),
-    )
+    let required = at-entry .pre .moving in
+    let place = required .accepted .place in
+    record {
+      sets-out = record {
+        ready = record {
+          breaks = record { tables = record { widths = required .accepted .widths; whites-are = refl }; wide = at-entry .pre .wide };
+          brief = place .row-good .brief;
+          all-rows = required .counts .all-rows;
+          folds-good = rw (required .counts .all-rows) (place .folds-good);
+        };
+        line = at-start .start .ensures .line;
+        some = omega (arith, at-most .most .ensures);
+      };
+      small = at-start .start .ensures .small;
+    }
 
 returns : tie.Need-returns
 returns c =

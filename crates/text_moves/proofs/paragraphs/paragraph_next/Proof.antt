@@ -13,14 +13,19 @@ sub-last c = let at-start = c .before .before in omega (arith, at-start .pre .co
 find-paragraph-requires : tie.Need-find-paragraph-requires
 find-paragraph-requires c κs =
     let at-start = c .before .before .before in
-    (at-start .pre .line, ap (λ (n : ℕ). n - 1) (at-start .pre .content-rows), omega (arith, c .most .ensures), at-start .pre .brief)
+    let required = at-start .pre in
+    record {
+      round = record { line = required .line; is-last = ap (λ (n : ℕ). n - 1) (required .content-rows); brief = required .brief };
+      some = omega (arith, c .most .ensures);
+    }
 
 down-at-requires : tie.Need-down-at-requires
 down-at-requires c κs =
-    let at-find-paragraph = c .before .before .before in (
-      rw (c .before .l .given .1) at (at-find-paragraph .find-paragraph .ensures .line),
-      ap (λ (n : ℕ). n - 1) (at-find-paragraph .before .before .before .before .pre .content-rows),
-    )
+    let at-find-paragraph = c .before .before .before in
+    record {
+      line = rw (c .before .l .given .1) at (at-find-paragraph .find-paragraph .ensures .line);
+      last-is = ap (λ (n : ℕ). n - 1) (at-find-paragraph .before .before .before .before .pre .content-rows);
+    }
 
 returns : tie.Need-returns
 returns c =

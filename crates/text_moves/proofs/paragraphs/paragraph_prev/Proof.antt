@@ -13,7 +13,11 @@ sub-last c = let at-start = c .before .before in omega (arith, at-start .pre .co
 find-paragraph-requires : tie.Need-find-paragraph-requires
 find-paragraph-requires c κs =
     let at-start = c .before .before .before in
-    (at-start .pre .line, ap (λ (n : ℕ). n - 1) (at-start .pre .content-rows), omega (arith, c .most .ensures), at-start .pre .brief)
+    let required = at-start .pre in
+    record {
+      round = record { line = required .line; is-last = ap (λ (n : ℕ). n - 1) (required .content-rows); brief = required .brief };
+      some = omega (arith, c .most .ensures);
+    }
 
 returns : tie.Need-returns
 returns c =

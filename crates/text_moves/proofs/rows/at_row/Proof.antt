@@ -7,14 +7,16 @@ use Rattle.text_moves.proofs.rows.at_row.Statement.{statement}
 use Rattle.text_moves.proofs.rows.at_row.Tie as tie
 
 line-from-requires : tie.Need-line-from-requires
-line-from-requires c κs = let required = c .before .pre in (required .0 .line, required .0 .all-rows, required .1)
+line-from-requires c κs = let required = c .before .pre in (required .accepted .line, required .accepted .all-rows, required .in-row)
 
 at-line-requires : tie.Need-at-line-requires
 at-line-requires c κs =
-    let at-start = c .before .before in (
-      line-there (at-start .args .t .now) (c .line-from .result) _ (c .line-from .ensures) (omega (arith, at-start .pre .0 .all-rows, at-start .pre .1)),
-      at-start .pre .0 .brief,
-    )
+    let at-start = c .before .before in
+    let required = at-start .pre in
+    record {
+      line = line-there (at-start .args .t .now) (c .line-from .result) _ (c .line-from .ensures) (omega (arith, required .accepted .all-rows, required .in-row));
+      brief = required .accepted .brief;
+    }
 
 returns : tie.Need-returns
 returns c = c .at-line .ensures ∙ ap (λ (l : Line). atRow (c .before .before .before .args .t .now) (l .row)) (c .before .line-from .ensures)

@@ -10,7 +10,7 @@ sub-last : tie.Need-sub-last
 sub-last c = omega (arith, accepted-rows (c .before .before .pre))
 
 at-row-requires : tie.Need-at-row-requires
-at-row-requires c κs = let at-start = c .before .before .before in (at-start .pre, omega (arith, accepted-rows (at-start .pre)))
+at-row-requires c κs = let at-start = c .before .before .before in record { accepted = at-start .pre; in-row = omega (arith, accepted-rows (at-start .pre)) }
 
 returns : tie.Need-returns
 returns c =
@@ -19,7 +19,7 @@ returns c =
     (c .at-row .ensures ∙ ap (λ (n : ℕ). atRow (at-start .args .t .now) (n - 1)) (at-start .pre .content-rows))
 
 at-row-requires-2 : tie.Need-at-row-requires-2
-at-row-requires-2 c κs = let at-start = c .before .before .before .before in (at-start .pre, omega (arith, c .least .ensures, accepted-rows (at-start .pre)))
+at-row-requires-2 c κs = let at-start = c .before .before .before .before in record { accepted = at-start .pre; in-row = omega (arith, c .least .ensures, accepted-rows (at-start .pre)) }
 
 returns-2 : tie.Need-returns-2
 returns-2 c =

@@ -18,7 +18,7 @@ returns c =
 at-row-requires : tie.Need-at-row-requires
 at-row-requires c κs =
     let at-start = c .before .before .before .before .before .before .before in
-    (at-start .pre, omega (arith, c .least .ensures, accepted-rows (at-start .pre)))
+    record { accepted = at-start .pre; in-row = omega (arith, c .least .ensures, accepted-rows (at-start .pre)) }
 
 returns-2 : tie.Need-returns-2
 returns-2 c =

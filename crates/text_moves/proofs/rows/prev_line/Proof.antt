@@ -11,7 +11,7 @@ returns c = rw (eq-eqb (c .before .before .before .args .p .row) 0 (c .if1 .take
 at-row-requires : tie.Need-at-row-requires
 at-row-requires c κs =
     let at-start = c .before .before .before .before .before in
-    (at-start .pre, omega (arith, c .minus .ensures, at-start .pre .line .in-row, at-start .pre .all-rows))
+    record { accepted = at-start .pre; in-row = omega (arith, c .minus .ensures, at-start .pre .line .in-row, at-start .pre .all-rows) }
 
 returns-2 : tie.Need-returns-2
 returns-2 c =

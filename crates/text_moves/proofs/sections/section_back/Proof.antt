@@ -10,7 +10,7 @@ use Rattle.text_moves.proofs.sections.section_back.Tie as tie
 section-up-requires : tie.Need-section-up-requires
 section-up-requires c κs =
     let at-start = c .before .before in
-    (at-start .pre .0 .line, λ e. omega arith)
+    record { line = at-start .pre .accepted .line; no-separator = λ e. omega arith }
 
 returns : tie.Need-returns
 returns c =

@@ -8,13 +8,16 @@ use Rattle.text_moves.proofs.sections.section_on.Statement.{statement}
 use Rattle.text_moves.proofs.sections.section_on.Tie as tie
 
 sub-last : tie.Need-sub-section-down
-sub-last c = omega (arith, accepted-rows (c .before .before .pre .0))
+sub-last c = omega (arith, accepted-rows (c .before .before .pre .accepted))
 
 -- a mark is no separator
 section-down-requires : tie.Need-section-down-requires
 section-down-requires c κs =
     let at-start = c .before .before .before in
-    (at-start .pre .0 .line, ap (λ (n : ℕ). n - 1) (at-start .pre .0 .content-rows), λ e. omega arith)
+    record {
+      section = record { line = at-start .pre .accepted .line; no-separator = λ e. omega arith };
+      is-last = ap (λ (n : ℕ). n - 1) (at-start .pre .accepted .content-rows);
+    }
 
 returns : tie.Need-returns
 returns c =

@@ -14,7 +14,7 @@ abbrev μ-loop : tie.MeasureT-loop
 μ-loop bytes points₀ at until count i₀ n₀ points i n = until - i
 
 loop-holds : tie.Need-loop-holds Inv-loop μ-loop
-loop-holds c = record { going = going-start (c .pre .0 .0); ascii = c .pre .1 }
+loop-holds c = record { going = going-start (c .pre .written .holds); ascii = c .pre .ascii }
 
 cast-points : tie.Need-cast-points Inv-loop μ-loop
 cast-points c = omega (arith, c .shared-slice-known .given (c .before .before .loop .i))

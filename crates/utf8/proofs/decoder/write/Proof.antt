@@ -18,10 +18,11 @@ loop-holds c = going-start (c .before .before .pre)
 -- a stretch of ASCII
 widen-on-requires : tie.Need-widen-on-requires Inv-loop μ-loop
 widen-on-requires c κs =
-    let at-loop = c .before .before .before .before .before .before in (
-      (at-loop .loop .inv .holds, c .before .before .before .before .stretch .ensures .inside),
-      not-true _ (sym (c .before .before .plain .ensures) ∙ c .before .if1 .taken),
-    )
+    let at-loop = c .before .before .before .before .before .before in
+    record {
+      written = record { holds = at-loop .loop .inv .holds; inside = c .before .before .before .before .stretch .ensures .inside };
+      ascii = not-true _ (sym (c .before .before .plain .ensures) ∙ c .before .if1 .taken);
+    }
 
 loop-less : tie.Need-loop-less Inv-loop μ-loop
 loop-less c =
@@ -37,7 +38,7 @@ loop-again c =
 write-on-requires : tie.Need-write-on-requires Inv-loop μ-loop
 write-on-requires c κs =
     let at-loop = c .before .before .before .before .before .before in
-    (at-loop .loop .inv .holds, c .before .before .before .before .stretch .ensures .inside)
+    record { holds = at-loop .loop .inv .holds; inside = c .before .before .before .before .stretch .ensures .inside }
 
 loop-less-2 : tie.Need-loop-less-2 Inv-loop μ-loop
 loop-less-2 c =

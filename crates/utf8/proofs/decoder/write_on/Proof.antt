@@ -13,7 +13,7 @@ abbrev μ-loop : tie.MeasureT-loop
 μ-loop bytes points₀ at until count i₀ n₀ points i n = until - i
 
 loop-holds : tie.Need-loop-holds Inv-loop μ-loop
-loop-holds c = going-start (c .before .before .pre .0)
+loop-holds c = going-start (c .before .before .pre .holds)
 
 slice-write-points : tie.Need-slice-write-points Inv-loop μ-loop
 slice-write-points c =

@@ -21,10 +21,11 @@ returns-3 c =
 
 write-requires : tie.Need-write-requires
 write-requires c κs =
-    let scalar = c .before .before .before in (
-      not-true _ (sym (scalar .before .all-scalar .ensures) ∙ not-false _ (scalar .if2 .left)),
-      omega (arith, c .before .before .size-all .ensures, c .before .if3 .left),
-    )
+    let scalar = c .before .before .before in
+    record {
+      scalar = not-true _ (sym (scalar .before .all-scalar .ensures) ∙ not-false _ (scalar .if2 .left));
+      room = omega (arith, c .before .before .size-all .ensures, c .before .if3 .left);
+    }
 
 -- the text
 returns-4 : tie.Need-returns-4

@@ -57,7 +57,7 @@ put-spec = tie.close (tie.spec (λ c. search needs) slice-write-bytes (λ c. sea
     (λ c. search needs) (λ c. search needs) (λ c. search needs) slice-write-bytes-3 (λ c. search needs) (λ c. search needs) returns-2
     (λ c. search needs) (λ c. search needs) slice-write-bytes-4 (λ c. search needs) (λ c. search needs) (λ c. search needs) slice-write-bytes-5
     (λ c. search needs) (λ c. search needs) (λ c. search needs) slice-write-bytes-6 (λ c. search needs) (λ c. search needs) returns-3
-    (λ c. search needs) (λ c. omega (arith, c .before .before .before .pre .0)) slice-write-bytes-7
+    (λ c. search needs) (λ c. omega (arith, c .before .before .before .pre .point)) slice-write-bytes-7
     (λ c. search needs) (λ c. search needs) (λ c. search needs) slice-write-bytes-8
     (λ c. search needs) (λ c. search needs) (λ c. search needs) slice-write-bytes-9
     (λ c. search needs) (λ c. search needs) (λ c. search needs) slice-write-bytes-10 (λ c. search needs) (λ c. search needs) returns-4)

@@ -12,12 +12,12 @@ abbrev μ-loop : tie.MeasureT-loop
 μ-loop points bytes₀ at₀ i₀ bytes at i = length points - i
 
 loop-holds : tie.Need-loop-holds Inv-loop μ-loop
-loop-holds c = record { within = omega arith; scalar = c .before .before .pre .0; total = omega arith; whole = refl; size = refl }
+loop-holds c = record { within = omega arith; scalar = c .before .before .pre .scalar; total = omega arith; whole = refl; size = refl }
 
 put-requires : tie.Need-put-requires Inv-loop μ-loop
 put-requires c κs =
     let at-loop = c .before .before .before in
-    laying-room (at-loop .loop .inv) (c .before .before .loop-test .taken) (at-loop .before .before .before .pre .1)
+    laying-room (at-loop .loop .inv) (c .before .before .loop-test .taken) (at-loop .before .before .before .pre .room)
 
 -- a code point more
 loop-again : tie.Need-loop-again Inv-loop μ-loop

@@ -9,18 +9,19 @@ use Rattle.vertical.proofs.moves.aimed.Tie as tie
 line-from-requires : tie.Need-line-from-requires
 line-from-requires c κs =
     let at-start = c .before .before .before in
-    (at-start .pre .1 .0, at-start .pre .1 .1, omega (arith, at-start .pre .0 .1 .in-rows, at-start .pre .1 .1))
+    let required = at-start .pre in
+    (required .line, required .all-rows, omega (arith, required .row-good .in-rows, required .all-rows))
 
 row-requires : tie.Need-row-requires
 row-requires c κs =
     let at-start = c .before .before .before .before in
-    line-there (at-start .args .t .now) (c .line-from .result) _ (c .line-from .ensures) (at-start .pre .0 .1 .in-rows)
+    line-there (at-start .args .t .now) (c .line-from .result) _ (c .line-from .ensures) (at-start .pre .row-good .in-rows)
 
 char-col-in-requires : tie.Need-char-col-in-requires
 char-col-in-requires c κs =
     let at-start = c .before .before .before .before .before in
     let own = ap (λ (x : Line). rowAt (at-start .args .t .now) (x .row)) (c .before .line-from .ensures) in
-    (at-start .pre .0 .0, row-ready (at-start .pre .0 .1) (c .row .ensures ∙ own))
+    record { widths = at-start .pre .widths; fits = row-ready (at-start .pre .row-good) (c .row .ensures ∙ own) }
 
 returns : tie.Need-returns
 returns c =

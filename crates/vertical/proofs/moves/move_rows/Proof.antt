@@ -8,16 +8,11 @@ use Rattle.vertical.proofs.moves.move_rows.Tie as tie
 
 move-vertical-requires : tie.Need-move-vertical-requires
 move-vertical-requires c κs =
-    let at-start = c .before .before .before .before .before in (
-      at-start .pre .0,
-      (
-        (
-          at-start .pre .1 .0,
-          delta-asked (at-start .args .down) (at-start .args .count) (omega (arith, at-start .fits .count)) _ (c .delta-of .ensures),
-        ),
-        at-start .pre .1 .1,
-      ),
-    )
+    let at-start = c .before .before .before .before .before in
+    record {
+      ready = at-start .pre;
+      turns = delta-asked (at-start .args .down) (at-start .args .count) (omega (arith, at-start .fits .count)) _ (c .delta-of .ensures);
+    }
 
 returns : tie.Need-returns
 returns c =

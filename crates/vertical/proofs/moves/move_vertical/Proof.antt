@@ -11,13 +11,15 @@ use Rattle.vertical.proofs.moves.move_vertical.Tie as tie
 vertical-row-requires : tie.Need-vertical-row-requires
 vertical-row-requires c κs =
     let at-start = c .before .before .before .before .before in
-    let required = at-start .pre .1 .0 .0 in
-    let required-second = at-start .pre .1 .1 in (
-      rw required-second (required .folds-good),
-      omega (arith, required .row-good .in-rows, required-second),
-      omega (arith, count-le (at-start .args .t .now), required .row-good .brief, required-second),
-      rw (toZ-ofZ (at-start .fits .delta)) (at-start .pre .1 .0 .1),
-    )
+    let all = at-start .pre .ready .all-rows in
+    let place = at-start .pre .ready .accepted .place in
+    record {
+      walk = record {
+        row-good = record { folds-good = rw all (place .folds-good); in-rows = omega (arith, place .row-good .in-rows, all) };
+        few = omega (arith, count-le (at-start .args .t .now), place .row-good .brief, all);
+      };
+      turns = rw (toZ-ofZ (at-start .fits .delta)) (at-start .pre .turns);
+    }
 
 returns : tie.Need-returns
 returns c =
@@ -27,7 +29,7 @@ returns c =
     let given = at-start .args in
     let width = widthBy (given .zeros .now) (given .doubles .now) in
     let to = at-vertical-row .vertical-row .ensures .row ∙
-    reached (given .folds .now) (given .l .row) (at-start .pre .1 .1) (toZ-ofZ (at-start .fits .delta)) in
+    reached (given .folds .now) (given .l .row) (at-start .pre .ready .all-rows) (toZ-ofZ (at-start .fits .delta)) in
     stays-is width (given .t .now) (given .tabstop) (given .l .row) (given .col) (at-wanted .wanted .ensures) to (c .if1 .taken)
 
 -- the row reached is one of the text
@@ -35,17 +37,18 @@ aimed-requires : tie.Need-aimed-requires
 aimed-requires c κs =
     let at-vertical-row = c .before in
     let at-start = at-vertical-row .before .before .before .before .before .before in
-    let required = at-start .pre .1 .0 .0 in (
-      (
-        at-start .pre .0,
-        record {
-          brief = required .row-good .brief;
-          in-rows = omega (arith, at-vertical-row .vertical-row .ensures .inside, at-start .pre .1 .1);
-          stop = required .row-good .stop;
-        },
-      ),
-      (required .line, at-start .pre .1 .1),
-    )
+    let required = at-start .pre .ready in
+    let place = required .accepted .place in
+    record {
+      widths = required .accepted .widths;
+      row-good = record {
+        brief = place .row-good .brief;
+        in-rows = omega (arith, at-vertical-row .vertical-row .ensures .inside, required .all-rows);
+        stop = place .row-good .stop;
+      };
+      line = place .line;
+      all-rows = required .all-rows;
+    }
 
 returns-2 : tie.Need-returns-2
 returns-2 c =
@@ -55,7 +58,7 @@ returns-2 c =
     let given = at-start .args in
     let width = widthBy (given .zeros .now) (given .doubles .now) in
     let to = at-vertical-row .vertical-row .ensures .row ∙
-    reached (given .folds .now) (given .l .row) (at-start .pre .1 .1) (toZ-ofZ (at-start .fits .delta)) in
+    reached (given .folds .now) (given .l .row) (at-start .pre .ready .all-rows) (toZ-ofZ (at-start .fits .delta)) in
     lands-is width (given .t .now) (given .tabstop) (given .l .row) (given .col) (at-wanted .wanted .ensures) to (c .before .if1 .left) (c .aimed .ensures)
 
 pub move-vertical-spec : {M : Type 1} → statement M

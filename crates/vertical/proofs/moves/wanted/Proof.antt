@@ -9,7 +9,7 @@ use Rattle.vertical.proofs.moves.wanted.Tie as tie
 cursor-col-in-requires : tie.Need-cursor-col-in-requires
 cursor-col-in-requires c κs =
     let required = c .before .before .before .before .before .before .before .pre in
-    (required .0, row-ready (required .1 .row-good) (c .row .ensures))
+    record { widths = required .widths; fits = row-ready (required .place .row-good) (c .row .ensures) }
 
 -- the sticky column
 returns : tie.Need-returns

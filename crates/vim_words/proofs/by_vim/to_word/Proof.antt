@@ -15,7 +15,11 @@ vim-motion-requires : tie.Need-vim-motion-requires
 vim-motion-requires c κs =
     let at-start = c .before .before .before .before .before in
     let given = at-start .args in
-    (word-ready (given .t .now) (given .own .now) (given .k) (given .e) (at-start .pre .0) (at-start .pre .1), at-start .pre .2, at-start .pre .3)
+    let required = at-start .pre in
+    record {
+      folded = word-ready (given .t .now) (given .own .now) (given .k) (given .e) (required .accepted) (required .good);
+      table = required .table;
+    }
 
 -- a row begins at or before each of its offsets
 sub-placed : tie.Need-sub-placed
@@ -34,7 +38,7 @@ returns c =
     c .placed .ensures ∙ caret-of-spot (given .t .now) (given .k) (walked .result) _ _
     (ap (λ (x : ℕ). walked .result .at - x) (up-start _ _ (walked .result .row) (at-start .up .ensures))) (walked .ensures .place ∙ ap
     (λ (from : Position). wordMotion (given .t .now) (given .own .now) (kindOf (inVim (kept (given .spec))) (given .big)) (given .big) (given .m)
-    (given .stop) (given .count) from) (place-of (given .t .now) (given .k) (given .e) (start .pre .0)))
+    (given .stop) (given .count) from) (place-of (given .t .now) (given .k) (given .e) (start .pre .accepted)))
 
 pub to-word-spec : {M : Type 1} → statement M
 to-word-spec = tie.close

@@ -66,7 +66,7 @@ to-word-requires c κs =
     let given = at-own .before .before .before .before .args in
     let none = entered-none (given .t .now) _ (given .k) _ (at-entry .enter .ensures) (sym (at-folds .or-folds .ensures) ∙ at-test .if1 .left) in
     let ready = read-ready (given .list .now) (at-parse .parse .result) (at-parse .parse .ensures) (c .if3 .left) in
-    (none .0, none .1, ready .0, ready .1)
+    record { accepted = none .0; good = none .1; table = ready }
 
 returns-4 : tie.Need-returns-4
 returns-4 c =

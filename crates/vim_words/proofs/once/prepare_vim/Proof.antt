@@ -13,7 +13,7 @@ returns c =
     let at-start = at-flags .before .before in
     let given = at-start .args in
     record {
-      kinds = kinds-flagged (kept (given .spec)) (at-flags .flags-of .result) (at-letters .letters-of .result) (given .big) (at-start .pre .1)
+      kinds = kinds-flagged (kept (given .spec)) (at-flags .flags-of .result) (at-letters .letters-of .result) (given .big) (at-start .pre .low)
           (at-flags .flags-of .ensures) (at-letters .letters-of .ensures);
       room = omega arith;
       is-big = refl;

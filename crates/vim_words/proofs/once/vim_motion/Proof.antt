@@ -1,7 +1,7 @@
 -- `vim_words::once::vim_motion` meets its contract: what was made is what the walk goes by. Assumes nothing.
 use Rattle.word_kinds.specs.Spots.{placeOf}
 use Rattle.word_kinds.proofs.Telling.{tells-too}
-use Rattle.words.proofs.Made.{made-folded, made-motion}
+use Rattle.words.proofs.Made.{made-ready, made-motion}
 use borrow.Author.Needs.{needs}
 use Rattle.vim_words.proofs.once.vim_motion.Statement.{statement}
 use Rattle.vim_words.proofs.once.vim_motion.Tie as tie
@@ -9,8 +9,7 @@ use Rattle.vim_words.proofs.once.vim_motion.Tie as tie
 walk-made-requires : tie.Need-walk-made-requires
 walk-made-requires c κs =
     let prepared = c .before .before .before in
-    let made = prepared .prepare-vim .ensures in
-    (made .room, made .none-high, made-folded made (prepared .before .before .before .pre .0))
+    made-ready (prepared .prepare-vim .ensures) (prepared .before .before .before .pre .folded)
 
 returns : tie.Need-returns
 returns c =

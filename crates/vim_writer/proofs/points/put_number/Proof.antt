@@ -12,7 +12,10 @@ put-ascii-requires : tie.Need-put-ascii-requires
 put-ascii-requires c κs =
     let at-start = c .before .before .before .before .before .before in
     let put-decimal-told = c .before .before .before .put-decimal .ensures in
-    (omega (arith, length-decimal (at-start .args .n), put-decimal-told .next, put-decimal-told .size), omega (arith, put-decimal-told .next))
+    record {
+      there = omega (arith, length-decimal (at-start .args .n), put-decimal-told .next, put-decimal-told .size);
+      room = omega (arith, put-decimal-told .next);
+    }
 
 pub put-number-spec : {M : Type 1} → statement M
 put-number-spec = tie.close (tie.spec (λ c. search needs) put-decimal-requires (λ c. search needs) put-ascii-requires (λ c. search needs)

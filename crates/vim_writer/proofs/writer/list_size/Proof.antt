@@ -1,7 +1,8 @@
 -- `writer::list_size` meets its contract. The invariant of its loop: n is the length of the first i tokens' list. The measure is the table's length
 -- less i. Assumes nothing.
-use Rattle.lists.proofs.Kit.{_≡_, refl, ap, sym, _∙_, _-_, _≤_, arith, length, take, getD, needs}
+use Rattle.lists.proofs.Kit.{_≡_, refl, ap, sym, _∙_, List, ℕ, _-_, _≤_, arith, length, take, getD, needs}
 use Rattle.list_tokens.proofs.Lists.{places}
+use Rattle.vim_grammar.specs.declared.VimToken.{VimToken}
 use Rattle.vim_grammar.specs.Tokens.{noToken}
 use Rattle.vim_writer.specs.Written.{written}
 use Rattle.vim_writer.proofs.TokenLaws.{token-most}
@@ -9,15 +10,19 @@ use Rattle.vim_writer.proofs.WrittenLaws.{take-most, written-first, nex
 use Rattle.vim_writer.proofs.writer.list_size.Statement.{statement}
 use Rattle.vim_writer.proofs.writer.list_size.Tie as tie
 
+record Sized (tokens : List VimToken) (len n i : ℕ) : Type 0 where
+  within : i ≤ len
+  size : n ≡ length (written (take i tokens))
+
 abbrev Inv-loop : tie.InvT-loop
-Inv-loop spec len n₀ i₀ n i = (i ≤ len) × (n ≡ length (written (take i (spec .tokens))))
+Inv-loop spec len n₀ i₀ n i = Sized (spec .tokens) len n i
 
 abbrev μ-loop : tie.MeasureT-loop
 μ-loop spec len n₀ i₀ n i = len - i
 
 loop-holds : tie.Need-loop-holds Inv-loop μ-loop
 unfolding written
-loop-holds c = (omega arith, refl)
+loop-holds c = record { within = omega arith; size = refl }
 
 -- the first token
 loop-again : tie.Need-loop-again Inv-loop μ-loop
@@ -25,14 +30,15 @@ loop-again c =
     let given-t1 = c .before .before .before .before .before .args .t1 in
     let at-loop = c .before .before .before .before .loop in
     let size-is : length (given-t1.tokens) ≡ 128 = search (needs, places) in
-    (omega arith, c .token-size .ensures ∙ sym (ap length (written-first given-t1.tokens at-loop.i (omega arith) (c .before .before .if1 .taken))))
+    let first = written-first given-t1.tokens at-loop.i (omega arith) (c .before .before .if1 .taken) in
+    record { within = omega arith; size = c .token-size .ensures ∙ sym (ap length first) }
 
 add-n : tie.Need-add-n Inv-loop μ-loop
 add-n c =
     let given-t1 = c .before .before .before .args .t1 in
     let at-loop = c .before .before .loop in
     let size-is : length (given-t1.tokens) ≡ 128 = search (needs, places) in
-    omega (arith, at-loop.inv .1, take-most given-t1.tokens at-loop.i (omega arith))
+    omega (arith, at-loop.inv .size, take-most given-t1.tokens at-loop.i (omega arith))
 
 add-n-2 : tie.Need-add-n-2 Inv-loop μ-loop
 add-n-2 c =
@@ -41,7 +47,7 @@ add-n-2 c =
     let size-is : length (given-t1.tokens) ≡ 128 = search (needs, places) in
     omega (
       arith,
-      at-loop.inv .1,
+      at-loop.inv .size,
       take-most given-t1.tokens at-loop.i (omega arith),
       c .token-size2 .ensures,
       token-most (getD given-t1.tokens at-loop.i noToken),
@@ -53,13 +59,14 @@ loop-again-2 c =
     let given-t1 = c .before .before .before .before .before .args .t1 in
     let at-loop = c .before .before .before .before .loop in
     let size-is : length (given-t1.tokens) ≡ 128 = search (needs, places) in
-    (omega arith, omega (arith, at-loop.inv .1, next-length given-t1.tokens at-loop.i (omega arith) (c .before .before .if1 .left), c .token-size2 .ensures))
+    let next = next-length given-t1.tokens at-loop.i (omega arith) (c .before .before .if1 .left) in
+    record { within = omega arith; size = omega (arith, at-loop.inv .size, next, c .token-size2 .ensures) }
 
 returns : tie.Need-returns Inv-loop μ-loop
 returns c =
     let at-loop = c .before .loop in
     let i-is : at-loop.i ≡ c .before .before .args .t1 .len = omega arith in
-    rw (← i-is) (at-loop.inv .1)
+    rw (← i-is) (at-loop.inv .size)
 
 pub list-size-spec : {M : Type 1} → statement M
 list-size-spec = tie.close (tie.spec Inv-loop μ-loop loop-holds (λ c. search needs) (λ c. search needs) (λ c κs. search needs) (λ c. search needs)

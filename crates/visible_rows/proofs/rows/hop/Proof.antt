@@ -4,13 +4,13 @@ use Rattle.visible_rows.proofs.rows.hop.Statement.{statement}
 use Rattle.visible_rows.proofs.rows.hop.Tie as tie
 
 returns : tie.Need-returns
-returns c = hop-free (c .before .before .before .pre .3) _ (c .shifted .ensures) (c .before .if1 .taken)
+returns c = hop-free (c .before .before .before .pre .clear) _ (c .shifted .ensures) (c .before .if1 .taken)
 
 free-rows-requires : tie.Need-free-rows-requires
 free-rows-requires c κs =
     let at-visible-row = c .before .before .before in
     let at-start = at-visible-row .before .before .before in
-    toward-within (at-start .args .folds .now) (at-start .args .rows) (at-start .args .down) (at-start .args .row) _ (at-start .pre .1)
+    toward-within (at-start .args .folds .now) (at-start .args .rows) (at-start .args .down) (at-start .args .row) _ (at-start .pre .walk .row-good .in-rows)
     (sym (at-visible-row .visible-row .ensures) ∙ c .before .x .given .1)
 
 returns-2 : tie.Need-returns-2

@@ -15,7 +15,7 @@ abbrev μ-loop : tie.MeasureT-loop
 μ-loop folds rows down row n r₀ left₀ r left = left
 
 loop-holds : tie.Need-loop-holds Inv-loop μ-loop
-loop-holds c = record { same = refl; inside = c .before .pre .1 }
+loop-holds c = record { same = refl; inside = c .before .pre .row-good .in-rows }
 
 -- the rows that no fold hides are the text's
 shifted-requires : tie.Need-shifted-requires Inv-loop μ-loop
@@ -28,7 +28,7 @@ shifted-requires c κs =
       shift-small (at-start .args .down) (at-start .args .rows) (at-loop .loop .r) (at-free-rows .free-rows .result) (at-loop .loop .inv .inside)
           (at-free-rows .free-rows .ensures .within),
       c .if1 .taken,
-      at-start .pre .2,
+      at-start .pre .few,
     )
 
 returns : tie.Need-returns Inv-loop μ-loop
@@ -52,19 +52,20 @@ shifted-requires-2 c κs =
       arith,
       shift-small (at-start .args .down) (at-start .args .rows) (at-loop .loop .r) (at-free-rows .free-rows .result) (at-loop .loop .inv .inside)
           (at-free-rows .free-rows .ensures .within),
-      at-start .pre .2,
+      at-start .pre .few,
     )
 
 visible-row-requires : tie.Need-visible-row-requires Inv-loop μ-loop
 visible-row-requires c κs =
     let at-free-rows = c .before .before in
     let at-loop = at-free-rows .before .before in
-    let at-start = at-loop .before .before in (
-      at-start .pre .0,
-      rw (c .shifted2 .ensures)
+    let at-start = at-loop .before .before in
+    record {
+      folds-good = at-start .pre .row-good .folds-good;
+      in-rows = rw (c .shifted2 .ensures)
           (shift-within (at-start .args .down) (at-start .args .rows) (at-loop .loop .r) (at-free-rows .free-rows .result) (at-loop .loop .inv .inside)
-          (at-free-rows .free-rows .ensures .within)),
-    )
+          (at-free-rows .free-rows .ensures .within));
+    }
 
 -- a visible row comes next
 loop-again : tie.Need-loop-again Inv-loop μ-loop

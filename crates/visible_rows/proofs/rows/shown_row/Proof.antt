@@ -6,7 +6,7 @@ use Rattle.visible_rows.proofs.rows.shown_row.Tie as tie
 
 -- no fold hides it
 returns : tie.Need-returns
-returns c = record { row = rw (sym (c .before .is-row-hidden .ensures) ∙ not-true _ (c .if1 .taken)) refl; inside = c .before .before .before .pre .1 }
+returns c = record { row = rw (sym (c .before .is-row-hidden .ensures) ∙ not-true _ (c .if1 .taken)) refl; inside = c .before .before .before .pre .in-rows }
 
 -- one does, and its first row is found
 returns-2 : tie.Need-returns-2
@@ -18,7 +18,7 @@ returns-2 c =
     let found = sym (at-visible-row .visible-row .ensures) ∙ c .before .first .given .1 in
     record {
       row = rw (sym (at-is-row-hidden .is-row-hidden .ensures) ∙ not-false _ (at-visible-row .before .if1 .left)) (sym (ap (rowOr (given .row)) found));
-      inside = toward-within (given .folds .now) (given .rows) false (given .row) _ (at-start .pre .1) found;
+      inside = toward-within (given .folds .now) (given .rows) false (given .row) _ (at-start .pre .in-rows) found;
     }
 
 returns-3 : tie.Need-returns-3
@@ -29,7 +29,7 @@ returns-3 c =
     record {
       row = rw (sym (at-is-row-hidden .is-row-hidden .ensures) ∙ not-false _ (at-visible-row .before .if1 .left))
           (sym (ap (rowOr (at-start .args .row)) (sym (at-visible-row .visible-row .ensures) ∙ c .enum-told .given .1)));
-      inside = at-start .pre .1;
+      inside = at-start .pre .in-rows;
     }
 
 pub shown-row-spec : {M : Type 1} → statement M

@@ -11,7 +11,7 @@ unsigned-requires c κs =
     let at-if1 = c .before .before in
     let at-start = at-if1 .before .before in
     let given = at-start .args in
-    counts-up (given .folds .now) (given .rows) (given .row) (given .delta) (at-start .fits .delta) (at-start .pre .3) (at-if1 .if1 .taken) _
+    counts-up (given .folds .now) (given .rows) (given .row) (given .delta) (at-start .fits .delta) (at-start .pre .turns) (at-if1 .if1 .taken) _
     (c .negated .ensures)
 
 returns : tie.Need-returns
@@ -24,7 +24,7 @@ returns c =
     record {
       row = c .rows-on .ensures .row ∙
           ap (rounds (stepRow (given .folds .now) (given .rows) false) (at-unsigned .unsigned .result)) (at-negated .before .shown-row .ensures .row) ∙
-          goes-up (given .folds .now) (given .rows) (given .row) (given .delta) (at-start .fits .delta) (at-start .pre .3) (at-if1 .if1 .taken) _
+          goes-up (given .folds .now) (given .rows) (given .row) (given .delta) (at-start .fits .delta) (at-start .pre .turns) (at-if1 .if1 .taken) _
           (at-negated .negated .ensures) _ (at-unsigned .unsigned .ensures);
       inside = c .rows-on .ensures .inside;
     }

@@ -15,7 +15,10 @@ row-start-requires : tie.Need-row-start-requires
 row-start-requires c κs =
     let at-fold = c .before .before .before in
     let at-start = at-fold .before .before .before in
-    (at-start .pre .stands, span-rows (at-start .pre) (at-fold .closed-fold-at .ensures) _ _ (c .before .first .given .1) .0)
+    record {
+      stands = at-start .pre .stands;
+      not-before = span-rows (at-start .pre) (at-fold .closed-fold-at .ensures) _ _ (c .before .first .given .1) .0;
+    }
 
 returns : tie.Need-returns
 returns c =

@@ -15,7 +15,14 @@ row-last-requires : tie.Need-row-last-requires
 row-last-requires c κs =
     let at-fold = c .before .before .before in
     let at-start = at-fold .before .before .before in
-    (at-start .pre .classes, at-start .pre .stands, span-rows (at-start .pre) (at-fold .closed-fold-at .ensures) _ _ (c .before .first .given .1) .1)
+    record {
+      classes = at-start .pre .classes;
+      from =
+          record {
+            stands = at-start .pre .stands;
+            in-row = span-rows (at-start .pre) (at-fold .closed-fold-at .ensures) _ _ (c .before .first .given .1) .1;
+          };
+    }
 
 returns : tie.Need-returns
 returns c =

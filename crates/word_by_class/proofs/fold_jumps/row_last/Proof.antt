@@ -20,7 +20,7 @@ sub-result c =
     let at-start = at-end .before .before in
     let full : isEmpty (at-start .args .c .now) (endOf (at-start .args .c .now) (at-start .args .row)) ≡ false =
     rw (← at-end .end-of .ensures, ← c .before .class-at .ensures) (ne-eqb _ _ (c .if1 .left)) in
-    omega (arith, at-end .end-of .ensures, last-there (at-start .pre .0) (at-start .args .row) (at-start .pre .2) full)
+    omega (arith, at-end .end-of .ensures, last-there (at-start .pre .classes) (at-start .args .row) (at-start .pre .from .in-row) full)
 
 returns-2 : tie.Need-returns-2
 returns-2 c =

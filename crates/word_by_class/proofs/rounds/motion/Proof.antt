@@ -11,14 +11,11 @@ moved-requires : tie.Need-moved-requires
 moved-requires c κs =
     let at-j = c .before .before in
     let at-round = at-j .before .before in
-    let at-start = at-round .before .before .before in (
-      at-start .pre .stands,
-      omega (
-        arith,
-        on-in (at-start .pre .classes) _ _ (at-start .pre .inside) _ _ _ _
-            (sym (at-round .round .ensures) ∙ at-j .j .given .1),
-      ),
-    )
+    let at-start = at-round .before .before .before in
+    record {
+      stands = at-start .pre .stands;
+      within = omega (arith, on-in (at-start .pre .classes) _ _ (at-start .pre .inside) _ _ _ _ (sym (at-round .round .ensures) ∙ at-j .j .given .1));
+    }
 
 rounds-requires : tie.Need-rounds-requires
 rounds-requires c κs =

@@ -5,15 +5,16 @@ use Rattle.word_by_class.proofs.rounds.round_near.Statement.{statement}
 use Rattle.word_by_class.proofs.rounds.round_near.Tie as tie
 
 round-requires : tie.Need-round-requires
-round-requires c κs = let at-start = c .before .before .before .before .before .before .before .before in ready-bare (at-start .pre .0)
+round-requires c κs = let at-start = c .before .before .before .before .before .before .before .before in ready-bare (at-start .pre .ready)
 
 returns : tie.Need-returns
 returns c =
     let at-if = c .before .before in
     let at-start = at-if .before .before .before .before .before .before .before in
     let given = at-start .args in
+    let required = at-start .pre in
     c .round .ensures ∙
-    round-bare (given .c .now) (given .folds .now) (at-start .pre .1) (given .p .at) (given .p .row) (at-start .pre .0 .stands .row-is) (at-if .if1 .taken)
+    round-bare (given .c .now) (given .folds .now) (required .bare) (given .p .at) (given .p .row) (required .ready .stands .row-is) (at-if .if1 .taken)
     (given .big) (given .m) false
 
 pub round-near-spec : {M : Type 1} → statement M

@@ -20,7 +20,7 @@ near-requires : tie.Need-near-requires Inv-loop μ-loop
 near-requires c κs = c .before .loop .inv .bare
 
 round-near-requires : tie.Need-round-near-requires Inv-loop μ-loop
-round-near-requires c κs = (c .before .before .loop .inv .ready, c .near .ensures)
+round-near-requires c κs = record { ready = c .before .before .loop .inv .ready; bare = c .near .ensures }
 
 -- the round came to where it began
 returns : tie.Need-returns Inv-loop μ-loop
@@ -34,7 +34,10 @@ moved-requires c κs =
     let at-j = c .before .before .before in
     let at-round = at-j .before .before in
     let ready = at-round .before .before .before .loop .inv .ready in
-    (ready .stands, omega (arith, on-in (ready .classes) _ _ (ready .inside) _ _ _ _ (sym (at-round .round-near .ensures) ∙ at-j .j .given .1)))
+    record {
+      stands = ready .stands;
+      within = omega (arith, on-in (ready .classes) _ _ (ready .inside) _ _ _ _ (sym (at-round .round-near .ensures) ∙ at-j .j .given .1));
+    }
 
 loop-again : tie.Need-loop-again Inv-loop μ-loop
 loop-again c =

@@ -10,7 +10,11 @@ returns c = rw (c .if1 .taken)
 row-end-requires : tie.Need-row-end-requires
 row-end-requires c κs =
     let at-start = c .before .before in
-    (record { within = omega arith; row-is = sym (row-first (at-start .args .c .now)) }, omega arith, omega (arith, at-start .pre))
+    record {
+      stands = record { within = omega arith; row-is = sym (row-first (at-start .args .c .now)) };
+      not-past = omega arith;
+      in-row = omega (arith, at-start .pre);
+    }
 
 add-result : tie.Need-add-result
 add-result c =

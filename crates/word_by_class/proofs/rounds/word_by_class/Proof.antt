@@ -29,15 +29,16 @@ moved-requires c κs =
     let start = at-ends .before .before .before in
     let given = start .args in
     let ready = asked-ready (start .pre) (at-ends .ends .result) (c .before .content-of .result) (at-start .start-of .result)
-    (omega (arith, at-ends .ends .ensures, row-first (given .c .now))) (c .before .content-of .ensures) (at-start .start-of .ensures) in (
-      ready .stands,
-      omega (
+    (omega (arith, at-ends .ends .ensures, row-first (given .c .now))) (c .before .content-of .ensures) (at-start .start-of .ensures) in
+    record {
+      stands = ready .stands;
+      within = omega (
         arith,
         c .motion .ensures,
         motion-in (start .pre .classes) (given .folds .now) (at-start .start-of .result + given .at .col) (ready .inside)
             (given .big) (given .m) (given .stop) (given .count),
-      ),
-    )
+      );
+    }
 
 sub-t12 : tie.Need-sub-t12
 sub-t12 c =

@@ -22,7 +22,7 @@ loop-again c =
     let at-loop = in-loop .before in
     let at-start = at-loop .before .before in
     let so-far = at-loop .loop .inv in
-    let by-row-end-next = row-end-next (at-start .args .c .now) (at-loop .loop .i) (omega (arith, in-loop .loop-test .taken, at-start .pre .1))
+    let by-row-end-next = row-end-next (at-start .args .c .now) (at-loop .loop .i) (omega (arith, in-loop .loop-test .taken, at-start .pre .within))
     (sym (c .before .is-end .ensures) ∙ c .if1 .taken) in
     record {
       up-to = omega (arith, in-loop .loop-test .taken);
@@ -36,7 +36,7 @@ loop-again-2 c =
     let at-loop = in-loop .before in
     let at-start = at-loop .before .before in
     let so-far = at-loop .loop .inv in
-    let by-row-char-next = row-char-next (at-start .args .c .now) (at-loop .loop .i) (omega (arith, in-loop .loop-test .taken, at-start .pre .1))
+    let by-row-char-next = row-char-next (at-start .args .c .now) (at-loop .loop .i) (omega (arith, in-loop .loop-test .taken, at-start .pre .within))
     (sym (c .before .is-end .ensures) ∙ c .if1 .left) in
     record {
       up-to = omega (arith, in-loop .loop-test .taken);

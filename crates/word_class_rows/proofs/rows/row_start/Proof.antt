@@ -12,7 +12,7 @@ abbrev μ-loop : tie.MeasureT-loop
 μ-loop c row r₀ i₀ r i = i
 
 loop-holds : tie.Need-loop-holds Inv-loop μ-loop
-loop-holds c = let required = c .before .pre in record { stands = required .0; not-before = required .1 }
+loop-holds c = let required = c .before .pre in record { stands = required .stands; not-before = required .not-before }
 
 -- the end of the row before
 returns : tie.Need-returns Inv-loop μ-loop

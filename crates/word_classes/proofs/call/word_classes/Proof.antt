@@ -52,11 +52,12 @@ write-classes-requires c κs =
     let at-parse = at-list .before .before in
     let at-test = at-parse .before in
     let at-text = at-test .before in
-    let given = at-text .before .before .before .before .args in (
-      sym (at-text .text-refusal .ensures) ∙ at-test .if1 .left,
-      parse-length (given .list .now) (at-parse .parse .result) (at-parse .parse .ensures) (at-list .if2 .left),
-      places-there (given .t .now) (given .classes .now) (sym (at-places .places-refusal .ensures) ∙ c .before .if3 .left),
-    )
+    let given = at-text .before .before .before .before .args in
+    record {
+      clear = sym (at-text .text-refusal .ensures) ∙ at-test .if1 .left;
+      short = parse-length (given .list .now) (at-parse .parse .result) (at-parse .parse .ensures) (at-list .if2 .left);
+      places = places-there (given .t .now) (given .classes .now) (sym (at-places .places-refusal .ensures) ∙ c .before .if3 .left);
+    }
 
 -- nothing is refused
 returns-4 : tie.Need-returns-4

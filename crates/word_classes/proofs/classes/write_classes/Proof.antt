@@ -27,7 +27,10 @@ char-class-requires : tie.Need-char-class-requires Inv-loop μ-loop
 char-class-requires c κs =
     let in-loop = c .before .before in
     let at-start = in-loop .before .before .before .before in
-    (scalar-there (at-start .args .t .now) _ (at-start .pre .0) (omega (arith, in-loop .loop-test .taken)), at-start .pre .1)
+    record {
+      scalar = scalar-there (at-start .args .t .now) _ (at-start .pre .clear) (omega (arith, in-loop .loop-test .taken));
+      short = at-start .pre .short;
+    }
 
 -- a character
 loop-again-2 : tie.Need-loop-again-2 Inv-loop μ-loop
@@ -41,7 +44,7 @@ returns : tie.Need-returns Inv-loop μ-loop
 returns c =
     let at-loop = c .before .before in
     let at-start = at-loop .before .before .before in
-    written (at-loop .loop .inv) (c .before .loop-test .left) (at-start .pre .2) (c .end-class2 .ensures)
+    written (at-loop .loop .inv) (c .before .loop-test .left) (at-start .pre .places) (c .end-class2 .ensures)
 
 pub write-classes-spec : {M : Type 1} → statement M
 write-classes-spec = tie.close (tie.spec Inv-loop μ-loop loop-holds (λ c. omega arith) (λ c. search needs) (λ c κs. search needs)

@@ -8,7 +8,10 @@ walk-requires : tie.Need-walk-requires
 unfolding letters
 walk-requires c κs =
     let at-start = c .before .before .before .before in
-    record { lent = record { room = at-start .pre .0; lent = λ h. record { starts-are = refl; lengths-are = refl } }; folded = at-start .pre .1 }
+    record {
+      lent = record { room = at-start .pre .room; lent = λ h. record { starts-are = refl; lengths-are = refl } };
+      folded = at-start .pre .folded;
+    }
 
 pub walk-with-letters-spec : {M : Type 1} → statement M
 walk-with-letters-spec = tie.close (tie.spec (λ c. search needs) (λ c. search needs) walk-requires (λ c. search needs))

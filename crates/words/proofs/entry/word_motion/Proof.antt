@@ -1,7 +1,7 @@
 -- `words::entry::word_motion` meets its contract: what was made is what the walk goes by. Assumes nothing.
 use Rattle.word_kinds.specs.Spots.{placeOf}
 use Rattle.word_kinds.proofs.Telling.{tells-too}
-use Rattle.words.proofs.Made.{made-folded, made-motion}
+use Rattle.words.proofs.Made.{made-ready, made-motion}
 use borrow.Author.Needs.{needs}
 use Rattle.words.proofs.entry.word_motion.Statement.{statement}
 use Rattle.words.proofs.entry.word_motion.Tie as tie
@@ -9,8 +9,7 @@ use Rattle.words.proofs.entry.word_motion.Tie as tie
 walk-made-requires : tie.Need-walk-made-requires
 walk-made-requires c κs =
     let prepared = c .before .before .before in
-    let made = prepared .prepare .ensures in
-    (made .room, made .none-high, made-folded made (prepared .before .before .before .pre .0))
+    made-ready (prepared .prepare .ensures) (prepared .before .before .before .pre .folded)
 
 returns : tie.Need-returns
 returns c =

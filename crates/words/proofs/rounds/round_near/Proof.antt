@@ -10,12 +10,12 @@ use Rattle.words.proofs.rounds.round_near.Tie as tie
 round-requires : tie.Need-round-requires
 round-requires c κs =
     let at-start = c .before .before .before .before .before .before .before .before .before .before in
-    set-bare (at-start .pre .0)
+    set-bare (at-start .pre .round)
 
 returns : tie.Need-returns
 returns c =
     let at-start = c .before .before .before .before .before .before .before .before .before .before .before in
-    tells-too (c .round .ensures) (round-bare at-start.args.t.now at-start.args.folds.now (at-start .pre .1) (placeOf at-start.args.t.now at-start.args.p)
+    tells-too (c .round .ensures) (round-bare at-start.args.t.now at-start.args.folds.now (at-start .pre .bare) (placeOf at-start.args.t.now at-start.args.p)
     (c .before .before .if1 .taken) (kindBy at-start.args.bounds.now at-start.args.s) at-start.args.s.big at-start.args.m false)
 
 pub round-near-spec : {M : Type 1} → statement M

@@ -4,7 +4,7 @@ use Rattle.words.proofs.rounds.rounds.Statement.{statement}
 use Rattle.words.proofs.rounds.rounds.Tie as tie
 
 rounds-from-requires : tie.Need-rounds-from-requires
-rounds-from-requires c κs = (c .before .before .before .before .before .pre, c .around .ensures)
+rounds-from-requires c κs = record { round = c .before .before .before .before .before .pre; bare = c .around .ensures }
 
 returns : tie.Need-returns
 returns c = c .before .rounds-from .ensures .lands

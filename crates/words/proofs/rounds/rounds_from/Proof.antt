@@ -18,7 +18,7 @@ abbrev μ-loop : tie.MeasureT-loop
 loop-holds : tie.Need-loop-holds Inv-loop μ-loop
 loop-holds c =
     let at-start = c .before .before .before .before in
-    counting-start (at-start .pre .0 .folded .spot) (at-start .pre .1)
+    counting-start (at-start .pre .round .folded .spot) (at-start .pre .bare)
 
 near-requires : tie.Need-near-requires Inv-loop μ-loop
 near-requires c κs = c .before .loop .inv .bare
@@ -26,7 +26,7 @@ near-requires c κs = c .before .loop .inv .bare
 round-near-requires : tie.Need-round-near-requires Inv-loop μ-loop
 round-near-requires c κs =
     let at-start = c .before .before .before .before .before .before .before in
-    (set-at (at-start .pre .0) _ (c .before .before .loop .inv .spot), c .near .ensures)
+    record { round = set-at (at-start .pre .round) _ (c .before .before .loop .inv .spot); bare = c .near .ensures }
 
 -- the round came to where it began
 returns : tie.Need-returns Inv-loop μ-loop
