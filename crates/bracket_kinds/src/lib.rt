@@ -1,10 +1,13 @@
 // The eight brackets: their kinds and hands, and the first in a row that the % key starts on.
 // From motions.rs, "Find / match", and demand 3 of the request.
+
+#![tactic(auto)]
+
 pub mod find;
 pub mod kinds;
 
 // The four kinds of bracket.
-#[derive(Drop)]
+#[derive(Clone, Copy)]
 pub enum Kind {
     Round,
     Square,
@@ -13,7 +16,7 @@ pub enum Kind {
 }
 
 // What a code point is: the open or the close bracket of a kind, or no bracket.
-#[derive(Drop)]
+#[derive(Clone, Copy)]
 pub enum Side {
     Open(Kind),
     Close(Kind),

@@ -1,6 +1,9 @@
 // The calls for hosts on the second engine of the word motions (document 02, #113), by numbers: the
 // classes of a text, and a word motion by them. Each puts its answer into `out` and answers 0, or
 // answers the number of a refusal and leaves `out` and the slice of classes as they were.
+
+#![tactic(auto)]
+
 mod terms;
 mod written;
 
@@ -9,7 +12,7 @@ use word_rounds::Motion;
 pub use written::word_classes;
 
 // What a number asks for: a word motion, and whether it may stay in the first round.
-#[derive(Drop)]
+#[derive(Clone, Copy)]
 pub enum Term {
     Of(Motion, bool),
     Nothing,

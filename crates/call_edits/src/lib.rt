@@ -3,6 +3,9 @@
 // and that; the last four are 0 after an edit. The sizes are how many code points and how many
 // folds the buffers hold. Both are read, and hold the new numbers where the answer is 0; else
 // nothing has changed.
+
+#![tactic(auto)]
+
 ghost use Rattle.std.specs.Prelude.{◌≡◌, []};
 ghost use Rattle.call_edits.specs.Edits.{Fits, Shown, caret_in, sizes_in, sizes_of};
 ghost use Rattle.call_edits.specs.Edits.{position_at, HostEdits};

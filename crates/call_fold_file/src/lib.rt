@@ -1,4 +1,7 @@
 // Calls for hosts on fold files: folds into a file and back. Document 02, #111.
+
+#![tactic(auto)]
+
 ghost use Rattle.std.specs.Prelude.{◌≡◌};
 ghost use Rattle.call_bytes.specs.Reply.{Replied};
 ghost use Rattle.fold_writer.specs.Writing.{written_in};

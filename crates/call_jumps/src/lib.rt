@@ -1,6 +1,9 @@
 // Jumps over one text, by numbers (document 02, #114). The caret is six numbers, in and out, as in
 // the screen moves that remember. The call puts the caret at the end into `out` and answers 0, or
 // answers the number of a refusal and leaves `out` and the answers as they were.
+
+#![tactic(auto)]
+
 ghost use Rattle.std.specs.Prelude.{◌≡◌};
 ghost use Rattle.call_bytes.specs.Reply.{Replied};
 ghost use Rattle.call_texts.specs.Carets.{caret_six};

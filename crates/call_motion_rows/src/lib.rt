@@ -3,6 +3,9 @@
 // what the call without a table takes. It answers what that call answers; then, in the place of an
 // answer, 15 for a table with fewer places than the text has rows, and 16 for one that is not the
 // text's. Document 02, #106.
+
+#![tactic(auto)]
+
 mod asks;
 mod moves;
 mod upright;

@@ -1,4 +1,7 @@
 // Code points as bytes: four bytes each, the lowest first. Document 01, "What form to use where".
+
+#![tactic(auto)]
+
 ghost use Rattle.std.specs.Prelude.{◌≡◌, ◌+◌, ◌/◌, ◌≤◌, length};
 ghost use Rattle.call_points.specs.Points.{Decoded, Two, Three};
 ghost use Rattle.call_points.specs.Points.{word as word_of};

@@ -2,6 +2,9 @@
 // numbers, as in `call_edits`; the sizes are how many code points and how many folds the buffers
 // hold, and how many rows have content. All are read by an edit, and hold the new numbers where the
 // answer is 0; else nothing has changed.
+
+#![tactic(auto)]
+
 ghost use Rattle.std.specs.Prelude.{◌≡◌, []};
 ghost use Rattle.call_bytes.specs.Reply.{told, Replied};
 ghost use Rattle.call_texts.specs.Rows.{told_rows};

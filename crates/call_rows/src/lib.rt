@@ -1,5 +1,8 @@
 // The calls for hosts on a character, a row or a list, by numbers: each puts its answer into `out`
 // and answers 0, or answers the number of a refusal and leaves `out` as it was.
+
+#![tactic(auto)]
+
 mod characters;
 mod flags;
 mod keyword_lists;

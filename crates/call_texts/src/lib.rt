@@ -1,6 +1,9 @@
 // The calls for hosts on a text, by numbers: each puts its answer into `out` and answers 0, or
 // answers the number of a refusal and leaves `out` as it was. A caret is four numbers, or six where
 // a call takes the offset within a segment.
+
+#![tactic(auto)]
+
 use motions::Move;
 
 mod asks;
@@ -22,7 +25,7 @@ pub use seeks::{seek, seek_of, tell};
 pub use viewports::{edge_of, viewport};
 
 // What a number asks for: a move, or nothing where it stands for none.
-#[derive(Drop)]
+#[derive(Clone, Copy)]
 pub enum Asked {
     For(Move),
     Nothing,

@@ -1,4 +1,7 @@
 // Calls for hosts on UTF-8: code points from bytes and back. Document 02, #105.
+
+#![tactic(auto)]
+
 ghost use Rattle.std.specs.Prelude.{◌≡◌};
 ghost use Rattle.call_bytes.specs.Reply.{Replied};
 ghost use Rattle.call_utf8.specs.Utf8.{decodes, decodes_in, encodes};

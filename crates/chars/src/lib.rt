@@ -2,6 +2,9 @@
 // table that a function names is built anew at each call of it, so a loop takes the `_in` form and
 // lends the table (`white_in(&chars::WHITE, x)`), and low code points have functions of their own
 // that name no table.
+
+#![tactic(auto)]
+
 mod cell_widths;
 mod scalar;
 mod white;

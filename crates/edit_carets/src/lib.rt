@@ -1,5 +1,8 @@
 // A caret after an edit of its text: by value, and lent by a host that finds it corrected.
 // From document 02, #102. Neither looks at the text.
+
+#![tactic(auto)]
+
 ghost use Rattle.std.specs.Prelude.{◌≡◌, ◌≤◌};
 ghost use Rattle.edit_carets.specs.Carets.{cleared_at, Fits, corrected_by};
 

@@ -1,5 +1,8 @@
 // The checks of an edit, in the order of the refusals: the text and the code points put in (1, 2,
 // 3), the caret (4), the folds (5), the stretch (11), the room (12). From document 02, #102.
+
+#![tactic(auto)]
+
 ghost use Rattle.std.specs.Prelude.{◌≡◌, length};
 ghost use Rattle.edit_checks.specs.Refusals.{lower, held_folds, room_refusal};
 ghost use Rattle.edit_checks.specs.Checks.{spot_of, SoughtFrom, RowsOf};
@@ -8,7 +11,7 @@ ghost use Rattle.edit_checks.specs.Checks.{refused_by, stretch_of, check_of};
 use text::{Line, Position};
 
 // The row of a position that stands in the text, or that it doesn't.
-#[derive(Drop)]
+#[derive(Clone, Copy)]
 pub enum Spot {
     In(Line),
     Out,
@@ -16,7 +19,7 @@ pub enum Spot {
 
 // What the checks of an edit find out: its refusal, the offsets at which the stretch starts and
 // ends, and how many rows the text has. They are 0 beside a refusal.
-#[derive(Drop)]
+#[derive(Clone, Copy)]
 pub struct Checked {
     pub refusal: u32,
     pub from: usize,
@@ -26,7 +29,7 @@ pub struct Checked {
 
 // How much of its buffers an edit takes for its text and its folds: so many code points, and so
 // many folds of three numbers each.
-#[derive(Drop)]
+#[derive(Clone, Copy)]
 pub struct Sizes {
     pub len: usize,
     pub count: usize,

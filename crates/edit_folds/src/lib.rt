@@ -1,5 +1,8 @@
 // Folds that go with an edit of their text, in place: three numbers each, start, end, closed (0 or
 // 1), in the first 3 * n places of a buffer. From document 02, #102.
+
+#![tactic(auto)]
+
 ghost use Rattle.std.specs.Prelude.{◌≡◌, [], ◌∷◌, ◌+◌, ◌≤◌, length};
 ghost use Rattle.edit_places.specs.Replaced.{Over};
 ghost use Rattle.edit_folds.specs.Folds.{mapped_row, is_lost, RowMaps, FoldsMap};

@@ -1,5 +1,8 @@
 // The other carets of a text that was edited: a host that keeps several corrects each by the change
 // that the edit answers with. From document 02, #102.
+
+#![tactic(auto)]
+
 ghost use Rattle.std.specs.Prelude.{◌≡◌};
 ghost use Rattle.edit_others.specs.Others.{followed};
 

@@ -1,6 +1,9 @@
 // Positions after an edit: a stretch of a text, from one position up to another, gives way to code
 // points. Where a position of the old text goes is found without a look at the text.
 // From document 02, #102.
+
+#![tactic(auto)]
+
 ghost use Rattle.std.specs.Prelude.{◌≡◌, ◌≤◌, length};
 ghost use Rattle.edit_positions.specs.Change.{is_before, end_of, moved_by, Near, Fits};
 
@@ -8,7 +11,7 @@ use text::Position;
 
 // What an edit changes: the stretch from `from` up to `to` has given way to one from `from` up to
 // `end`.
-#[derive(Drop)]
+#[derive(Clone, Copy)]
 pub struct Change {
     pub from: Position,
     pub to: Position,

@@ -1,6 +1,9 @@
 // Edits of a lent text that keep the table of its row starts: to text, folds and caret they do what
 // `edits` does, and the table and the number of rows with content are those of the new text. The
 // table goes by the rows of the edit; the new text is not counted. From document 02, #106.
+
+#![tactic(auto)]
+
 ghost use Rattle.std.specs.Prelude.{◌≡◌, [], take};
 ghost use Rattle.text.specs.Text.{content_rows};
 ghost use Rattle.edit_positions.specs.After.{text_after};
@@ -13,14 +16,14 @@ use motions::Caret;
 use text::Position;
 
 // What an accepted edit leaves: what it leaves without a table, and how many rows have content.
-#[derive(Drop)]
+#[derive(Clone, Copy)]
 pub struct Kept {
     pub left: Left,
     pub content: u32,
 }
 
 // The answer of an edit that keeps a table: what it leaves, or the number that it is refused with.
-#[derive(Drop)]
+#[derive(Clone, Copy)]
 pub enum EditedRows {
     Done(Kept),
     Refused(u32),
@@ -28,7 +31,7 @@ pub enum EditedRows {
 
 // What the check of the table finds out: its refusal, and how many rows the text has before the
 // edit and after it.
-#[derive(Drop)]
+#[derive(Clone, Copy)]
 pub struct Rows {
     pub refusal: u32,
     pub before: usize,

@@ -1,6 +1,9 @@
 // The row starts of a text after an edit, in the table that keeps them: starts behind the edit move
 // with their text, those of rows that are gone go, and those of new rows come. Freed places become
 // 0, and what lies behind the longer of the old and the new starts stays. From document 02, #106.
+
+#![tactic(auto)]
+
 ghost use Rattle.std.specs.Prelude.{map, take, drop};
 ghost use Rattle.edit_places.specs.Replaced.{replaced, Over, Refilled};
 ghost use Rattle.row_table.specs.Table.{starts_from};

@@ -1,6 +1,9 @@
 // Edits of a text that a host keeps in a lent buffer, with its folds in another and a caret in it.
 // One definition for both: a stretch of the text gives way to code points. An insert is an empty
 // stretch, a delete one that gives way to nothing. From document 02, #102.
+
+#![tactic(auto)]
+
 ghost use Rattle.std.specs.Prelude.{[]};
 ghost use Rattle.edits.specs.Edits.{EditsTo};
 ghost use Rattle.edits.specs.Editable.{Editable, MakesTo};
@@ -12,7 +15,7 @@ use text::Position;
 
 // What an accepted edit leaves: how much of the buffers the text and the folds take then, and the
 // caret. The change is what any other caret of the text is corrected by.
-#[derive(Drop)]
+#[derive(Clone, Copy)]
 pub struct Left {
     pub sizes: Sizes,
     pub caret: Caret,
@@ -20,7 +23,7 @@ pub struct Left {
 }
 
 // The answer of an edit: what it leaves, or the number that it is refused with.
-#[derive(Drop)]
+#[derive(Clone, Copy)]
 pub enum Edited {
     Done(Left),
     Refused(u32),

@@ -11,6 +11,9 @@
 // 21) is answered in 64 bits, the number in the low half and the place in the high half.
 // A call on bytes decodes into the lent room; its `_u32` form takes code points as they are. The
 // code points stay at the start of the room, also where the call is refused, but for 101 and 102.
+
+#![tactic(auto)]
+
 mod characters;
 mod classes;
 mod editing;

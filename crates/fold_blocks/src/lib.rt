@@ -1,5 +1,8 @@
 // Numbers and folds in the bytes of a fold file, the lowest byte first, and the sum of a block.
 // The file of a fold list and the rules of its layout are in specs/. Document 02, #111.
+
+#![tactic(auto)]
+
 ghost use Rattle.std.specs.Prelude.{◌≡◌, ◌++◌, ◌+◌, ◌*◌, ◌≤◌, ◌<◌, length, get_or};
 ghost use Rattle.print.specs.Print.{Wrote};
 ghost use Rattle.fold_blocks.specs.Bytes.{one, two, four, two_at, four_at, Number};

@@ -1,5 +1,8 @@
 // Folds out of a file: its length, its sums and its layout are checked in that order, by the rules
 // of `fold_blocks`, then its folds against the open text. Document 02, #111.
+
+#![tactic(auto)]
+
 mod entries;
 mod layout;
 
@@ -9,7 +12,7 @@ use entries::take_all;
 use layout::layout_refusal;
 
 // The answer of the reader: how many folds it wrote, or the number that it refuses with.
-#[derive(Drop)]
+#[derive(Clone, Copy)]
 pub enum Loaded {
     Folds(usize),
     Refused(u32),

@@ -1,4 +1,7 @@
 // Fold files from standard input to standard output. Document 02, #111.
+
+#![tactic(auto)]
+
 mod runs;
 
 use libc::{STDIN_FILENO, STDOUT_FILENO};

@@ -1,5 +1,8 @@
 // Folds into a file: blocks of 512 bytes, by `fold_blocks`. Everything is checked first, and then
 // written. Document 02, #111.
+
+#![tactic(auto)]
+
 ghost use Rattle.std.specs.Prelude.{◌≡◌, ◌+◌, ◌*◌, ◌≤◌, length, replicate};
 ghost use Rattle.print.specs.Print.{Wrote};
 ghost use Rattle.fold_blocks.specs.Bytes.{entries};
@@ -7,7 +10,7 @@ ghost use Rattle.fold_blocks.specs.Files.{body, block, blocks_for, count_in, fil
 ghost use Rattle.fold_writer.specs.Writing.{PartRoom, FileRoom, Ends, WritesTo};
 
 // The answer of the writer: how many bytes it wrote, or the number that it refuses with.
-#[derive(Drop)]
+#[derive(Clone, Copy)]
 pub enum Written {
     Bytes(usize),
     Refused(u32),

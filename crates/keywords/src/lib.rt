@@ -1,5 +1,8 @@
 // Keyword lists: the token table, and the test of one character by it or by the list. The given
 // hjkl-buffer/motion.rs; document 01, "Keyword lists". Names are the Rust's.
+
+#![tactic(auto)]
+
 mod flat;
 mod keyword_spec;
 
@@ -22,7 +25,7 @@ pub struct Parsed {
 }
 
 // Whether a character is a keyword character, or the refusal's number.
-#[derive(Drop)]
+#[derive(Clone, Copy)]
 pub enum Matched {
     Is(bool),
     Refused(u32),

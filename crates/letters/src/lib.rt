@@ -1,6 +1,9 @@
 // Letters: the property Alphabetic, as `char::is_alphabetic`. Document 01, "Character facts". A
 // const that a function names is built anew at each call of it, so a loop takes `letter_in` and
 // lends both, the starts of the ranges and their lengths.
+
+#![tactic(auto)]
+
 ghost use Rattle.std.specs.Prelude.{◌≡◌, true};
 ghost use Rattle.letters.specs.Letters.{is_letter, is_sign, Latin, LetterRanges};
 

@@ -1,5 +1,8 @@
 // What a keyword list is read by: its parts, the numbers among them, and the refusals of a list and
 // of a character. The given hjkl-buffer/motion.rs; document 01, "Keyword lists".
+
+#![tactic(auto)]
+
 mod numbers;
 mod parts;
 mod refusals;

@@ -10,7 +10,7 @@ const ZERO: u32 = 48;
 const NINE: u32 = 57;
 
 // What a part says as a number: its value, or that it is none.
-#[derive(Drop)]
+#[derive(Clone, Copy)]
 pub enum Number {
     Value(u32),
     Not,

@@ -1,5 +1,8 @@
 // Plus signs of a keyword list that are retired: the entry that refuses a list with one, and the
 // converter that writes a list without them. Document 02, #112.
+
+#![tactic(auto)]
+
 mod convert;
 mod entry;
 mod marks;
@@ -18,7 +21,7 @@ pub struct Entered {
 }
 
 // How many code points were written, or the refusal's number.
-#[derive(Drop)]
+#[derive(Clone, Copy)]
 pub enum Plain {
     Made(usize),
     Refused(u32),

@@ -139,7 +139,7 @@ fn token_of(p: &[u32]) -> Token
 }
 
 // A part's token, and where the next part begins (past the list's end if there is none).
-#[derive(Drop)]
+#[derive(Clone, Copy)]
 pub struct Step {
     pub token: Token,
     pub next: usize,

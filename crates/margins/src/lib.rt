@@ -1,5 +1,8 @@
 // The first and the last character of a row that is no blank.
 // A blank at the front is a space or a tab; at the back it is any white space, as the Rust has it.
+
+#![tactic(auto)]
+
 ghost use Rattle.std.specs.Prelude.{◌≡◌};
 ghost use Rattle.chars.specs.White.{whites};
 ghost use Rattle.margins.specs.Margins.{is_blank, indent_of, first_non_blank};

@@ -1,5 +1,8 @@
 // Every motion with a table of row starts, its second entry: the rows of the text and the row of
 // the caret come from the table, and the walks are those of the first. From document 02, #106.
+
+#![tactic(auto)]
+
 ghost use Rattle.std.specs.Prelude.{◌≡◌};
 ghost use Rattle.motion_rows.specs.Going.{or_table, goes_rows};
 

@@ -2,6 +2,9 @@
 // A motion tests its inputs in the order of document 01's refusal table, walks the text, and
 // answers with the new caret. A caret goes in by value, so that the caller's own stands as it did
 // where a call is refused. Every motion is a `Move`, and goes by `Caret::go`.
+
+#![tactic(auto)]
+
 ghost use Rattle.std.specs.Prelude.{◌≡◌};
 ghost use Rattle.motions.specs.Carets.{caret_with, caret_at, placed, entry_of};
 ghost use Rattle.motions.specs.Carets.{cleared as cleared_of};
@@ -32,7 +35,7 @@ pub use going::go_from;
 // A row, a column in it, which may be the row's character count, the sticky column, and the offset
 // within a segment that the screen moves which remember keep. Every other motion that is not
 // refused leaves no offset, moved or not.
-#[derive(Drop)]
+#[derive(Clone, Copy)]
 pub struct Caret {
     pub row: u32,
     pub col: u32,
@@ -41,7 +44,7 @@ pub struct Caret {
 }
 
 // Where a motion has led to, or the number that the call is refused with.
-#[derive(Drop)]
+#[derive(Clone, Copy)]
 pub enum Moved {
     To(Caret),
     Refused(u32),
@@ -49,7 +52,7 @@ pub enum Moved {
 
 // What a search answers: found, and the caret then; missing, and the caret where it was; or the
 // number that the call is refused with. The Rust's true and false are found and missing.
-#[derive(Drop)]
+#[derive(Clone, Copy)]
 pub enum Sought {
     Found(Caret),
     Missing(Caret),
@@ -58,7 +61,7 @@ pub enum Sought {
 
 // Every motion of motions.rs, and the screen moves that remember, with what each takes beside text,
 // caret and count.
-#[derive(Drop)]
+#[derive(Clone, Copy)]
 pub enum Move {
     // On the text alone.
     By(Way),

@@ -1,5 +1,8 @@
 // Positions of a text: the checks of one, which every motion begins with.
 // From document 01, "Text, rows, carets" and "Refusal numbers".
+
+#![tactic(auto)]
+
 ghost use Rattle.std.specs.Prelude.{◌≡◌};
 ghost use Rattle.chars.specs.Scalar.{is_scalar};
 ghost use Rattle.positions.specs.Positions.{refused_by, entry_of, or_sought, or_folds};
@@ -8,7 +11,7 @@ use text::Position;
 
 // What the checks of a call find out: its refusal, where the position's row starts, how many rows
 // the text has, and how many have content. The numbers are 0 beside a refusal.
-#[derive(Drop)]
+#[derive(Clone, Copy)]
 pub struct Entry {
     pub refusal: u32,
     pub start: usize,

@@ -1,5 +1,8 @@
 // Writing into lent room, byte after byte: each function writes from an index on and answers the
 // next index.
+
+#![tactic(auto)]
+
 ghost use Rattle.std.specs.Prelude.{[], ◌∷◌, ◌+◌, ◌≤◌, ◌<◌, length};
 ghost use Rattle.print.specs.Print.{Wrote, decimal};
 

@@ -1,6 +1,9 @@
 // A set of numbers as ranges in ascending order: one table of bounds, where a range is its first
 // number and the first number after it, or a table of starts beside one of lengths. Used by every
 // table of `chars` and `letters`.
+
+#![tactic(auto)]
+
 ghost use Rattle.std.specs.Prelude.{◌≡◌, T};
 ghost use Rattle.ranges.specs.Ranges.{in_table, ascending, BelowFrom, UpTo};
 ghost use Rattle.ranges.specs.Lengths.{bounds_of, apart};

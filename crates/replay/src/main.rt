@@ -1,6 +1,9 @@
 // Replays the oracle's stored answers over the calls for hosts: reads cases from standard input,
 // one to a row, and says how many agree and which row is the first that doesn't. docs/TESTING.md
 // says how the list is made.
+
+#![tactic(auto)]
+
 mod calls;
 mod cases;
 mod tallies;

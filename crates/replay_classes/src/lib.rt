@@ -1,6 +1,9 @@
 // The second engine of the word motions on the numbers of a case, compared with the stored answer:
 // the number, the places for the answer, and the slice of classes, a class to a number. Its places
 // hold 165 before a call.
+
+#![tactic(auto)]
+
 ghost use Rattle.std.specs.Prelude.{◌≡◌, ◌∷◌, ◌++◌};
 ghost use Rattle.lists.specs.Lists.{is_same};
 ghost use Rattle.replay_verdicts.specs.Answers.{compared as compared_of};

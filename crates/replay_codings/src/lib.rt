@@ -1,5 +1,8 @@
 // The calls on UTF-8 on the numbers of a case, each compared with the stored answer: a byte is a
 // number below 256 there. Places lent for bytes hold 165 before a call.
+
+#![tactic(auto)]
+
 ghost use Rattle.std.specs.Prelude.{◌≡◌, ◌∷◌, ◌≤◌, length};
 ghost use Rattle.replay_verdicts.specs.Answers.{compared as compared_of};
 ghost use Rattle.replay_codings.specs.Codings.{Narrowed, decoded_into, decode_verdict};

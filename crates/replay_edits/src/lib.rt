@@ -1,5 +1,8 @@
 // Edits on the numbers of a case, compared with the stored answer: the text and the folds of a case
 // are the buffers, its list is what is put in, and its caret keeps a sticky column and an offset.
+
+#![tactic(auto)]
+
 ghost use Rattle.std.specs.Prelude.{◌≡◌, ◌∷◌, ◌++◌, ◌+◌, ◌≤◌, length};
 ghost use Rattle.print.specs.Print.{Wrote};
 ghost use Rattle.replay_verdicts.specs.Answers.{compared as compared_of};

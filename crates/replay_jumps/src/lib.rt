@@ -1,5 +1,8 @@
 // Jumps over one text on the numbers of a case, compared with the stored answer: the number, the
 // caret's six places, and the places for answers, which hold the filler before the call.
+
+#![tactic(auto)]
+
 ghost use Rattle.std.specs.Prelude.{◌≡◌, ◌∷◌, ◌++◌, ◌≤◌, length};
 ghost use Rattle.replay_verdicts.specs.Answers.{compared as compared_of};
 ghost use Rattle.replay_jumps.specs.Jumps.{jumped_into, room_verdict, jump_verdict};

@@ -1,5 +1,8 @@
 // A record of answers, one case to a row: rows of numbers read, and the parts of a case. Which call
 // a case is about is for the reader to say.
+
+#![tactic(auto)]
+
 mod cases;
 mod rows;
 
@@ -7,7 +10,7 @@ pub use cases::head_of;
 pub use rows::{read_row, row_end};
 
 // The first numbers of a case after its group: the operation in it, and what that takes.
-#[derive(Drop)]
+#[derive(Clone, Copy)]
 pub struct Head {
     pub op: u32,
     pub a: u32,
@@ -21,7 +24,7 @@ pub struct Head {
 }
 
 // How many numbers a row has.
-#[derive(Drop)]
+#[derive(Clone, Copy)]
 pub enum Numbers {
     Count(usize),
     Malformed,
@@ -29,7 +32,7 @@ pub enum Numbers {
 
 // A number that is being read: its value so far, how often it stands there, whether it has digits,
 // whether it came after a `*`, and whether all of that was well formed.
-#[derive(Drop)]
+#[derive(Clone, Copy)]
 pub struct Reader {
     pub value: u32,
     pub times: u32,

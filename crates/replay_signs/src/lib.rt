@@ -1,5 +1,8 @@
 // The calls on keyword lists where plus signs are retired, on the numbers of a case, each compared
 // with the stored answer.
+
+#![tactic(auto)]
+
 ghost use Rattle.std.specs.Prelude.{◌≡◌};
 ghost use Rattle.replay_verdicts.specs.Answers.{compared as compared_of};
 ghost use Rattle.replay_signs.specs.Signs.{entered_of, plain_into, plain_verdict};

@@ -1,11 +1,14 @@
 // An answer held against the stored one, and verdicts counted.
+
+#![tactic(auto)]
+
 mod answers;
 mod tallies;
 
 pub use answers::{FILLER, compared, compared_two};
 
 // What a case comes to.
-#[derive(Drop)]
+#[derive(Clone, Copy)]
 pub enum Verdict {
     Agrees,
     Differs,
@@ -14,7 +17,7 @@ pub enum Verdict {
 
 // How many cases there are and agree, the first row that doesn't (from 1 on, 0 for none), and
 // whether that one is malformed.
-#[derive(Drop)]
+#[derive(Clone, Copy)]
 pub struct Tally {
     pub cases: usize,
     pub agree: usize,

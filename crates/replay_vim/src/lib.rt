@@ -1,4 +1,7 @@
 // The calls on Vim's own lists, on the numbers of a case, each compared with the stored answer.
+
+#![tactic(auto)]
+
 ghost use Rattle.std.specs.Prelude.{◌≡◌};
 ghost use Rattle.replay_verdicts.specs.Answers.{compared as compared_of};
 ghost use Rattle.replay_vim.specs.Vim.{vim_list_of, vim_into, vim_write_verdict, vim_verdict};

@@ -1,5 +1,8 @@
 // The cells of characters, and how many characters go into a number of cells. From `wrap.rs`. Every
 // character has at least one cell, and a tab is as any other.
+
+#![tactic(auto)]
+
 ghost use Rattle.std.specs.Prelude.{◌≡◌, ◌≤◌, length};
 ghost use Rattle.chars.specs.Width.{width_by, Widths};
 ghost use Rattle.row_cells.specs.Cells.{Cells, Fitting};

@@ -1,11 +1,14 @@
 // What the calls on one row share: the check of its code points, and the answer that is a column.
 // From document 01, "Refusal numbers", 1 and 2. Rule 3 is about texts: a row holds any scalar
 // values.
+
+#![tactic(auto)]
+
 ghost use Rattle.std.specs.Prelude.{◌≡◌};
 ghost use Rattle.row_check.specs.Row.{row_refusal};
 
 // A column, of characters or of cells, or the number that the call is refused for.
-#[derive(Drop)]
+#[derive(Clone, Copy)]
 pub enum Column {
     At(u32),
     Refused(u32),

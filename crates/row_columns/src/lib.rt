@@ -1,6 +1,9 @@
 // Tab columns of one row: where a character stands on the screen, and which character a screen
 // column holds. From `geom.rs`. Each call checks the row in one pass and walks it in one more, by
 // the tables of widths that the walk is lent.
+
+#![tactic(auto)]
+
 ghost use Rattle.std.specs.Prelude.{◌≡◌};
 ghost use Rattle.chars.specs.Width.{width_by};
 ghost use Rattle.row_columns.specs.Columns.{visual_from, char_from, cursor_from};
@@ -98,7 +101,7 @@ pub fn cursor_col_in(zeros: &[u32], doubles: &[u32], row: &[u32], col: usize, ta
 }
 
 // Which column is asked for.
-#[derive(Drop)]
+#[derive(Clone, Copy)]
 enum Ask {
     Char,
     Visual,

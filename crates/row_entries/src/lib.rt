@@ -1,6 +1,9 @@
 // The checks that a call with a table of row starts begins with: text and position as without one,
 // then the table. Where it is the text's, the position's row is taken from it, and no row is
 // sought. From document 02, #106.
+
+#![tactic(auto)]
+
 ghost use Rattle.std.specs.Prelude.{◌≡◌, ◌+◌};
 ghost use Rattle.text.specs.Text.{row_len};
 ghost use Rattle.text.specs.Offsets.{row_start};

@@ -1,5 +1,8 @@
 // Where a column or a cell stands in a segment of a row, and the segment of a column. From
 // `wrap.rs`. The segments are the caller's: any numbers.
+
+#![tactic(auto)]
+
 ghost use Rattle.std.specs.Prelude.{◌≡◌, ◌≤◌, min, ◌&&◌, leb, ltb, length};
 ghost use Rattle.chars.specs.Width.{width_by, Widths};
 ghost use Rattle.widths.specs.Widths.{width_as};
@@ -11,7 +14,7 @@ use row_check::Column;
 use widths::Ambiguous;
 
 // The index of a segment, or the number that the call is refused for.
-#[derive(Drop)]
+#[derive(Clone, Copy)]
 pub enum Segment {
     At(usize),
     Refused(u32),
@@ -51,7 +54,7 @@ fn char_in(zeros: &[u32], doubles: &[u32], row: &[u32], start: u32, end: u32, of
 }
 
 // Which offset is asked for: the character of a cell, or the cells before a column.
-#[derive(Drop)]
+#[derive(Clone, Copy)]
 enum Ask {
     Char,
     Cells,

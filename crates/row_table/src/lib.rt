@@ -2,5 +2,8 @@
 // and how it is checked against the text. Place r of the table is the offset at which row r starts,
 // for every row, the last empty one too; the number of rows with content is kept beside it. Places
 // behind the rows are the host's. From document 02, #106.
+
+#![tactic(auto)]
+
 pub mod check;
 pub mod fill;

@@ -1,6 +1,9 @@
 // Tabstops: when a row with one is refused, how many cells a character has, and where the row's
 // indent ends. From `geom.rs`. A tab runs to the next multiple of the tabstop, and any other
 // character has its width, 0 included.
+
+#![tactic(auto)]
+
 ghost use Rattle.std.specs.Prelude.{◌≡◌, ◌-◌, ◌%◌};
 ghost use Rattle.chars.specs.Width.{width_by};
 ghost use Rattle.row_tabs.specs.Cells.{column_refusal, stop_of, cells_at, CellsAre};

@@ -1,11 +1,14 @@
 // Soft wrapping of one row: where a row wider than the text area is broken into segments. From
 // `wrap.rs`. Where a column or a cell stands in them is in `row_cells`.
+
+#![tactic(auto)]
+
 mod breaks;
 
 pub use breaks::wrap_segments;
 
 // How a row is broken: not at all, at the last cell that fits, or after white space before it.
-#[derive(Drop)]
+#[derive(Clone, Copy)]
 pub enum Wrap {
     None,
     Char,
@@ -13,7 +16,7 @@ pub enum Wrap {
 }
 
 // The number of segments written, or the number that the call is refused for.
-#[derive(Drop)]
+#[derive(Clone, Copy)]
 pub enum Segments {
     Count(u32),
     Refused(u32),

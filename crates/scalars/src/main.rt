@@ -1,11 +1,14 @@
 // Asks `chars` and `widths` about every scalar value and prints what holds where. The stored output
 // is what the oracle's Rust prints (tools/char-tables), so a difference fails the gate. Document
 // 01, "Character facts": a program compares all 1,112,064 scalar values.
+
+#![tactic(auto)]
+
 use libc::STDOUT_FILENO;
 use widths::Ambiguous;
 
 // What is asked.
-#[derive(Drop)]
+#[derive(Clone, Copy)]
 enum Fact {
     Scalar,
     Letter,

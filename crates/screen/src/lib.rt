@@ -1,6 +1,9 @@
 // The walks of the screen motions `gj` and `gk`, over rows that are broken into segments: from a
 // place of an accepted text to the row and column that the motion leads to. From motions.rs,
 // "Internals". Segments are walked and never stored.
+
+#![tactic(auto)]
+
 use text::Position;
 use vertical::Target;
 
@@ -9,14 +12,14 @@ mod walks;
 pub mod wrapped;
 
 // The offset within a segment that is kept from move to move, where there is one.
-#[derive(Drop)]
+#[derive(Clone, Copy)]
 pub enum Offset {
     Absent,
     At(u32),
 }
 
 // Where a move leads to, and the offset that is kept then.
-#[derive(Drop)]
+#[derive(Clone, Copy)]
 pub struct Kept {
     pub target: Target,
     pub offset: Offset,
@@ -24,7 +27,7 @@ pub struct Kept {
 
 // A place under wrap: its row with the row's start, and how many segments lie ahead of it in the
 // row, down or up.
-#[derive(Drop)]
+#[derive(Clone, Copy)]
 pub struct Spot {
     pub row: usize,
     pub start: usize,
@@ -32,14 +35,14 @@ pub struct Spot {
 }
 
 // How many segments lie ahead of a place in its row, and its character offset in its own.
-#[derive(Drop)]
+#[derive(Clone, Copy)]
 pub struct Seat {
     pub ahead: usize,
     pub offset: usize,
 }
 
 // A place with its row's start.
-#[derive(Drop)]
+#[derive(Clone, Copy)]
 pub struct Jump {
     pub row: usize,
     pub start: usize,
@@ -47,7 +50,7 @@ pub struct Jump {
 }
 
 // Where rounds have ended, and the offset that they kept.
-#[derive(Drop)]
+#[derive(Clone, Copy)]
 pub struct Glided {
     pub place: Position,
     pub offset: usize,

@@ -1,5 +1,8 @@
 // The segments of one row, by their number: `segment_for_col` and `clamp_to_segment` as
 // `step_screen` of motions.rs uses them, over the row itself and with no list of segments.
+
+#![tactic(auto)]
+
 ghost use Rattle.std.specs.Prelude.{◌≡◌, cond, ◌+◌, ◌-◌, ◌≤◌, ◌<◌, ltb};
 ghost use Rattle.chars.specs.Width.{width_by};
 ghost use Rattle.screen_segments.specs.Parts.{ahead_of, clamp_to};
@@ -8,7 +11,7 @@ ghost use Rattle.screen_segments.specs.Parts.{lay_of, Breaks, PartIs, CountIs};
 use text::{least, minus, most};
 
 // A segment of a row: its number, and where it starts and ends in the row.
-#[derive(Drop)]
+#[derive(Clone, Copy)]
 pub struct Part {
     pub index: usize,
     pub start: usize,

@@ -1,6 +1,9 @@
 // Document 01's session: command rows, a row with only a full stop, and a text, all of it UTF-8
 // (document 02, #105). Every command row prints a line: its key, and the row and column of the
 // caret then.
+
+#![tactic(auto)]
+
 ghost use Rattle.std.specs.Prelude.{◌≡◌, ◌+◌, ◌≤◌, length, drop};
 ghost use Rattle.lists.specs.Codes.{codes};
 ghost use Rattle.print.specs.Print.{Wrote};

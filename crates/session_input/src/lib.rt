@@ -1,5 +1,8 @@
 // The input of a session: command rows, a row with only a full stop, and a text. Where its text
 // begins, and when it is refused. Document 01, "The session".
+
+#![tactic(auto)]
+
 ghost use Rattle.std.specs.Prelude.{◌≡◌, ◌≤◌, length};
 ghost use Rattle.session_input.specs.Parts.{is_stop, stop_of, begin_of, TextIn};
 
@@ -7,7 +10,7 @@ use session_row::{find, same};
 use utf8::{Checked, Decoded};
 
 // Where a text begins in an input, or that the input is refused.
-#[derive(Drop)]
+#[derive(Clone, Copy)]
 pub enum Begin {
     At(usize),
     Refused,

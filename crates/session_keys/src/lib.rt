@@ -1,12 +1,15 @@
 // The keys of a session, found by their bytes. Each function compares the name with fixed byte
 // strings, those of two bytes first, and hands a name that is none of its own on to the next.
+
+#![tactic(auto)]
+
 ghost use Rattle.std.specs.Prelude.{◌≡◌, ◌++◌};
 ghost use Rattle.session_keys.specs.Keys.{word_keys, line_keys, place_keys, found, key_of};
 
 use session_row::same;
 
 // A key, by what it does; `Big` where words are divided by blanks alone.
-#[derive(Drop)]
+#[derive(Clone, Copy)]
 pub enum Key {
     Left,
     Right,

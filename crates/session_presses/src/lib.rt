@@ -1,4 +1,7 @@
 // What a key of a session does.
+
+#![tactic(auto)]
+
 ghost use Rattle.std.specs.Prelude.{◌≡◌, false};
 ghost use Rattle.session_presses.specs.Pressed.{act_of, does, sticky_after, pressed};
 ghost use Rattle.session_presses.specs.Pressed.{held as held_of};
@@ -15,7 +18,7 @@ const LIST: [u32; 9] = [64, 44, 52, 56, 45, 53, 55, 44, 95];
 
 // What becomes of the sticky column after a key: it is cleared, stays as the move left it, or is
 // set past the end of every row.
-#[derive(Drop)]
+#[derive(Clone, Copy)]
 pub enum Column {
     Cleared,
     Kept,
@@ -23,7 +26,7 @@ pub enum Column {
 }
 
 // What a key does: a move, and what becomes of the sticky column; or nothing, for an unknown key.
-#[derive(Drop)]
+#[derive(Clone, Copy)]
 pub enum Act {
     Does(Move, Column),
     Unknown,

@@ -1,10 +1,13 @@
 // A command row of a session: a key, then optionally a space and 1 to 9 digits. Document 01, "The
 // session".
+
+#![tactic(auto)]
+
 ghost use Rattle.std.specs.Prelude.{◌≡◌, ◌≤◌, length};
 ghost use Rattle.session_row.specs.Commands.{key_part, digits_of, count_in, Ends, Same};
 
 // The count of a command row, or that the row is malformed.
-#[derive(Drop)]
+#[derive(Clone, Copy)]
 pub enum Count {
     Of(u32),
     Malformed,

@@ -1,26 +1,29 @@
 // What a text is: its rows, and the rows with content. From document 01, "Text, rows, carets", and
 // `content_row_count` of motions.rs.
+
+#![tactic(auto)]
+
 ghost use Rattle.std.specs.Prelude.{◌≡◌, ◌+◌, ◌-◌, ◌≤◌, min, max, length};
 ghost use Rattle.text.specs.Text.{row_count, Separators, content_rows, content_row_count};
 
 pub mod offsets;
 
 // A row, and the offset at which it starts.
-#[derive(Drop)]
+#[derive(Clone, Copy)]
 pub struct Line {
     pub row: usize,
     pub start: usize,
 }
 
 // A row, and a column in it, which may be the row's character count.
-#[derive(Drop)]
+#[derive(Clone, Copy)]
 pub struct Position {
     pub row: usize,
     pub col: usize,
 }
 
 // The rows of a text with content, or the number that the text is refused with.
-#[derive(Drop)]
+#[derive(Clone, Copy)]
 pub enum Counted {
     Rows(u32),
     Refused(u32),

@@ -1,4 +1,7 @@
 // The check of a text. From document 01, "Refusal numbers", 1 to 3.
+
+#![tactic(auto)]
+
 ghost use Rattle.std.specs.Prelude.{◌≡◌, cond};
 ghost use Rattle.text_check.specs.Accept.{high_refusal, text_refusal};
 

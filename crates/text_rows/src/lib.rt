@@ -1,12 +1,15 @@
 // The check of a text and of its table of row starts, in one pass. The answers are those of
 // `text_check::text_refusal`, `text::row_count` and `row_table::check::table_refusal`, each of
 // which would pass over the text by itself. From document 02, #106.
+
+#![tactic(auto)]
+
 ghost use Rattle.std.specs.Prelude.{◌≡◌, ◌<◌, ◌≤◌, length};
 ghost use Rattle.text_rows.specs.Pass.{is_mark, ReadIn, Further, Tells, found_in};
 
 // The number that a text is refused with, how many rows it has, and the number that its table is
 // refused with.
-#[derive(Drop)]
+#[derive(Clone, Copy)]
 pub struct Found {
     pub refusal: u32,
     pub rows: usize,
@@ -14,7 +17,7 @@ pub struct Found {
 }
 
 // What a text holds: whether a code point is from U+2000 on, and how many marks.
-#[derive(Drop)]
+#[derive(Clone, Copy)]
 struct Held {
     high: bool,
     marks: u32,

@@ -1,4 +1,7 @@
 // Standard input to standard output over a session.
+
+#![tactic(auto)]
+
 use libc::{STDIN_FILENO, STDOUT_FILENO};
 
 // From standard input to standard output.

@@ -1,5 +1,8 @@
 // UTF-8 by RFC 3629, over lent slices: `check` and `decode`, code points from bytes, and `encode`,
 // bytes from code points. Document 02, #105.
+
+#![tactic(auto)]
+
 mod decoder;
 mod encoder;
 mod sequences;
@@ -9,7 +12,7 @@ pub use encoder::encode;
 
 // One sequence of bytes: the index behind it and its value, or the place of the first byte that
 // can't stand there.
-#[derive(Drop)]
+#[derive(Clone, Copy)]
 pub enum Step {
     Good(usize, u32),
     Bad(usize),
@@ -17,7 +20,7 @@ pub enum Step {
 
 // How many code points bytes make, or the place of the first byte that can't stand there, their
 // length where they are cut off.
-#[derive(Drop)]
+#[derive(Clone, Copy)]
 pub enum Checked {
     Points(usize),
     Bad(usize),
@@ -25,7 +28,7 @@ pub enum Checked {
 
 // The answer of the decoder: how many code points it wrote, that place (refusal 13), or the number
 // of another refusal.
-#[derive(Drop)]
+#[derive(Clone, Copy)]
 pub enum Decoded {
     Text(usize),
     Bad(usize),
@@ -33,21 +36,21 @@ pub enum Decoded {
 }
 
 // The answer of the encoder: how many bytes it wrote, or the number that it refuses with.
-#[derive(Drop)]
+#[derive(Clone, Copy)]
 pub enum Encoded {
     Bytes(usize),
     Refused(u32),
 }
 
 // How far a count has come: an index and the code points before it, or the place.
-#[derive(Drop)]
+#[derive(Clone, Copy)]
 pub enum Walk {
     On(usize, usize),
     Bad(usize),
 }
 
 // How far the writing has come: an index, and how many code points stand before it.
-#[derive(Drop)]
+#[derive(Clone, Copy)]
 pub struct Spot {
     pub at: usize,
     pub count: usize,

@@ -1,18 +1,21 @@
 // The walks of the vertical and viewport motions: from a place of an accepted text to the row and
 // column that the motion leads to. From motions.rs, "Vertical motions", "Viewport-relative motions"
 // and "Internals".
+
+#![tactic(auto)]
+
 pub mod moves;
 pub mod viewport;
 
 // The visual column that vertical motions aim for, where one is kept.
-#[derive(Drop)]
+#[derive(Clone, Copy)]
 pub enum Sticky {
     Absent,
     At(u32),
 }
 
 // Where a motion leads to, and the visual column that it aims for: the sticky column from then on.
-#[derive(Drop)]
+#[derive(Clone, Copy)]
 pub struct Target {
     pub row: usize,
     pub col: usize,
@@ -20,7 +23,7 @@ pub struct Target {
 }
 
 // The edge of a viewport that a motion leads to, or its middle.
-#[derive(Drop)]
+#[derive(Clone, Copy)]
 pub enum Edge {
     Top,
     Middle,

@@ -1,5 +1,8 @@
 // Vim's own keyword lists read in one pass: the table of a list's tokens, or the place where it
 // goes wrong; and the test of one character by a table or a list. Document 02, #108.
+
+#![tactic(auto)]
+
 mod machine;
 mod vim_spec;
 
@@ -8,7 +11,7 @@ pub use vim_spec::is_vim_char;
 
 // How far the part of a list that is being read has come. The first bool says whether the part
 // excludes, the second whether its first end stands as a character.
-#[derive(Drop)]
+#[derive(Clone, Copy)]
 pub enum State {
     Start,
     Part,
@@ -39,14 +42,14 @@ pub struct VimRead {
 }
 
 // Whether a character is a keyword character by a table, or the refusal's number.
-#[derive(Drop)]
+#[derive(Clone, Copy)]
 pub enum VimMatched {
     Is(bool),
     Refused(u32),
 }
 
 // Whether a character is a keyword character by a list, 17 with its place, or the refusal's number.
-#[derive(Drop)]
+#[derive(Clone, Copy)]
 pub enum VimTested {
     Is(bool),
     Bad(usize),

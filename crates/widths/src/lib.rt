@@ -1,6 +1,9 @@
 // Widths under a setting: characters of class A of EastAsianWidth.txt, as the wind arrows, take one
 // cell on most screens and two on some. Document 02, #107. A walk over widths takes the tables of
 // the setting, lent; under `Narrow` they are those of `chars`.
+
+#![tactic(auto)]
+
 mod wide_table;
 
 ghost use Rattle.std.specs.Prelude.{◌≡◌};
@@ -10,7 +13,7 @@ pub use wide_table::WIDE_DOUBLES;
 
 // How a screen shows the characters of class A (Ambiguous): by their width, or in two cells where
 // that is one.
-#[derive(Drop)]
+#[derive(Clone, Copy)]
 pub enum Ambiguous {
     Narrow,
     Wide,

@@ -7,6 +7,9 @@
 //
 // docs/WORDS.md walks through them. The walks over the classes are in `word_places`, and need
 // neither the text nor the keyword list.
+
+#![tactic(auto)]
+
 mod call;
 mod classes;
 
@@ -14,7 +17,7 @@ pub use call::{places_refusal, word_classes};
 pub use classes::write_classes;
 
 // How many classes were written, or the number that the call is refused with.
-#[derive(Drop)]
+#[derive(Clone, Copy)]
 pub enum Written {
     Made(usize),
     Refused(u32),

@@ -1,5 +1,8 @@
 // One word on or back, by the classes alone: where `w`, `b`, `e` and `ge` go in one round. The
 // examples are of `if (n) {`, with the classes 0 0 2 1 0 1 2 1 4; docs/WORDS.md shows them all.
+
+#![tactic(auto)]
+
 mod back;
 mod on;
 

@@ -1,5 +1,8 @@
 // Places of a text, their kinds, and the steps from place to place, on offsets: motions.rs,
 // "Internals". The calls take what a caller has checked.
+
+#![tactic(auto)]
+
 mod kinds;
 pub mod near;
 
@@ -17,7 +20,7 @@ pub const END: u32 = 3;
 
 // A place of the text: its row, and its offset, which is a separator's where the place is the row's
 // end.
-#[derive(Drop)]
+#[derive(Clone, Copy)]
 pub struct Spot {
     pub row: usize,
     pub at: usize,
@@ -26,7 +29,7 @@ pub struct Spot {
 // What a walk knows of the text and of the kinds: rows and rows with content, whether the bounds
 // are a flag for each code up to 255, and else how many pairs of bounds the keyword list has,
 // whether letters are in it (by flags, those above 255), and whether words are big.
-#[derive(Drop)]
+#[derive(Clone, Copy)]
 pub struct Setting {
     pub rows: usize,
     pub content: usize,
@@ -37,7 +40,7 @@ pub struct Setting {
 }
 
 // Where a step leads: to a place, where there is one.
-#[derive(Drop)]
+#[derive(Clone, Copy)]
 pub enum Step {
     To(Spot),
     Nowhere,

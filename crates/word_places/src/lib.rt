@@ -2,6 +2,9 @@
 // the same as in the text; the last one is the text's end. Every function takes the slice of
 // classes, and neither the text nor a keyword list. The examples are of `if (n) {`, with the
 // classes 0 0 2 1 0 1 2 1 4; docs/WORDS.md shows them all.
+
+#![tactic(auto)]
+
 mod places;
 mod walks;
 
@@ -9,14 +12,14 @@ pub use places::{class_at, forward, is_end, kind, soft, text_end};
 pub use walks::{back, over, run_end};
 
 // A place, where there is one to step to.
-#[derive(Drop)]
+#[derive(Clone, Copy)]
 pub enum Step {
     To(usize),
     Nowhere,
 }
 
 // Where a walk ended: at the first place that fails its test, or at one that has no step.
-#[derive(Drop)]
+#[derive(Clone, Copy)]
 pub enum Halt {
     Onto(usize),
     Stuck(usize),

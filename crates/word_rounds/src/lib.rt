@@ -1,12 +1,15 @@
 // One round of the word motions, on offsets, with the jump out of a closed fold: "Word motions" of
 // motions.rs.
+
+#![tactic(auto)]
+
 mod out_of_folds;
 pub mod rounds;
 
 use word_kinds::Spot;
 
 // A word motion.
-#[derive(Drop)]
+#[derive(Clone, Copy)]
 pub enum Motion {
     Fwd,
     Back,
@@ -15,7 +18,7 @@ pub enum Motion {
 }
 
 // Where a round ended: the next goes on from there, or it was the last.
-#[derive(Drop)]
+#[derive(Clone, Copy)]
 pub enum Turn {
     On(Spot),
     Off(Spot),

@@ -1,6 +1,9 @@
 // The word motions as a whole, on offsets: "Word motions" of motions.rs. A place is a row and an
 // offset; the calls take what a caller has checked, and know no caret. A motion is prepared, and
 // then walked: what is prepared serves any number of walks over the text.
+
+#![tactic(auto)]
+
 use fold_stretches::Stretch;
 use word_kinds::{Setting, Spot};
 
@@ -22,7 +25,7 @@ pub struct Prepared {
 }
 
 // Where rounds have come to, and a stretch of rows without closed folds that is known then.
-#[derive(Drop)]
+#[derive(Clone, Copy)]
 pub struct Walked {
     pub spot: Spot,
     pub stretch: Stretch,

@@ -1,0 +1,17 @@
+-- `list_parts::numbers::digits` meets its contract. The invariant of its loop: the digits before i have the value `sum`, which is below 2^32,
+-- and reading on from them gives the number. The measure is the part's length less i. Assumes nothing.
+use Rattle.lists.proofs.Kit.{◌≡◌, sym, ◌∙◌, List, ℕ, ◌-◌, ◌≤◌, arith, length, drop, rules}
+use Rattle.list_parts.specs.Numbers.{digits_of, number_from}
+use Rattle.list_parts.proofs.NumberLaws.{digits_none, digits_some, number_below, number_above, number_too_large, number_digit, number_end}
+use Rattle.list_parts.proofs.numbers.digits.Given as goal
+
+pub record Read (p : List ℕ) (sum i : ℕ) : Type 0 where
+  pub within : i ≤ length p
+  pub small : sum ≤ 0xffffffff
+  pub rest : digits_of p ≡ number_from sum (drop i p)
+
+abbrev pub invariant-loop-i : goal.invariant-loop-i
+invariant-loop-i l = Read l.p l.sum l.i
+
+abbrev pub decreases-loop-i : goal.decreases-loop-i
+decreases-loop-i l = length l.p - l.i

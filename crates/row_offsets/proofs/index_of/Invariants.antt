@@ -1,0 +1,11 @@
+-- `row_offsets::index_of` meets its contract. The invariant of its loop: no pair before k holds the column.
+-- The measure is the number of pairs less k. Assumes nothing.
+use Rattle.lists.proofs.Kit.{sym, ◌∙◌, ◌-◌, arith, rules}
+use Rattle.row_cells.proofs.Pairs.{PairsTo, pairs_next, pairs_stop, pairs_end}
+use Rattle.row_offsets.proofs.index_of.Given as goal
+
+abbrev pub invariant-loop-k : goal.invariant-loop-k
+invariant-loop-k l = PairsTo l.col l.segments l.k
+
+abbrev pub decreases-loop-k : goal.decreases-loop-k
+decreases-loop-k l = l.n - l.k

@@ -1,0 +1,18 @@
+-- `row_offsets::wide_offset` meets its contract: the tables that it lends are those of the setting. Assumes nothing.
+use Rattle.lists.proofs.Kit.{refl, ℕ, rules}
+use Rattle.chars.specs.Width.{zero_widths}
+use Rattle.widths.specs.declared.Ambiguous.TheVariants.{Wide}
+use Rattle.widths.proofs.WideTable.{wide_doubles}
+use Rattle.widths.proofs.Lent.{doubles_of, by_width, widths_lent}
+use Rattle.row_offsets.specs.Calls.{offset_by}
+use Rattle.row_offsets.proofs.wide_offset.Goals as goal
+
+pub offset_in-requires : goal.offset_in-requires
+unfolding zero_widths wide_doubles doubles_of
+offset_in-requires c = record { widths = widths_lent Wide refl refl; brief = c.requires }
+
+pub returns : goal.returns
+unfolding zero_widths wide_doubles doubles_of
+returns c =
+    let given = c.args in
+    by_width Wide refl refl (λ (w : ℕ → ℕ). offset_by w given.ask given.row.now given.start given.end given.n) c.offset_in.ensures

@@ -1,0 +1,17 @@
+-- `row_segment::segment::after_white` meets its contract. The invariant of its loop: the characters from k on and before n are no white space.
+-- The measure is k. Assumes nothing.
+use Rattle.lists.proofs.Kit.{◌≡◌, refl, sym, ap, ◌∙◌, List, ℕ, ◌≤◌, arith, rules}
+use Rattle.chars.specs.White.{is_white}
+use Rattle.row_segment.proofs.White.{white_none, white_here, white_before}
+use Rattle.row_segment.specs.Segments.{after_white}
+use Rattle.row_segment.proofs.segment.after_white.Given as goal
+
+pub record Passed (row : List ℕ) (n k : ℕ) : Type 0 where
+  pub before : k ≤ n
+  pub rest : after_white is_white row n ≡ after_white is_white row k
+
+abbrev pub invariant-loop-k : goal.invariant-loop-k
+invariant-loop-k l = Passed l.row l.n l.k
+
+abbrev pub decreases-loop-k : goal.decreases-loop-k
+decreases-loop-k l = l.k

@@ -1,0 +1,17 @@
+-- `row_wrap::breaks::wide_broken` meets its contract: the tables that it lends are those of the setting. Assumes nothing.
+use Rattle.lists.proofs.Kit.{refl, rules}
+use Rattle.chars.specs.White.{whites}
+use Rattle.chars.specs.Width.{zero_widths}
+use Rattle.widths.proofs.WideTable.{wide_doubles}
+use Rattle.widths.specs.declared.Ambiguous.TheVariants.{Wide}
+use Rattle.widths.proofs.Lent.{doubles_of, width_lent, widths_lent}
+use Rattle.row_wrap.proofs.breaks.wide_broken.Goals as goal
+
+pub fit_segments-requires : goal.fit_segments-requires
+unfolding whites zero_widths wide_doubles doubles_of
+fit_segments-requires c =
+    record { tables = record { widths = widths_lent Wide refl refl; whites_are = refl }; brief = c.requires }
+
+pub returns : goal.returns
+unfolding zero_widths wide_doubles doubles_of
+returns c = rw (← width_lent Wide refl refl) c.fit_segments.ensures

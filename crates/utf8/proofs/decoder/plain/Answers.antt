@@ -1,0 +1,14 @@
+-- `decoder::plain` meets its contract. The invariant of its loop: what was found, or will be. The measure is what is left. Assumes nothing.
+use Rattle.lists.proofs.Kit.{ap, not, ◌-◌, length, rules}
+use Rattle.lists.proofs.Any.{Finds, finds_start, finds_on, finds_end}
+use Rattle.utf8.specs.Encoding.{is_above}
+use Rattle.utf8.proofs.decoder.plain.Goals as goal
+
+pub loop-i-preserved : goal.loop-i-preserved
+loop-i-preserved c = finds_on c.loop-i.invariant c.loop-i-test.true
+
+pub returns : goal.returns
+returns c = ap not (finds_end c.loop-i.invariant c.loop-i-test.false)
+
+pub loop-i-init : goal.loop-i-init
+loop-i-init c = finds_start _ _
