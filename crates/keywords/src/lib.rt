@@ -11,7 +11,7 @@ pub use keyword_spec::is_keyword_char;
 pub use list_tokens::{EMPTY, Token};
 
 // The table of a list's tokens: the first `len` places, and after them EMPTY.
-#[derive(Drop)]
+#[derive(Clone, Copy)]
 pub struct KeywordSpec {
     pub tokens: [Token; 128],
     pub len: usize,

@@ -5,6 +5,7 @@ use lib.IntN.{ℤ}
 use lib.Signed.{non_neg}
 use mir.Syntax.{w64}
 use mir.Val.{Fits, SFits, to_z, of_z}
+use mir.Facts.{of_z-to_z}
 use Rattle.text.specs.Text.{row_count, last_row}
 use Rattle.text.specs.Offsets.{row_start, Stands, line_at}
 use Rattle.text.specs.declared.Line.{Line}
@@ -30,6 +31,14 @@ pub rounding_start : (t : List ℕ) (fwd : Bool) (last : ℕ) (from : Line) → 
 rounding_start t fwd last from r =
     let same_last = ap (λ (l : ℕ). round_from t fwd false from.row (rows_left fwd l from.row)) (sym r.is_last) in
     record { line = r.line; is_last = r.is_last; brief = r.brief; same = same_last }
+
+-- the loop names its signed rows, the first one and its own: their bits are the rows
+module _ {t : List ℕ} {fwd skip : Bool} {last from row start : ℕ} (f : Fits w64 from) (r : Fits w64 row) where
+  pub rounding_bits : Rounding t fwd last (of_z w64 (to_z w64 from)) (of_z w64 (to_z w64 row)) start skip → Rounding t fwd last from row start skip
+  rounding_bits g = rw (of_z-to_z f, of_z-to_z r) at g
+
+  pub rounding_signed : Rounding t fwd last from row start skip → Rounding t fwd last (of_z w64 (to_z w64 from)) (of_z w64 (to_z w64 row)) start skip
+  rounding_signed g = rw (of_z-to_z f, of_z-to_z r) g
 
 module _ {t : List ℕ} {fwd skip : Bool} {last from row start : ℕ} (g : Rounding t fwd last from row start skip) where
   near : (row ≤ last + 1) × (last ≤ 1048576) × (last < row_count t)

@@ -105,8 +105,8 @@ module _ (t : List ℕ) where
   pub section_end_forward : Repeats t way.SectionEndForward
   section_end_forward = record { more = on_more 125 }
 
-  pub next_line : Repeats t way.NextLine
-  next_line = record { more = next_more }
+  pub next_line_lem : Repeats t way.NextLine
+  next_line_lem = record { more = next_more }
 
-  pub prev_line : Repeats t way.PrevLine
-  prev_line = record { more = prev_more }
+  pub prev_line_lem : Repeats t way.PrevLine
+  prev_line_lem = record { more = prev_more }

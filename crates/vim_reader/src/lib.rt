@@ -25,7 +25,7 @@ pub enum State {
 }
 
 // The table of a list's tokens: the first `len` places, and after them EMPTY.
-#[derive(Drop)]
+#[derive(Clone, Copy)]
 pub struct VimSpec {
     pub tokens: [VimToken; 128],
     pub len: usize,

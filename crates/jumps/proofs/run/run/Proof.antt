@@ -56,7 +56,6 @@ add_i c =
     let at_start = tested.before.before.before.before.before.before.before.before.before.before in
     omega (
       arith,
-      at_start.well_formed.1.1.1.1.1.1.1.0.0,
       at_loop.invariant.all,
       running_two at_loop.invariant.running (omega (arith, tested.loop_test.true, at_loop.invariant.all)),
     )

@@ -13,7 +13,7 @@ unfolding whites
 trim_end-e-requires c = refl
 
 pub slice_bounds-result-end : goal.slice_bounds-result-end
-slice_bounds-result-end c = sym (length-take-le BAD.c.before.trim_end.result _ BAD.c.before.trim_end.ensures.inside)
+slice_bounds-result-end c = sym (length-take-le c.trim_end-e.result _ c.trim_end-e.ensures.inside)
 
 pub returns : goal.returns
-returns c = trim_is _ _ _ BAD.c.before.before.before.before.trim_start.ensures BAD.c.before.trim_end.ensures
+returns c = trim_is _ _ _ c.trim_start-s.ensures c.trim_end-e.ensures

@@ -27,6 +27,6 @@ returns c =
     let given = c.args in
     let parts = segments_broken (width_as given.ambiguous) is_white _ _ _ (sym c.is_whole.ensures ∙ c.if-is_whole.false) in
     let word = ap (λ (b : Bool). row_segments (width_as given.ambiguous) b given.width given.row.now)
-    (sym BAD.c.before.before.before.before.is_Is_word.ensures) in
+    (sym c.is_word.ensures) in
     wrapped_is _ _ _ _ c.row_refusal-f.ensures c.if-f-ne0.false
     (parts ∙ word) c.broken.ensures

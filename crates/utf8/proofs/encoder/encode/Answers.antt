@@ -20,7 +20,7 @@ returns-then-n-bytes c =
 pub write-requires : goal.write-requires
 write-requires c =
     record {
-      c = not-true _ (sym c.all_scalar.ensures ∙ c.if-not-all_scalar.false);
+      scalar = not-true _ (sym c.all_scalar.ensures ∙ c.if-not-all_scalar.false);
       room = omega (arith, c.size_all-n.ensures, c.if-n-bytes.false);
     }
 

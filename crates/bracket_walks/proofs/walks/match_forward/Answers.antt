@@ -1,0 +1,66 @@
+-- `bracket_walks::walks::match_forward` meets its contract. The invariant of its loop: `depth` are open at j, no place passed closes what was open,
+-- and j stands in row `row`. The measure is the text's length less j. Assumes nothing.
+use Rattle.lists.proofs.Kit.{sym, ◌∙◌, ◌-◌, arith, length, rules}
+use Rattle.text.proofs.Stands.{step_char, step_nl}
+use Rattle.bracket_walks.proofs.Ahead.{Ahead, ahead_start, ahead_close, ahead_open, ahead_other, ahead_found, ahead_none}
+use Rattle.bracket_walks.proofs.Walking.{Walking, walking_on}
+use Rattle.bracket_walks.proofs.Placed.{placed_at, placed_none}
+use Rattle.bracket_walks.proofs.walks.match_forward.Goals as goal
+
+pub loop-j-init : goal.loop-j-init
+loop-j-init c =
+    let required = c.requires in
+    record {
+      so_far = ahead_start _ _ _ _ _ required.1 required.0.stands.within required.0.deep;
+      stands = required.0.stands;
+      short = required.0.short;
+      small = required.0.bound;
+    }
+
+pub place-requires : goal.place-requires
+place-requires c =
+    let invariant = c.loop-j.invariant in
+    omega (arith, invariant.stands.from, invariant.stands.below, invariant.stands.within, invariant.short)
+
+-- the close that brings the depth to none
+pub returns-then-depth-eq0 : goal.returns-then-depth-eq0
+returns-then-depth-eq0 c =
+    let invariant = c.loop-j.invariant in
+    c.place.ensures ∙
+    placed_at invariant.stands (ahead_found invariant.so_far c.loop-j-test.true c.if-x-closing.true c.if-depth-eq0.true)
+
+-- another close
+pub loop-j-preserved-then-x-closing : goal.loop-j-preserved-then-x-closing
+loop-j-preserved-then-x-closing c =
+    let invariant = c.loop-j.invariant in
+    let tested = c.loop-j-test.true in
+    let taken = c.if-x-closing.true in
+    walking_on invariant (ahead_close invariant.so_far tested taken c.if-depth-eq0.false)
+    (step_char invariant.stands tested (λ f. invariant.so_far.hands.close_char (sym taken ∙ f)))
+
+-- another open
+pub loop-j-preserved-then-x-opening : goal.loop-j-preserved-then-x-opening
+loop-j-preserved-then-x-opening c =
+    let invariant = c.loop-j.invariant in
+    let tested = c.loop-j-test.true in
+    walking_on invariant (ahead_open invariant.so_far tested c.if-x-opening.true)
+    (step_char invariant.stands tested (λ f. invariant.so_far.hands.open_char (sym c.if-x-opening.true ∙ f)))
+
+-- a separator
+pub loop-j-preserved-then-x-eq10 : goal.loop-j-preserved-then-x-eq10
+loop-j-preserved-then-x-eq10 c =
+    let invariant = c.loop-j.invariant in
+    let tested = c.loop-j-test.true in
+    walking_on invariant (ahead_other invariant.so_far tested c.if-x-opening.false c.if-x-closing.false)
+    (step_nl invariant.stands tested c.if-x-eq10.true)
+
+-- any other code point
+pub loop-j-preserved : goal.loop-j-preserved
+loop-j-preserved c =
+    let invariant = c.loop-j.invariant in
+    let tested = c.loop-j-test.true in
+    walking_on invariant (ahead_other invariant.so_far tested c.if-x-opening.false c.if-x-closing.false)
+    (step_char invariant.stands tested c.if-x-eq10.false)
+
+pub returns : goal.returns
+returns c = placed_none c.args.t.now (ahead_none c.loop-j.invariant.so_far c.loop-j-test.false)

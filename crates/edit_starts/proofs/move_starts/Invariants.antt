@@ -1,0 +1,16 @@
+-- `move_starts` meets its contract. The invariant of its loop: the first k starts are moved. The measure is their number less k. Assumes nothing.
+use Rattle.lists.proofs.Kit.{ap, sym, ◌∙◌, List, map, ℕ, ◌+◌, ◌-◌, ◌≤◌, arith, take, drop, length-slice, rules}
+use Rattle.edit_places.proofs.Puts.{Up, up_none, up_next, up_all, up_read, part_read}
+use Rattle.edit_starts.specs.Moved.{moved_start}
+use Rattle.edit_starts.proofs.Moving.{map_read, map_size}
+use Rattle.edit_starts.proofs.move_starts.Given as goal
+
+pub record Moving (starts₀ : List ℕ) (from to less more : ℕ) (starts : List ℕ) (k : ℕ) : Type 0 where
+  pub within : k ≤ to - from
+  pub up : Up starts₀ from (map (moved_start less more) (drop from (take to starts₀))) k starts
+
+abbrev pub invariant-loop-k : goal.invariant-loop-k
+invariant-loop-k l = Moving l.initial.starts l.from l.to l.less l.more l.starts l.k
+
+abbrev pub decreases-loop-k : goal.decreases-loop-k
+decreases-loop-k l = l.to - l.from - l.k

@@ -1,0 +1,17 @@
+-- `sum` meets its contract. The invariant of its loop: what is added, with what is left, comes to the whole. The measure is the length less i.
+-- Assumes nothing.
+use Rattle.lists.proofs.Kit.{◌≡◌, List, ℕ, ◌+◌, ◌*◌, ◌-◌, ◌≤◌, arith, length, drop, rules}
+use Rattle.fold_blocks.specs.Bytes.{sum}
+use Rattle.fold_blocks.proofs.Numbers.{sum_at, sum_end}
+use Rattle.fold_blocks.proofs.sum.Given as goal
+
+pub record Added (bytes : List ℕ) (total i : ℕ) : Type 0 where
+  pub within : i ≤ length bytes
+  pub small : total ≤ 255 * i
+  pub whole : sum bytes ≡ total + sum (drop i bytes)
+
+abbrev pub invariant-loop-i : goal.invariant-loop-i
+invariant-loop-i l = Added l.bytes l.total l.i
+
+abbrev pub decreases-loop-i : goal.decreases-loop-i
+decreases-loop-i l = length l.bytes - l.i

@@ -1,0 +1,18 @@
+-- `entries::take_entries` meets its contract. The invariant of its loop: what is written, with the entries to come, comes to the whole. The measure is how
+-- many are left. Assumes nothing.
+use Rattle.lists.proofs.Kit.{List, ℕ, ◌+◌, ◌*◌, ◌-◌, ◌≤◌, arith, drop, rules}
+use Rattle.fold_blocks.specs.Bytes.{entry_at, entries_in}
+use Rattle.fold_blocks.proofs.Rules.{length_entries_in}
+use Rattle.fold_blocks.proofs.Toward.{Toward, toward_room, toward_on, toward_end}
+use Rattle.fold_reader.proofs.Takes.{entries_from, taking_start, entries_on, entries_done}
+use Rattle.fold_reader.proofs.entries.take_entries.Given as goal
+
+pub record Taken (block : List ℕ) (count : ℕ) (out₀ : List ℕ) (at : ℕ) (out : List ℕ) (next i : ℕ) : Type 0 where
+  pub within : i ≤ count
+  pub toward : Toward out₀ at (entries_in count (drop 4 block)) out next (entries_from block count i)
+
+abbrev pub invariant-loop-i : goal.invariant-loop-i
+invariant-loop-i l = Taken l.block l.count l.initial.out l.at l.out l.next l.i
+
+abbrev pub decreases-loop-i : goal.decreases-loop-i
+decreases-loop-i l = l.count - l.i

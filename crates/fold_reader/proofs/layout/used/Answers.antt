@@ -1,0 +1,14 @@
+-- `layout::used` meets its contract. The invariant of its loop: what was found, or is to come. The measure is the length less i. Assumes nothing.
+use Rattle.lists.proofs.Kit.{◌-◌, length, rules}
+use Rattle.lists.proofs.Any.{Finds, finds_start, finds_on, finds_end}
+use Rattle.fold_blocks.specs.Layout.{is_used}
+use Rattle.fold_reader.proofs.layout.used.Goals as goal
+
+pub loop-i-preserved : goal.loop-i-preserved
+loop-i-preserved c = finds_on c.loop-i.invariant c.loop-i-test.true
+
+pub returns : goal.returns
+returns c = finds_end c.loop-i.invariant c.loop-i-test.false
+
+pub loop-i-init : goal.loop-i-init
+loop-i-init c = finds_start _ _

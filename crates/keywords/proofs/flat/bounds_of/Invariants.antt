@@ -1,0 +1,18 @@
+-- `keywords::bounds_of` meets its contract. The invariant of its loop: the bounds of the tokens before i are stored, and after them stands 0.
+-- The measure is the table's length less i. Assumes nothing.
+use Rattle.lists.proofs.Kit.{◌≡◌, refl, List, ℕ, ◌-◌, ◌≤◌, arith, length, take, rules}
+use Rattle.keywords.specs.Flat.{flat, padded}
+use Rattle.list_tokens.specs.declared.Token.{Token}
+use Rattle.list_tokens.proofs.Lists.{places}
+use Rattle.keywords.proofs.FlatLaws.{flat_push}
+use Rattle.keywords.proofs.flat.bounds_of.Given as goal
+
+pub record Stored (tokens : List Token) (n : ℕ) (bounds : List ℕ) (i : ℕ) : Type 0 where
+  pub within : i ≤ n
+  pub stored : bounds ≡ padded (flat (take i tokens))
+
+abbrev pub invariant-loop-i : goal.invariant-loop-i
+invariant-loop-i l = Stored l.spec.tokens l.n l.bounds l.i
+
+abbrev pub decreases-loop-i : goal.decreases-loop-i
+decreases-loop-i l = l.n - l.i

@@ -1,0 +1,35 @@
+-- `list_signs::convert::write_plain` meets its contract. The invariant of its loop: the first n of what has no mark are written. The measure is
+-- the list's length less i. Assumes nothing.
+use Rattle.lists.proofs.Kit.{List, Bool, ℕ, ◌-◌, ◌≤◌, arith, length, rules}
+use Rattle.list_signs.proofs.ListLaws.{Writing, writing_start, writing_skip, writing_room, writing_keep, writing_end}
+use Rattle.list_signs.proofs.convert.write_plain.Invariants.{WrittenTo}
+use Rattle.list_signs.proofs.convert.write_plain.Goals as goal
+
+pub loop-i-preserved-then-marks-i : goal.loop-i-preserved-then-marks-i
+loop-i-preserved-then-marks-i c =
+    record { within = omega arith; writing = writing_skip _ _ _ _ _ _ c.loop-i.invariant.writing (omega arith) (omega arith) c.if-marks-i.true }
+
+pub bounds-room-n : goal.bounds-room-n
+bounds-room-n c =
+    let fits = writing_room _ _ _ _ _ _ c.loop-i.invariant.writing (omega arith) (omega arith) c.if-marks-i.false in
+    omega (arith, fits, c.loop-i.invariant.writing.same)
+
+pub loop-i-preserved : goal.loop-i-preserved
+loop-i-preserved c =
+    let enough = c.requires.fits in
+    record {
+      within = omega arith;
+      writing = writing_keep _ _ _ _ _ _ c.loop-i.invariant.writing (omega arith) (omega arith) c.if-marks-i.false enough;
+    }
+
+pub loop-i-init : goal.loop-i-init
+loop-i-init c = search (rules, writing_start)
+
+pub offset_bounds-room-n : goal.offset_bounds-room-n
+offset_bounds-room-n c = search (rules, writing_room)
+
+pub overflow_add-n : goal.overflow_add-n
+overflow_add-n c = search (rules, writing_room)
+
+pub returns : goal.returns
+returns c = search (rules, writing_end)

@@ -1,0 +1,16 @@
+-- `row_columns::visual_at` meets its contract. The invariant of its loop: `visual` is the visual column of character i, and i has not passed `col`.
+-- The measure is the row's length less i. Assumes nothing.
+use Rattle.lists.proofs.Kit.{List, ℕ, ◌-◌, ◌≤◌, arith, length, rules}
+use Rattle.chars.specs.Width.{width_by}
+use Rattle.row_columns.proofs.Visual.{VisualTo, visual_start, visual_on, visual_stop, visual_end}
+use Rattle.row_columns.proofs.visual_at.Given as goal
+
+pub record Walked (w : ℕ → ℕ) (tab : ℕ) (row : List ℕ) (col i visual : ℕ) : Type 0 where
+  pub so_far : VisualTo w tab row i visual
+  pub before : i ≤ col
+
+abbrev pub invariant-loop-i : goal.invariant-loop-i
+invariant-loop-i l = Walked (width_by l.zeros l.doubles) l.tab l.row l.col l.i l.visual
+
+abbrev pub decreases-loop-i : goal.decreases-loop-i
+decreases-loop-i l = length l.row - l.i

@@ -1,0 +1,19 @@
+-- `walks::walk` meets its contract. The invariant of its loop: the n rounds from the first spot are the `left` rounds from this one,
+-- and no fold hides the next `free` rows. The measure is `left`. Assumes nothing.
+use Rattle.lists.proofs.Kit.{◌≡◌, refl, sym, ap, ◌∙◌, List, ℕ, arith, rules}
+use Rattle.chars.specs.Width.{width_by}
+use Rattle.text.proofs.Parts.{count_le}
+use Rattle.text.proofs.Stands.{line_there, stands_own}
+use Rattle.text.specs.declared.Line.{Line}
+use Rattle.visible_rows.specs.Visible.{toward}
+use Rattle.screen_segments.specs.Parts.{segment_count, lay_of}
+use Rattle.visible_rows.proofs.Visible.{toward_within}
+use Rattle.screen.proofs.Walking.{Striding, walking_start, walking_cross, walking_edge, walking_end, walking_spot}
+use Rattle.screen.proofs.walks.walk.Given as goal
+
+abbrev pub invariant-loop-ahead : goal.invariant-loop-ahead
+invariant-loop-ahead l =
+    Striding (width_by l.zeros l.doubles) l.t l.folds l.rows l.word l.width l.down l.n l.initial.row l.initial.ahead l.row l.start l.ahead l.left l.free
+
+abbrev pub decreases-loop-ahead : goal.decreases-loop-ahead
+decreases-loop-ahead l = l.left

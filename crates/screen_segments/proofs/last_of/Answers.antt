@@ -1,0 +1,8 @@
+use Rattle.lists.proofs.Kit.{arith, rules, lt-ltb, le-ltb}
+use Rattle.screen_segments.proofs.last_of.Goals as goal
+
+pub returns-then-start-end : goal.returns-then-start-end
+returns-then-start-end c = rw (lt-ltb _ _ c.if-start-end.true)
+
+pub returns-else-start-end : goal.returns-else-start-end
+returns-else-start-end c = rw (le-ltb c.args.start c.args.end (omega arith))

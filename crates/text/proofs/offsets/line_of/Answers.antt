@@ -1,0 +1,21 @@
+-- `text::offsets::line_of` meets its contract. The invariant of its loop: i stands in row `row`. The measure is what is left up to `at`.
+-- Assumes nothing.
+use Rattle.lists.proofs.Kit.{◌≡◌, ap, sym, ◌∙◌, List, ℕ, ◌-◌, ◌≤◌, arith, length, rules}
+use Rattle.text.specs.Offsets.{Stands, row_of}
+use Rattle.text.proofs.Stands.{line_eq, step_char, step_nl, stands_row}
+use Rattle.text.proofs.offsets.line_of.Invariants.{Walked}
+use Rattle.text.proofs.offsets.line_of.Goals as goal
+
+pub loop-i-preserved-then-t-i-eq10 : goal.loop-i-preserved-then-t-i-eq10
+loop-i-preserved-then-t-i-eq10 c =
+    record { stands = step_nl c.loop-i.invariant.stands (omega arith) c.if-t-i-eq10.true; before = omega arith; within = omega arith }
+
+pub loop-i-preserved : goal.loop-i-preserved
+loop-i-preserved c =
+    record { stands = step_char c.loop-i.invariant.stands (omega arith) c.if-t-i-eq10.false; before = omega arith; within = omega arith }
+
+pub returns : goal.returns
+returns c =
+    let text_now = c.args.t.now in
+    let here : c.loop-i.i ≡ c.args.at = omega arith in
+    line_eq c.args.t.now c.loop-i.invariant.stands.begins (sym (stands_row c.loop-i.invariant.stands) ∙ ap (row_of text_now) here)

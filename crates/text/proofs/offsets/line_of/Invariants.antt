@@ -1,0 +1,17 @@
+-- `text::offsets::line_of` meets its contract. The invariant of its loop: i stands in row `row`. The measure is what is left up to `at`.
+-- Assumes nothing.
+use Rattle.lists.proofs.Kit.{◌≡◌, ap, sym, ◌∙◌, List, ℕ, ◌-◌, ◌≤◌, arith, length, rules}
+use Rattle.text.specs.Offsets.{Stands, row_of}
+use Rattle.text.proofs.Stands.{line_eq, step_char, step_nl, stands_row}
+use Rattle.text.proofs.offsets.line_of.Given as goal
+
+pub record Walked (t : List ℕ) (at row start i : ℕ) : Type 0 where
+  pub stands : Stands t row start i
+  pub before : i ≤ at
+  pub within : at ≤ length t
+
+abbrev pub invariant-loop-i : goal.invariant-loop-i
+invariant-loop-i l = Walked l.t l.at l.row l.start l.i
+
+abbrev pub decreases-loop-i : goal.decreases-loop-i
+decreases-loop-i l = l.at - l.i

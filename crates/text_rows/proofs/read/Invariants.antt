@@ -1,0 +1,19 @@
+-- `text_rows::read` meets its contract. The invariant of its loop: the marks found so far and those still to come are all, and so are the bits.
+-- The measure is the text's length less i. Assumes nothing.
+use Rattle.lists.proofs.Kit.{◌≡◌, ap, sym, ◌∙◌, List, ℕ, ◌+◌, ◌≤◌, ◌-◌, arith, length, drop, leb, rules}
+use Rattle.text_rows.specs.Pass.{marks_in, all_bits}
+use Rattle.text_rows.proofs.Bits.{bits_on, bits_end}
+use Rattle.text_rows.proofs.Marks.{marks_on, marks_over, marks_end}
+use Rattle.text_rows.proofs.read.Given as goal
+
+pub record Read (t : List ℕ) (bits n i : ℕ) : Type 0 where
+  pub within : i ≤ length t
+  pub few : n ≤ i
+  pub marks : marks_in t ≡ n + marks_in (drop i t)
+  pub all_bits : all_bits 0 t ≡ all_bits bits (drop i t)
+
+abbrev pub invariant-loop-i : goal.invariant-loop-i
+invariant-loop-i l = Read l.t l.bits l.n l.i
+
+abbrev pub decreases-loop-i : goal.decreases-loop-i
+decreases-loop-i l = length l.t - l.i

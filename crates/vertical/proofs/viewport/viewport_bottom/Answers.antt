@@ -1,0 +1,5 @@
+use borrow.Author.Rules.{rules}
+use Rattle.vertical.proofs.viewport.viewport_bottom.Goals as goal
+
+pub returns : goal.returns
+returns c = rw (← c.bottom_row-bottom.ensures, ← c.minus.ensures, ← c.most.ensures) c.content_line.ensures

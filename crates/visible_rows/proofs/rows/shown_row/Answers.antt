@@ -1,0 +1,26 @@
+use Rattle.lists.proofs.Kit.{refl, sym, ap, ◌∙◌, false, rules, not-true, not-false}
+use Rattle.visible_rows.specs.Visible.{row_or}
+use Rattle.visible_rows.proofs.Visible.{toward_within}
+use Rattle.visible_rows.proofs.rows.shown_row.Goals as goal
+
+-- no fold hides it
+pub returns-then-not-is_row_hidden : goal.returns-then-not-is_row_hidden
+returns-then-not-is_row_hidden c = record { row = rw (sym c.is_row_hidden.ensures ∙ c.if-not-is_row_hidden.true) refl; inside = c.requires.in_rows }
+
+-- one does, and its first row is found
+pub returns-in-Row : goal.returns-in-Row
+returns-in-Row c =
+    let given = c.args in
+    let found = sym c.visible_row.ensures ∙ c.in-Row.is in
+    record {
+      row = rw (sym c.is_row_hidden.ensures ∙ c.if-not-is_row_hidden.false) (sym (ap (row_or given.row) found));
+      inside = toward_within given.folds.now given.rows false given.row _ c.requires.in_rows found;
+    }
+
+pub returns-in-NoRow : goal.returns-in-NoRow
+returns-in-NoRow c =
+    record {
+      row = rw (sym c.is_row_hidden.ensures ∙ c.if-not-is_row_hidden.false)
+          (sym (ap (row_or c.args.row) (sym c.visible_row.ensures ∙ c.in-NoRow.is)));
+      inside = c.requires.in_rows;
+    }

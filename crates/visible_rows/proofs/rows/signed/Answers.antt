@@ -1,0 +1,7 @@
+use Rattle.lists.proofs.Kit.{arith, rules}
+use mir.Syntax.{w64}
+use mir.Facts.{to_z_pos}
+use Rattle.visible_rows.proofs.rows.signed.Goals as goal
+
+pub returns : goal.returns
+returns c = to_z_pos w64 (omega arith)
