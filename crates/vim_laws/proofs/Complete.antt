@@ -54,9 +54,9 @@ digit_no_caret x d e = omega (arith, m.digit_high x d)
 pub part : {p : List ℕ} {t : VimToken} (s : List ℕ) (ts : List VimToken) → PartOf p t → After t s ts → reading Part (p ++ s) ≡ read ts
 unfolding step_of phase_of
 part s ts (exclude {p = p} i) after = on Part Caret 94 (p ++ s) ts (m.start_caret 94 refl) refl
-    (item Caret s ts i (λ x d. m.first_digit true x d) (λ x e h. m.first_sign true x h.no_digit h.ascii) after)
+    (item Caret s ts i (λ x d. m.first_digit true x d) (λ x e h. m.first_sign_lem true x h.no_digit h.ascii) after)
 part s ts (include i f) after = item Part s ts i (λ x d. m.start_first x (digit_no_caret x d) ∙ m.first_digit false x d)
-    (λ x e h. m.start_first x (λ z. f (e ∙ z)) ∙ m.first_sign false x h.no_digit h.ascii) after
+    (λ x e h. m.start_first x (λ z. f (e ∙ z)) ∙ m.first_sign_lem false x h.no_digit h.ascii) after
 
 -- behind a part: the list's end, or a comma
 after_end : (t : VimToken) → After t [] (t ∷ [])

@@ -36,7 +36,7 @@ first_spelt out x f live = go (is_digit x) refl (dec_lt 127 x)
   where
     go : (b : Bool) → is_digit x ≡ b → Dec (127 < x) → Spelt (first_of out x) (front out (x ∷ []))
     go true d w = rw (m.first_digit out x d) (at_number (one_digit x d) f)
-    go false d (no h) = rw (m.first_sign out x d (omega arith)) (at_sign {c = x} (record { ascii = omega arith; no_digit = d }) f)
+    go false d (no h) = rw (m.first_sign_lem out x d (omega arith)) (at_sign {c = x} (record { ascii = omega arith; no_digit = d }) f)
     go false d (yes h) = absurd (live (ap phase_of (m.first_dead out x d h)))
 
 start_spelt : (x : ℕ) → (phase_of (start_of x) ≡ 0 → ⊥) → Spelt (start_of x) (x ∷ [])

@@ -11,9 +11,11 @@ returns-then-e-ne0 c =
 
 pub overflow_add-e : goal.overflow_add-e
 overflow_add-e c =
-    let stays =
-      (let given = c.args in
-    call_stays given.t.now given.k given.row given.col c.enter-e.ensures c.if-e-ne0.false) in
+    let stays : let given = c.args in
+    Stays given.t.now (record { row = given.row; start = c.enter-e.result.start }) (c.enter-e.result.start + given.col)
+    (record { row = given.row; col = given.col }) =
+      let given = c.args in
+    call_stays given.t.now given.k given.row given.col c.enter-e.ensures c.if-e-ne0.false in
     let here = stays in omega (arith, here.stands.within, here.short)
 
 pub returns : goal.returns
@@ -23,7 +25,9 @@ returns c =
 
 pub pair_around-requires : goal.pair_around-requires
 pair_around-requires c =
-    let stays =
-      (let given = c.args in
-    call_stays given.t.now given.k given.row given.col c.enter-e.ensures c.if-e-ne0.false) in
+    let stays : let given = c.args in
+    Stays given.t.now (record { row = given.row; start = c.enter-e.result.start }) (c.enter-e.result.start + given.col)
+    (record { row = given.row; col = given.col }) =
+      let given = c.args in
+    call_stays given.t.now given.k given.row given.col c.enter-e.ensures c.if-e-ne0.false in
     stays

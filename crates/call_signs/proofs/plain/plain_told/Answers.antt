@@ -6,8 +6,8 @@ use Rattle.call_signs.proofs.plain.plain_told.Goals as goal
 pub overflow_cast-result : goal.overflow_cast-result
 overflow_cast-result c =
     let given = c.args in
-    let most = plain_size given.list.now given.written.now c.without_plus.result c.without_plus.new.1.0
-    c.without_plus.ensures c.in-Made.n c.in-Made.is in
+    let most = plain_size given.list.now given.written.now c.without_plus.result c.without_plus.new.room
+    (c.without_plus.ensures.value, c.without_plus.ensures.room_after) c.in-Made.n c.in-Made.is in
     omega (arith, most)
 
 pub returns-in-Made : goal.returns-in-Made
@@ -15,8 +15,8 @@ unfolding told_of
 returns-in-Made c =
     let given = c.args in
     let told =
-      plain_told_lem given.list.now given.written.now c.without_plus.result c.without_plus.new.1.0
-      c.without_plus.ensures _ (sym (ap told_of c.in-Made.is)) in
+      plain_told_lem given.list.now given.written.now c.without_plus.result c.without_plus.new.room
+      (c.without_plus.ensures.value, c.without_plus.ensures.room_after) _ (sym (ap told_of c.in-Made.is)) in
     record { value = told.0; written_after = told.1 }
 
 pub returns-in-Refused : goal.returns-in-Refused
@@ -24,6 +24,6 @@ unfolding told_of
 returns-in-Refused c =
     let given = c.args in
     let told =
-      plain_told_lem given.list.now given.written.now c.without_plus.result c.without_plus.new.1.0
-      c.without_plus.ensures _ (sym (ap told_of c.in-Refused.is)) in
+      plain_told_lem given.list.now given.written.now c.without_plus.result c.without_plus.new.room
+      (c.without_plus.ensures.value, c.without_plus.ensures.room_after) _ (sym (ap told_of c.in-Refused.is)) in
     record { value = told.0; written_after = told.1 }

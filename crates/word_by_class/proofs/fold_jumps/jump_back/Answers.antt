@@ -1,0 +1,26 @@
+-- `word_by_class::fold_jumps::jump_back` meets its contract, by the fold at the spot's row. Assumes nothing.
+use Rattle.lists.proofs.Kit.{ap, sym, ◌∙◌, rules}
+use Rattle.word_by_class.specs.Rounds.{to_first}
+use Rattle.word_by_class.proofs.Asks.{ready_row, span_at, span_rows}
+use Rattle.word_by_class.proofs.fold_jumps.jump_back.Goals as goal
+
+pub closed_fold_at-requires : goal.closed_fold_at-requires
+closed_fold_at-requires c =
+    let by_ready_row = ready_row c.requires in
+    (c.requires.good, by_ready_row.0, by_ready_row.1)
+
+pub row_start-requires : goal.row_start-requires
+row_start-requires c =
+    record {
+      stands = c.requires.stands;
+      not_before = (span_rows c.requires c.closed_fold_at.ensures _ _ c.in-Of.is).0;
+    }
+
+pub returns-in-Of : goal.returns-in-Of
+returns-in-Of c =
+    c.row_start.ensures ∙ ap (to_first c.args.c.now c.args.p.at)
+    (sym c.in-Of.is ∙ span_at c.requires c.closed_fold_at.ensures)
+
+pub returns-in-NoSpan : goal.returns-in-NoSpan
+returns-in-NoSpan c =
+    ap (to_first c.args.c.now c.args.p.at) (sym c.in-NoSpan.is ∙ span_at c.requires c.closed_fold_at.ensures)

@@ -1,0 +1,29 @@
+-- `word_class_rows::rows::row_start` meets its contract. The invariant of its loop: r is the row of i, and not before the row sought. The measure is i.
+-- Assumes nothing.
+use Rattle.lists.proofs.Kit.{sym, ◌∙◌, arith, rules}
+use Rattle.word_class_rows.proofs.Loops.{Behind, behind_row, behind_char, behind_start, behind_first}
+use Rattle.word_class_rows.proofs.rows.row_start.Goals as goal
+
+pub loop-i-init : goal.loop-i-init
+loop-i-init c = let required = c.requires in record { stands = required.stands; not_before = required.not_before }
+
+-- the end of the row before
+pub returns-then-r-row : goal.returns-then-r-row
+returns-then-r-row c =
+    behind_start c.loop-i.invariant c.loop-i-test.true (sym c.is_end.ensures ∙ c.if-is_end.true) c.if-r-row.true
+
+pub overflow_sub-r : goal.overflow_sub-r
+overflow_sub-r c = omega (arith, c.if-r-row.false, c.loop-i.invariant.not_before)
+
+pub loop-i-preserved-then-is_end : goal.loop-i-preserved-then-is_end
+loop-i-preserved-then-is_end c =
+    behind_row c.loop-i.invariant c.loop-i-test.true (sym c.is_end.ensures ∙ c.if-is_end.true) c.if-r-row.false
+
+-- a character
+pub loop-i-preserved : goal.loop-i-preserved
+loop-i-preserved c =
+    behind_char c.loop-i.invariant c.loop-i-test.true (sym c.is_end.ensures ∙ c.if-is_end.false)
+
+-- the text's first place
+pub returns : goal.returns
+returns c = behind_first c.loop-i.invariant (omega (arith, c.loop-i-test.false))

@@ -1,0 +1,21 @@
+use Rattle.word_edges.specs.Words.{next_word_end}
+use Rattle.word_kinds.proofs.Telling.{tells_as, tells_too}
+use Rattle.word_edges.proofs.Starts.{ready_at}
+use borrow.Author.Rules.{rules}
+use Rattle.word_edges.proofs.ahead.next_word_end.Goals as goal
+
+pub run_from-requires : goal.run_from-requires
+run_from-requires c =
+    ready_at c.requires _ (tells_as c.step_forward.ensures c.in-To.is).inside.spot
+
+pub returns-in-To : goal.returns-in-To
+unfolding next_word_end
+returns-in-To c =
+    let found = tells_as c.step_forward.ensures c.in-To.is in
+    tells_too c.run_from.ensures (rw (← found.place))
+
+pub returns-in-Nowhere : goal.returns-in-Nowhere
+unfolding next_word_end
+returns-in-Nowhere c =
+    let found = tells_as c.step_forward.ensures c.in-Nowhere.is in
+    record { place = rw (← found.place); inside = tt }

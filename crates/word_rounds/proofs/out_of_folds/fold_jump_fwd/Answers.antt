@@ -1,0 +1,25 @@
+-- `word_rounds::out_of_folds::fold_jump_fwd` meets its contract: the last row of the fold is one of the text. Assumes nothing.
+use Rattle.word_rounds.specs.Rounds.{to_last}
+use Rattle.word_kinds.specs.Spots.{place_of}
+use Rattle.word_kinds.proofs.Telling.{lands_here}
+use Rattle.word_rounds.proofs.Folding.{fold_asked, span_rows, jump_lands}
+use borrow.Author.Rules.{rules}
+use Rattle.word_rounds.proofs.out_of_folds.fold_jump_fwd.Goals as goal
+
+pub row_last-requires : goal.row_last-requires
+row_last-requires c =
+    let required = c.requires in
+    record { spot = required.spot; in_rows = (span_rows required c.closed_fold_at.ensures c.in-Of.is).1 }
+
+pub returns-in-Of : goal.returns-in-Of
+returns-in-Of c =
+    jump_lands c.requires c.closed_fold_at.ensures (to_last c.args.t.now (place_of c.args.t.now c.args.p))
+    c.in-Of.is c.row_last.ensures
+
+pub returns-in-NoSpan : goal.returns-in-NoSpan
+returns-in-NoSpan c =
+    jump_lands c.requires c.closed_fold_at.ensures (to_last c.args.t.now (place_of c.args.t.now c.args.p))
+    c.in-NoSpan.is (lands_here c.requires.spot)
+
+pub closed_fold_at-requires : goal.closed_fold_at-requires
+closed_fold_at-requires c = fold_asked c.requires

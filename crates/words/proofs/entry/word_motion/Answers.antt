@@ -1,0 +1,16 @@
+-- `words::entry::word_motion` meets its contract: what was made is what the walk goes by. Assumes nothing.
+use Rattle.word_kinds.specs.Spots.{place_of}
+use Rattle.word_kinds.proofs.Telling.{tells_too}
+use Rattle.words.proofs.Made.{made_ready, made_motion}
+use borrow.Author.Rules.{rules}
+use Rattle.words.proofs.entry.word_motion.Goals as goal
+
+pub walk_made-requires : goal.walk_made-requires
+walk_made-requires c =
+    made_ready c.prepare-made.ensures c.requires.folded
+
+pub returns : goal.returns
+returns c =
+    let given = c.args in
+    let motion = made_motion c.prepare-made.ensures given.folds.now given.m given.stop given.count (place_of given.t.now given.p) in
+    tells_too c.walk_made.ensures motion
