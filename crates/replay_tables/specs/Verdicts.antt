@@ -26,13 +26,13 @@ parts_verdict k t folds n starts own stored =
     cond (ltb k.op 3) (edit_verdict k t folds n starts own stored) (moved_verdict k t folds n starts own stored)
 
 -- where that begins in the list of a case
-abbrev pub field_own : List ℕ → ℕ
-field_own list = 2 + get_or list 1 0
+abbrev pub own_at : List ℕ → ℕ
+own_at list = 2 + get_or list 1 0
 
 -- the list of a fill is its table
 unfoldable pub tabled_verdict : Head → List ℕ → List ℕ → List ℕ → List ℕ → Verdict
 tabled_verdict k t folds list stored =
     cond (eqb k.op 0) (fill_verdict t list stored)
-    (cond (leb 2 (length list) && leb (field_own list) (length list))
-    (parts_verdict k t folds (get_or list 0 0) (part 2 (field_own list) list) (part (field_own list) (length list) list) stored)
+    (cond (leb 2 (length list) && leb (own_at list) (length list))
+    (parts_verdict k t folds (get_or list 0 0) (part 2 (own_at list) list) (part (own_at list) (length list) list) stored)
     Malformed)

@@ -1,0 +1,5 @@
+use borrow.Author.Rules.{rules}
+use Rattle.call_texts.proofs.carets.caret_six.Goals as goal
+
+pub returns : goal.returns
+returns c = rw (c.with.ensures, c.sticky_of-s.ensures, c.offset_of-o.ensures)

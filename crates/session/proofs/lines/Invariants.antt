@@ -1,0 +1,11 @@
+-- `session::lines` meets its contract. The invariant of its loop: what was printed so far, and that the rest is still to come. The measure is
+-- the rest of the input. Assumes nothing.
+use Rattle.lists.proofs.Kit.{sym, ◌∙◌, ◌+◌, ◌-◌, arith, length, rules}
+use Rattle.session.proofs.Progress.{Progress, progress_start, progress_end, progress_room, progress_on, commands_stop, commands_end}
+use Rattle.session.proofs.lines.Given as goal
+
+abbrev pub invariant-loop-i : goal.invariant-loop-i
+invariant-loop-i l = Progress l.input l.t l.initial.out l.k l.at l.i l.out
+
+abbrev pub decreases-loop-i : goal.decreases-loop-i
+decreases-loop-i l = length l.input + 1 - l.i
