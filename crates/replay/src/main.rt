@@ -8,45 +8,67 @@ mod calls;
 mod cases;
 mod tallies;
 
-use libc::{STDIN_FILENO, STDOUT_FILENO};
+ghost use Rattle.std.specs.Prelude.{◌<◌, ◌≤◌, IfOk, length, take};
+ghost use Rattle.std.specs.Io.KnownBytes.{Consumes, IsAtEnd};
+
 use replay_verdicts::Tally;
+use std::io;
+use std::io::{Read, Write};
 
 // Prints a number in decimal.
-fn print_number(n: usize) {
-    io::print_decimal(STDOUT_FILENO, n as u64);
+fn print_number<W: Write>(out: &mut W, n: usize) -> io::Result<()> {
+    write!(out, "{n}")
 }
 
 // `12 cases, 12 agree`, and which row is the first that doesn't.
-fn print_tally(t: Tally) {
-    print_number(t.cases);
-    io::write_all(STDOUT_FILENO, b" cases, ");
-    print_number(t.agree);
-    io::write_all(STDOUT_FILENO, b" agree\n");
+fn print_tally<W: Write>(out: &mut W, t: Tally) -> io::Result<()> {
+    print_number(out, t.cases)?;
+    out.write_all(b" cases, ")?;
+    print_number(out, t.agree)?;
+    out.write_all(b" agree\n")?;
     if t.first == 0 {
-        return;
+        return Ok(());
     }
-    io::write_all(STDOUT_FILENO, b"the first that differs: row ");
-    print_number(t.first);
+    out.write_all(b"the first that differs: row ")?;
+    print_number(out, t.first)?;
     if t.malformed {
-        io::write_all(STDOUT_FILENO, b", which is malformed");
+        out.write_all(b", which is malformed")?;
     }
-    io::write_all(STDOUT_FILENO, b"\n");
+    out.write_all(b"\n")
+}
+
+// Reads until `input` is full or `from` ends, and answers how many bytes it read: they stand at the
+// start of `input`, and fewer than it has room for are all that there were.
+fn read_full<R: Read>(from: &mut R, input: &mut [u8]) -> io::Result<usize>
+    ensures room { IfOk result (λ n. n ≤ length input.new) }
+    ensures bytes { IfOk result (λ n. Consumes (R.remaining from.old) (R.remaining from.new)
+        (take n input.new)) }
+    ensures end { IfOk result (λ n. n < length input.new → IsAtEnd (R.remaining from.new)) }
+{
+    let mut done = 0;
+    while done < input.len() {
+        let n = from.read(&mut input[done..])?;
+        if n == 0 {
+            break;
+        }
+        done += n;
+    }
+    Ok(done)
 }
 
 // Reads the list into `input`, which is one byte longer than a list may be, so that one that is too
 // long is seen.
-fn run(input: &mut [u8]) {
-    let n = io::read_full(STDIN_FILENO, input);
+fn run<R: Read, W: Write>(from: &mut R, out: &mut W, input: &mut [u8]) -> io::Result<()> {
+    let n = read_full(from, input)?;
     if n == input.len() {
-        io::write_all(STDOUT_FILENO, b"the list is too long\n");
-        return;
+        return out.write_all(b"the list is too long\n");
     }
-    print_tally(tallies::tally_of(&input[..n]));
+    print_tally(out, tallies::tally_of(&input[..n]))
 }
 
 // Reads stored rows from standard input, and prints how many answers are the same and how many
 // differ.
-fn main() {
+fn main(rt: HostRuntime) -> io::Result<()> {
     let mut input = [0u8; 1048577];
-    run(&mut input);
+    run(&mut rt.stdin(), &mut rt.stdout(), &mut input)
 }

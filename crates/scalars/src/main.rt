@@ -4,7 +4,8 @@
 
 #![tactic(auto)]
 
-use libc::STDOUT_FILENO;
+use std::io;
+use std::io::Write;
 use widths::Ambiguous;
 
 // What is asked.
@@ -33,53 +34,46 @@ fn holds(fact: Fact, x: u32) -> bool {
 }
 
 // Prints a number in decimal.
-fn print_number(n: u32) {
-    io::write_all(STDOUT_FILENO, b" ");
-    io::print_decimal(STDOUT_FILENO, n as u64);
+fn print_number<W: Write>(out: &mut W, n: u32) -> io::Result<()> {
+    write!(out, " {n}")
 }
 
 // Prints what a fact is called.
-fn print_name(fact: Fact) {
+fn print_name<W: Write>(out: &mut W, fact: Fact) -> io::Result<()> {
     match fact {
-        Fact::Scalar => {
-            io::write_all(STDOUT_FILENO, b"scalar");
-        }
-        Fact::Letter => {
-            io::write_all(STDOUT_FILENO, b"letter");
-        }
-        Fact::White => {
-            io::write_all(STDOUT_FILENO, b"white");
-        }
+        Fact::Scalar => out.write_all(b"scalar"),
+        Fact::Letter => out.write_all(b"letter"),
+        Fact::White => out.write_all(b"white"),
         Fact::Width(w) => {
-            io::write_all(STDOUT_FILENO, b"width");
-            print_number(w);
+            out.write_all(b"width")?;
+            print_number(out, w)
         }
         Fact::Wide(w) => {
-            io::write_all(STDOUT_FILENO, b"wide");
-            print_number(w);
+            out.write_all(b"wide")?;
+            print_number(out, w)
         }
     }
 }
 
 // Prints the first and the last of a run of code points that a fact holds of.
-fn print_range(fact: Fact, first: u32, last: u32) {
-    print_name(fact);
-    print_number(first);
-    print_number(last);
-    io::write_all(STDOUT_FILENO, b"\n");
+fn print_range<W: Write>(out: &mut W, fact: Fact, first: u32, last: u32) -> io::Result<()> {
+    print_name(out, fact)?;
+    print_number(out, first)?;
+    print_number(out, last)?;
+    out.write_all(b"\n")
 }
 
 // Prints of how many code points a fact holds.
-fn print_total(fact: Fact, total: u32) {
-    print_name(fact);
-    io::write_all(STDOUT_FILENO, b" total");
-    print_number(total);
-    io::write_all(STDOUT_FILENO, b"\n");
+fn print_total<W: Write>(out: &mut W, fact: Fact, total: u32) -> io::Result<()> {
+    print_name(out, fact)?;
+    out.write_all(b" total")?;
+    print_number(out, total)?;
+    out.write_all(b"\n")
 }
 
 // Prints the fact's ranges, both ends in, and how many code points they hold. The code point after
 // the last ends the last range: it is no scalar value.
-fn show(fact: Fact) {
+fn show<W: Write>(out: &mut W, fact: Fact) -> io::Result<()> {
     let mut total: u32 = 0;
     let mut first: u32 = 0;
     let mut last: u32 = 0;
@@ -96,22 +90,23 @@ fn show(fact: Fact) {
             x += 1;
         } else {
             if inside {
-                print_range(fact, first, last);
+                print_range(out, fact, first, last)?;
             }
             inside = false;
             x += 1;
         }
     }
-    print_total(fact, total);
+    print_total(out, fact, total)
 }
 
 // Prints each fact of every scalar value, in runs.
-fn main() {
-    show(Fact::Scalar);
-    show(Fact::Letter);
-    show(Fact::White);
-    show(Fact::Width(0));
-    show(Fact::Width(2));
-    show(Fact::Wide(0));
-    show(Fact::Wide(2));
+fn main(rt: HostRuntime) -> io::Result<()> {
+    let mut out = rt.stdout();
+    show(&mut out, Fact::Scalar)?;
+    show(&mut out, Fact::Letter)?;
+    show(&mut out, Fact::White)?;
+    show(&mut out, Fact::Width(0))?;
+    show(&mut out, Fact::Width(2))?;
+    show(&mut out, Fact::Wide(0))?;
+    show(&mut out, Fact::Wide(2))
 }
