@@ -42,7 +42,7 @@ overflow_sub-len-2 c =
 pub replace_at-requires : goal.replace_at-requires
 replace_at-requires c =
     let required = c.requires in
-    ((required.stretch_order, required.stretch_within, required.fits), required.new_fits)
+    record { a_le_b = (required.stretch_order, required.stretch_within, required.fits); points_in_bounds = required.new_fits }
 
 pub map_folds-count-requires : goal.map_folds-count-requires
 map_folds-count-requires c =

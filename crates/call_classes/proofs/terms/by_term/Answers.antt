@@ -1,0 +1,14 @@
+-- `terms::by_term` meets its contract, by the cases of what is asked for. Assumes nothing.
+use Rattle.lists.proofs.Kit.{refl, rules}
+use Rattle.call_classes.specs.ByTerm.{by_term, left_by}
+use Rattle.call_classes.proofs.terms.by_term.Goals as goal
+
+pub returns-in-Of : goal.returns-in-Of
+unfolding by_term left_by
+returns-in-Of c =
+    let word_by_class_told = c.word_by_class.ensures in
+    rw c.in-Of.is (record { value = word_by_class_told.answer; classes_after = word_by_class_told.left })
+
+pub returns-in-Nothing : goal.returns-in-Nothing
+unfolding by_term left_by
+returns-in-Nothing c = rw c.in-Nothing.is (record { value = refl; classes_after = refl })
