@@ -7,13 +7,13 @@ use Rattle.call_edits.proofs.show.Goals as goal
 pub overflow_cast-sizes : goal.overflow_cast-sizes
 unfolding len_of
 overflow_cast-sizes c =
-    let fits = rw c.in-Done.is c c.requires in
+    let fits = rw c.in-Done.is at c.requires in
     omega (arith, fits.len_fits)
 
 pub overflow_cast-sizes-in-Done : goal.overflow_cast-sizes-in-Done
 unfolding count_of
 overflow_cast-sizes-in-Done c =
-    let fits = rw c.in-Done.is c c.requires in
+    let fits = rw c.in-Done.is at c.requires in
     omega (arith, fits.count_fits)
 
 pub returns-in-Done : goal.returns-in-Done

@@ -1,0 +1,13 @@
+-- `moving::motion` meets its contract: what the call answers and leaves is compared. Assumes nothing.
+use borrow.Author.Rules.{rules}
+use Rattle.replay_verdicts.proofs.Comparing.{replied_compared, places_count}
+use Rattle.replay_tables.specs.Motions.{motion_of}
+use Rattle.replay_tables.proofs.Sizes.{moved_sized}
+use Rattle.replay_tables.proofs.moving.motion.Goals as goal
+
+pub slice_bounds-compared-end : goal.slice_bounds-compared-end
+slice_bounds-compared-end c = places_count 4 c.motion_rows-n.ensures (moved_sized _ _)
+
+pub returns : goal.returns
+unfolding motion_of
+returns c = replied_compared 4 _ c.motion_rows-n.ensures c.compared.ensures
