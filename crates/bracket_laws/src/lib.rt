@@ -3,4 +3,3 @@
 // proofs in proofs/.
 
 #![tactic(auto)]
-

@@ -1,6 +1,6 @@
 -- What the checks of what a call on bytes is lent show of the parts of its room, and what is left of other lent places: `search parts` closes with
 -- these what such a call asks before it calls on code points. Assumes nothing.
-use Rattle.lists.proofs.Kit.{◌≡◌, refl, List, [], ◌∷◌, ◌+◌, ◌-◌, ◌/◌, ◌≤◌, ℕ, arith, drop, length, take, needs}
+use Rattle.lists.proofs.Kit.{◌≡◌, refl, List, [], ◌∷◌, ◌+◌, ◌-◌, ◌/◌, ◌≤◌, ℕ, arith, drop, length, take, rules}
 use Rattle.call_points.specs.Points.{points}
 use Rattle.call_bytes.specs.Reply.{answer, Filled, fitting}
 use Rattle.call_bytes.specs.Joined.{unfit_all, FilledThree}
@@ -41,7 +41,7 @@ module _ {s u room room' : List ℕ} {n : ℕ} (h : FilledThree s u [] room n ro
   two_left f z lent a ea e = (joined_two h (λ (t p : List ℕ). answer (f t p)) z {out = lent} {r = 0} a ea (record { numbered = refl; out_left = e })).out_left
 
 pub ruleset parts = (
-  needs,
+  rules,
   answered_unfit,
   kept_unfit,
   front_within,

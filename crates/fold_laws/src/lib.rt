@@ -3,4 +3,3 @@
 // here; the laws are in proofs/. Document 02, #111.
 
 #![tactic(auto)]
-

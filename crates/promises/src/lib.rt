@@ -3,4 +3,3 @@
 // counts add. There is no code here; the statements are in specs/, their proofs in proofs/.
 
 #![tactic(auto)]
-

@@ -3,4 +3,3 @@
 // has. There is no code here; the laws are in proofs/. Document 02, #108.
 
 #![tactic(auto)]
-

@@ -3,4 +3,3 @@
 // #107. There is no code here; the statements are in specs/, their proofs in proofs/.
 
 #![tactic(auto)]
-

@@ -3,4 +3,3 @@
 // proof in proofs/.
 
 #![tactic(auto)]
-

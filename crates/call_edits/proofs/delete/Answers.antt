@@ -1,5 +1,5 @@
 -- `call_edits::delete` meets its contract: what the edit leaves is shown. Assumes nothing.
-use Rattle.lists.proofs.Kit.{[], rules}
+use Rattle.lists.proofs.Kit.{[]}
 use Rattle.call_edits.specs.Edits.{position_at}
 use Rattle.call_edits.proofs.Shown.{host_fits, host_edits}
 use Rattle.call_edits.proofs.delete.Goals as goal

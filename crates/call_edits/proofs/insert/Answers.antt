@@ -1,5 +1,4 @@
 -- `call_edits::insert` meets its contract: what the edit leaves is shown. Assumes nothing.
-use borrow.Author.Rules.{rules}
 use Rattle.call_edits.specs.Edits.{position_at}
 use Rattle.call_edits.proofs.Shown.{host_fits, host_edits}
 use Rattle.call_edits.proofs.insert.Goals as goal

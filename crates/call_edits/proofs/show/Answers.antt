@@ -1,5 +1,5 @@
 -- `call_edits::show` meets its contract, by the cases of the answer. Assumes nothing.
-use Rattle.lists.proofs.Kit.{arith, rules}
+use Rattle.lists.proofs.Kit.{arith}
 use Rattle.call_edits.specs.Edits.{len_of, count_of, caret_reply, sizes_reply}
 use Rattle.call_edits.proofs.show.Goals as goal
 

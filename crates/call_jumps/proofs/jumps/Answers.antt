@@ -1,5 +1,5 @@
 -- `jumps` by numbers meets its contract: it hands on what the jumps answer, and the places that they leave. Assumes nothing.
-use Rattle.lists.proofs.Kit.{ap, ◌∙◌, rules}
+use Rattle.lists.proofs.Kit.{ap, ◌∙◌}
 use Rattle.motions.specs.declared.Caret.{Caret}
 use Rattle.call_bytes.proofs.Replies.{replied_of}
 use Rattle.call_texts.specs.Carets.{moved_six}
@@ -10,7 +10,10 @@ pub returns : goal.returns
 returns c =
     let given = c.args in
     let done = c.jumps-m.ensures in
-    record { replied = replied_of moved_six (done.answer
+    record {
+      replied = replied_of moved_six (done.answer
           ∙ ap (λ (k : Caret). jumps_of given.text.now given.starts.now given.content given.folds.now given.list.now k
-          given.pairs.now given.answers.now) c.caret_six-k.ensures) c.place_six.ensures; answers_after = done.left ∙ ap (λ (k : Caret). places_left given.text.now given.starts.now given.content given.folds.now given.list.now k
-          given.pairs.now given.answers.now) c.caret_six-k.ensures }
+          given.pairs.now given.answers.now) c.caret_six-k.ensures) c.place_six.ensures;
+      answers_after = done.left ∙ ap (λ (k : Caret). places_left given.text.now given.starts.now given.content given.folds.now given.list.now k
+          given.pairs.now given.answers.now) c.caret_six-k.ensures;
+    }

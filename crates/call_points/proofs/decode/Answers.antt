@@ -1,9 +1,8 @@
 -- `decode` meets its contract. The loop's invariant: the first i code points stand in the room, the rest of it is as it was.
 -- The measure is the number of code points less i. Assumes nothing.
-use Rattle.lists.proofs.Kit.{◌≡◌, refl, List, ◌++◌, ℕ, ◌-◌, ◌/◌, ◌≤◌, ◌<◌, arith, length, take, drop, length-set, rules}
+use Rattle.lists.proofs.Kit.{◌≡◌, refl, ◌-◌, ◌/◌, ◌<◌, arith, length, length-set}
 use Rattle.call_points.specs.Points.{points}
 use Rattle.call_points.proofs.Laws.{length_points, point_at, fill_on, filled_all_lem, take_filled}
-use Rattle.call_points.proofs.decode.Invariants.{Filled}
 use Rattle.call_points.proofs.decode.Goals as goal
 
 -- the code point at i is stored

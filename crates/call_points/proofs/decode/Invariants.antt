@@ -1,8 +1,7 @@
 -- `decode` meets its contract. The loop's invariant: the first i code points stand in the room, the rest of it is as it was.
 -- The measure is the number of code points less i. Assumes nothing.
-use Rattle.lists.proofs.Kit.{◌≡◌, refl, List, ◌++◌, ℕ, ◌-◌, ◌/◌, ◌≤◌, ◌<◌, arith, length, take, drop, length-set, rules}
+use Rattle.lists.proofs.Kit.{◌≡◌, List, ◌++◌, ℕ, ◌-◌, ◌/◌, ◌≤◌, length, take, drop}
 use Rattle.call_points.specs.Points.{points}
-use Rattle.call_points.proofs.Laws.{length_points, point_at, fill_on, filled_all_lem, take_filled}
 use Rattle.call_points.proofs.decode.Given as goal
 
 pub record Filled (s room₀ room : List ℕ) (i : ℕ) : Type 0 where

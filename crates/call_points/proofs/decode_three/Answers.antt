@@ -1,5 +1,5 @@
 -- `decode_three` meets its contract: the other two fill the rest that the first one left. Assumes nothing.
-use Rattle.lists.proofs.Kit.{arith, rules}
+use Rattle.lists.proofs.Kit.{arith}
 use Rattle.call_points.specs.Points.{filled_two}
 use Rattle.call_points.proofs.Laws.{whole_is, three_is}
 use Rattle.call_points.proofs.decode_three.Goals as goal

@@ -1,5 +1,5 @@
 -- `decode_two` meets its contract: the second call fills the rest that the first one left. Assumes nothing.
-use Rattle.lists.proofs.Kit.{arith, rules}
+use Rattle.lists.proofs.Kit.{arith}
 use Rattle.call_points.specs.Points.{filled}
 use Rattle.call_points.proofs.Laws.{whole_is, two_is}
 use Rattle.call_points.proofs.decode_two.Goals as goal

@@ -1,5 +1,5 @@
 -- `insert_rows` meets its contract: what the edit leaves is shown. Assumes nothing.
-use Rattle.lists.proofs.Kit.{refl, get_or, rules}
+use Rattle.lists.proofs.Kit.{refl, get_or}
 use Rattle.call_edits.specs.Edits.{position_at}
 use Rattle.call_row_table.proofs.Shown.{host_fits, host_keeps}
 use Rattle.call_row_table.proofs.insert_rows.Goals as goal

@@ -1,5 +1,4 @@
 -- `show_count` meets its contract, by the cases of the answer. Assumes nothing.
-use borrow.Author.Rules.{rules}
 use Rattle.call_row_table.proofs.show_count.Goals as goal
 
 pub returns-in-Rows : goal.returns-in-Rows

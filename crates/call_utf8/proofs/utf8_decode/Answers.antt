@@ -1,5 +1,5 @@
 -- `utf8_decode` meets its contract, by the answers of the decoder; place and count fit, for there are at most 4,294,967,295 bytes. Assumes nothing.
-use Rattle.lists.proofs.Kit.{sym, ◌∙◌, arith, rules}
+use Rattle.lists.proofs.Kit.{sym, ◌∙◌, arith}
 use Rattle.utf8.proofs.Sizes.{decoded_most, bad_most}
 use Rattle.call_utf8.proofs.Told.{decode_long, decode_text, decode_bad, decode_refused}
 use Rattle.call_utf8.proofs.utf8_decode.Goals as goal
@@ -8,7 +8,7 @@ use Rattle.call_utf8.proofs.utf8_decode.Goals as goal
 pub returns-then-bytes-gt4294967295 : goal.returns-then-bytes-gt4294967295
 returns-then-bytes-gt4294967295 c =
     let told =
-      decode_long _ _ _ c.if-bytes-gt4294967295.true in
+    decode_long _ _ _ c.if-bytes-gt4294967295.true in
     record { replied = told.0; points_after = told.1 }
 
 pub overflow_cast-out : goal.overflow_cast-out
@@ -34,8 +34,8 @@ pub returns-in-Text : goal.returns-in-Text
 returns-in-Text c =
     let given = c.args in
     let told =
-      decode_text given.bytes.now given.points.now _ c.if-bytes-gt4294967295.false _ c.decode.ensures.left _
-      (sym c.decode.ensures.answer ∙ c.in-Text.is) in
+    decode_text given.bytes.now given.points.now _ c.if-bytes-gt4294967295.false _ c.decode.ensures.left _
+    (sym c.decode.ensures.answer ∙ c.in-Text.is) in
     record { replied = told.0; points_after = told.1 }
 
 -- 13
@@ -43,8 +43,8 @@ pub returns-in-Bad : goal.returns-in-Bad
 returns-in-Bad c =
     let given = c.args in
     let told =
-      decode_bad given.bytes.now given.points.now _ c.if-bytes-gt4294967295.false _ c.decode.ensures.left _
-      (sym c.decode.ensures.answer ∙ c.in-Bad.is) in
+    decode_bad given.bytes.now given.points.now _ c.if-bytes-gt4294967295.false _ c.decode.ensures.left _
+    (sym c.decode.ensures.answer ∙ c.in-Bad.is) in
     record { replied = told.0; points_after = told.1 }
 
 -- 14
@@ -52,6 +52,6 @@ pub returns-in-Refused : goal.returns-in-Refused
 returns-in-Refused c =
     let given = c.args in
     let told =
-      decode_refused given.bytes.now given.points.now _ c.if-bytes-gt4294967295.false _ c.decode.ensures.left _
-      (sym c.decode.ensures.answer ∙ c.in-Refused.is) in
+    decode_refused given.bytes.now given.points.now _ c.if-bytes-gt4294967295.false _ c.decode.ensures.left _
+    (sym c.decode.ensures.answer ∙ c.in-Refused.is) in
     record { replied = told.0; points_after = told.1 }

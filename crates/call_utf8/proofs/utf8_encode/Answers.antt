@@ -1,5 +1,5 @@
 -- `utf8_encode` meets its contract, by the answers of the encoder. Assumes nothing.
-use Rattle.lists.proofs.Kit.{sym, ◌∙◌, arith, rules}
+use Rattle.lists.proofs.Kit.{sym, ◌∙◌, arith}
 use Rattle.utf8.proofs.Sizes.{encoded_most}
 use Rattle.call_utf8.proofs.Told.{encode_bytes, encode_refused}
 use Rattle.call_utf8.proofs.utf8_encode.Goals as goal
@@ -12,11 +12,17 @@ overflow_cast-n c =
 pub returns-in-Bytes : goal.returns-in-Bytes
 returns-in-Bytes c =
     let given = c.args in
-    record { replied = encode_bytes given.points.now given.bytes.now _ (sym c.encode.ensures.answer ∙ c.in-Bytes.is)
-          c.reply.ensures; bytes_after = c.encode.ensures.left }
+    record {
+      replied = encode_bytes given.points.now given.bytes.now _ (sym c.encode.ensures.answer ∙ c.in-Bytes.is)
+          c.reply.ensures;
+      bytes_after = c.encode.ensures.left;
+    }
 
 pub returns-in-Refused : goal.returns-in-Refused
 returns-in-Refused c =
     let given = c.args in
-    record { replied = encode_refused given.points.now given.bytes.now _ (sym c.encode.ensures.answer ∙ c.in-Refused.is)
-          c.reply-in-Refused.ensures; bytes_after = c.encode.ensures.left }
+    record {
+      replied = encode_refused given.points.now given.bytes.now _ (sym c.encode.ensures.answer ∙ c.in-Refused.is)
+          c.reply-in-Refused.ensures;
+      bytes_after = c.encode.ensures.left;
+    }

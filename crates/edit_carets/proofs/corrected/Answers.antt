@@ -1,5 +1,5 @@
 -- `edit_carets::corrected` meets its contract: the caret's position is moved, and all else is cleared. Assumes nothing.
-use Rattle.lists.proofs.Kit.{ap, ◌∙◌, arith, rules}
+use Rattle.lists.proofs.Kit.{ap, ◌∙◌, arith}
 use Rattle.text.specs.declared.Position.{Position}
 use Rattle.edit_carets.specs.Carets.{cleared_at}
 use Rattle.edit_carets.proofs.Follows.{moved_fits}

@@ -1,6 +1,6 @@
 -- `edit_checks::check` meets its contract: it goes through the checks in the order of the refusals. Each way out is found from the law of its check
 -- by what the checks before it told. Assumes nothing.
-use Rattle.lists.proofs.Kit.{sym, length-take-le, rules}
+use Rattle.lists.proofs.Kit.{sym, length-take-le}
 use Rattle.edit_checks.proofs.Chain.{refused_by_lem, by_length, by_entry_lem, entry_rows, text_short, by_folds, by_stretch}
 use Rattle.edit_checks.proofs.Chain.{in_order, in_text_lem, in_words, by_room, by_none}
 use Rattle.edit_checks.proofs.check.Goals as goal

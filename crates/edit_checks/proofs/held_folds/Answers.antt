@@ -1,4 +1,4 @@
-use Rattle.lists.proofs.Kit.{sym, arith, length-take-le, rules, lt-ltb, le-ltb}
+use Rattle.lists.proofs.Kit.{sym, arith, length-take-le, lt-ltb, le-ltb}
 use Rattle.edit_checks.specs.Refusals.{held_folds}
 use Rattle.edit_checks.proofs.held_folds.Goals as goal
 

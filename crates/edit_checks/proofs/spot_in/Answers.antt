@@ -1,5 +1,5 @@
 -- `edit_checks::spot_in` meets its contract: the position's row, and then its column. Assumes nothing.
-use Rattle.lists.proofs.Kit.{arith, rules}
+use Rattle.lists.proofs.Kit.{arith}
 use Rattle.text.proofs.Stands.{line_there}
 use Rattle.edit_checks.proofs.Spots.{spot_row, spot_col, spot_there, long}
 use Rattle.edit_checks.proofs.spot_in.Goals as goal

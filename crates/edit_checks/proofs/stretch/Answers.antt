@@ -1,5 +1,5 @@
 -- `edit_checks::stretch` meets its contract: the two positions, and then their order. Assumes nothing.
-use Rattle.lists.proofs.Kit.{sym, ◌∙◌, ◌+◌, ◌<◌, ◌^◌, arith, rules}
+use Rattle.lists.proofs.Kit.{sym, ◌∙◌, ◌+◌, ◌<◌, ◌^◌, arith}
 use Rattle.text.proofs.Stands.{first_line}
 use Rattle.edit_checks.specs.Refusals.{stretch_refusal}
 use Rattle.edit_checks.proofs.Spots.{out_outside, in_inside, in_line, in_fits, checked_refused, stretch_first, stretch_second, stretch_order}

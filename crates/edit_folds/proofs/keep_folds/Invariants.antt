@@ -1,8 +1,8 @@
 -- `edit_folds::keep_folds` meets its contract. The invariant of its loop: i folds are passed, and the w of them that are kept stand at the front.
 -- The measure is the number of folds less i. Assumes nothing.
-use Rattle.lists.proofs.Kit.{sym, ◌∙◌, ◌+◌, ◌*◌, ◌-◌, arith, rules}
+use Rattle.lists.proofs.Kit.{◌-◌}
 use Rattle.edit_folds.specs.Folds.{mapped_row}
-use Rattle.edit_folds.proofs.Mapped.{Moved, moved_none, moved_read, moved_lost, moved_kept, moved_all}
+use Rattle.edit_folds.proofs.Mapped.{Moved}
 use Rattle.edit_folds.proofs.keep_folds.Given as goal
 
 abbrev pub invariant-loop-i : goal.invariant-loop-i

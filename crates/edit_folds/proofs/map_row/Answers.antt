@@ -1,4 +1,4 @@
-use Rattle.lists.proofs.Kit.{rules, le-leb, lt-leb}
+use Rattle.lists.proofs.Kit.{le-leb, lt-leb}
 use Rattle.edit_folds.specs.Folds.{mapped_row}
 use Rattle.edit_folds.proofs.map_row.Goals as goal
 

@@ -1,5 +1,5 @@
 -- `follow` meets its contract: the tests of the definition in their order. Assumes nothing.
-use Rattle.lists.proofs.Kit.{ap, ◌∙◌, arith, rules}
+use Rattle.lists.proofs.Kit.{ap, ◌∙◌, arith}
 use Rattle.motions.specs.declared.Moved.TheVariants.{To}
 use Rattle.edit_others.proofs.Near.{from_row_far, from_col_far, row_far, col_far, near_fits, follows}
 use Rattle.edit_others.proofs.follow.Goals as goal

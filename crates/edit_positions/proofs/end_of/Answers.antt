@@ -1,5 +1,4 @@
 -- `edit_positions::end_of` meets its contract: the last row of what is put in, found from its end. Assumes nothing.
-use borrow.Author.Rules.{rules}
 use Rattle.edit_positions.proofs.Formula.{end_stands, end_from_lem, end_row, end_below}
 use Rattle.edit_positions.proofs.end_of.Goals as goal
 

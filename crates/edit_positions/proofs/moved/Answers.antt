@@ -1,5 +1,5 @@
 -- `edit_positions::moved` meets its contract: each test picks the case of the definition. Assumes nothing.
-use Rattle.lists.proofs.Kit.{sym, ◌∙◌, rules}
+use Rattle.lists.proofs.Kit.{sym, ◌∙◌}
 use Rattle.edit_positions.proofs.Formula.{not_before_col, not_before_row, moved_before, moved_inside, moved_row, moved_later}
 use Rattle.edit_positions.proofs.moved.Goals as goal
 

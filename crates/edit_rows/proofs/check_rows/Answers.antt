@@ -1,5 +1,5 @@
 -- `check_rows` meets its contract: the rows after the edit are those before it, less the stretch's and with those of the code points. Assumes nothing.
-use Rattle.lists.proofs.Kit.{◌≡◌, sym, ap, ◌∙◌, ℕ, ◌+◌, ◌-◌, max, arith, take, length-take-le, rules}
+use Rattle.lists.proofs.Kit.{◌≡◌, sym, ap, ◌∙◌, ℕ, ◌+◌, ◌-◌, max, arith, take, length-take-le}
 use Rattle.text.specs.Text.{row_count}
 use Rattle.text.proofs.Parts.{count_le}
 use Rattle.row_table.specs.Table.{table_refusal}

@@ -1,5 +1,5 @@
 -- `content_in` meets its contract: a text of so many code points has rows that fit a u32. Assumes nothing.
-use Rattle.lists.proofs.Kit.{sym, arith, take, length-take-le, rules}
+use Rattle.lists.proofs.Kit.{sym, arith, take, length-take-le}
 use Rattle.text.proofs.Parts.{count_le}
 use Rattle.text.proofs.Content.{content_near}
 use Rattle.edit_rows.proofs.content_in.Goals as goal

@@ -1,5 +1,5 @@
 -- `edit_rows` meets its contract: what the checks of the edit find out, then the check of the table, and then the edit itself. Assumes nothing.
-use Rattle.lists.proofs.Kit.{sym, ◌∙◌, rules}
+use Rattle.lists.proofs.Kit.{sym, ◌∙◌}
 use Rattle.edits.proofs.Known.{editable}
 use Rattle.edits.proofs.Made.{number_is}
 use Rattle.edit_rows.proofs.Tables.{stretch, tabled}

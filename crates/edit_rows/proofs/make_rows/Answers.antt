@@ -1,5 +1,4 @@
 -- `make_rows` meets its contract: the table by the text of before, the edit itself, and the rows with content of the new text. Assumes nothing.
-use borrow.Author.Rules.{rules}
 use Rattle.edit_rows.proofs.Tables.{keepable}
 use Rattle.edit_rows.proofs.Made.{content_asked, made_rows}
 use Rattle.edit_rows.proofs.make_rows.Goals as goal

@@ -1,5 +1,4 @@
 -- `keep_starts` meets its contract: later starts move first, and then those of the stretch give way. Assumes nothing.
-use borrow.Author.Rules.{rules}
 use Rattle.edit_starts.proofs.Moving.{kept_starts_lem}
 use Rattle.edit_starts.proofs.keep_starts.Goals as goal
 

@@ -1,9 +1,8 @@
 -- `move_starts` meets its contract. The invariant of its loop: the first k starts are moved. The measure is their number less k. Assumes nothing.
-use Rattle.lists.proofs.Kit.{ap, sym, ◌∙◌, List, map, ℕ, ◌+◌, ◌-◌, ◌≤◌, arith, take, drop, length-slice, rules}
-use Rattle.edit_places.proofs.Puts.{Up, up_none, up_next, up_all, up_read, part_read}
+use Rattle.lists.proofs.Kit.{ap, sym, ◌∙◌, ◌+◌, ◌-◌, arith, take, drop, length-slice}
+use Rattle.edit_places.proofs.Puts.{up_none, up_next, up_all, up_read, part_read}
 use Rattle.edit_starts.specs.Moved.{moved_start}
 use Rattle.edit_starts.proofs.Moving.{map_read, map_size}
-use Rattle.edit_starts.proofs.move_starts.Invariants.{Moving}
 use Rattle.edit_starts.proofs.move_starts.Goals as goal
 
 pub loop-k-init : goal.loop-k-init

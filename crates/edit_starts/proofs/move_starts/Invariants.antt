@@ -1,8 +1,7 @@
 -- `move_starts` meets its contract. The invariant of its loop: the first k starts are moved. The measure is their number less k. Assumes nothing.
-use Rattle.lists.proofs.Kit.{ap, sym, ◌∙◌, List, map, ℕ, ◌+◌, ◌-◌, ◌≤◌, arith, take, drop, length-slice, rules}
-use Rattle.edit_places.proofs.Puts.{Up, up_none, up_next, up_all, up_read, part_read}
+use Rattle.lists.proofs.Kit.{List, map, ℕ, ◌-◌, ◌≤◌, take, drop}
+use Rattle.edit_places.proofs.Puts.{Up}
 use Rattle.edit_starts.specs.Moved.{moved_start}
-use Rattle.edit_starts.proofs.Moving.{map_read, map_size}
 use Rattle.edit_starts.proofs.move_starts.Given as goal
 
 pub record Moving (starts₀ : List ℕ) (from to less more : ℕ) (starts : List ℕ) (k : ℕ) : Type 0 where

@@ -1,5 +1,5 @@
 -- `replace_starts` meets its contract: fewer starts are written first and the rest closed up, more are written into a gap. Assumes nothing.
-use Rattle.lists.proofs.Kit.{arith, rules}
+use Rattle.lists.proofs.Kit.{arith}
 use Rattle.edit_places.proofs.Replaces.{refilled_shorter, refilled_longer}
 use Rattle.row_table.specs.Table.{starts_from}
 use Rattle.row_table.proofs.Starts.{starts_length}

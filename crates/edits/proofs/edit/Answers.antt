@@ -1,5 +1,5 @@
 -- `edits::edit` meets its contract: what the checks find out, and then the edit itself. Assumes nothing.
-use Rattle.lists.proofs.Kit.{sym, ◌∙◌, rules}
+use Rattle.lists.proofs.Kit.{sym, ◌∙◌}
 use Rattle.edits.proofs.Known.{editable}
 use Rattle.edits.proofs.Made.{number_is, edit_refused, edit_done}
 use Rattle.edits.proofs.edit.Goals as goal

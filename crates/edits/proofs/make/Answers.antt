@@ -1,5 +1,5 @@
 -- `edits::make` meets its contract: what its parts leave is what the definition says. Assumes nothing.
-use Rattle.lists.proofs.Kit.{refl, ap, arith, rules}
+use Rattle.lists.proofs.Kit.{refl, ap, arith}
 use Rattle.text.specs.declared.Position.{Position}
 use Rattle.text.proofs.Parts.{count_le}
 use Rattle.edits.proofs.Making.{end_rows}

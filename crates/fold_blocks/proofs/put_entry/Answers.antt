@@ -1,5 +1,4 @@
 -- `put_entry` meets its contract: one piece after another. Assumes nothing.
-use borrow.Author.Rules.{rules}
 use Rattle.print.proofs.Laws.{wrote_then}
 use Rattle.fold_blocks.proofs.put_entry.Goals as goal
 

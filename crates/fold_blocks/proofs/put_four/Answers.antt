@@ -1,5 +1,5 @@
 -- `put_four` meets its contract: four bytes are set. Assumes nothing.
-use Rattle.lists.proofs.Kit.{arith, length-set, rules}
+use Rattle.lists.proofs.Kit.{arith, length-set}
 use Rattle.fold_blocks.proofs.Numbers.{wrote_four}
 use Rattle.fold_blocks.proofs.put_four.Goals as goal
 

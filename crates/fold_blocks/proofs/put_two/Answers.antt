@@ -1,5 +1,5 @@
 -- `put_two` meets its contract: two bytes are set. Assumes nothing.
-use Rattle.lists.proofs.Kit.{arith, length-set, rules}
+use Rattle.lists.proofs.Kit.{arith, length-set}
 use Rattle.fold_blocks.proofs.Numbers.{wrote_two}
 use Rattle.fold_blocks.proofs.put_two.Goals as goal
 

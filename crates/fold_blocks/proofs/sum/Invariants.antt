@@ -1,8 +1,7 @@
 -- `sum` meets its contract. The invariant of its loop: what is added, with what is left, comes to the whole. The measure is the length less i.
 -- Assumes nothing.
-use Rattle.lists.proofs.Kit.{◌≡◌, List, ℕ, ◌+◌, ◌*◌, ◌-◌, ◌≤◌, arith, length, drop, rules}
+use Rattle.lists.proofs.Kit.{◌≡◌, List, ℕ, ◌+◌, ◌*◌, ◌-◌, ◌≤◌, length, drop}
 use Rattle.fold_blocks.specs.Bytes.{sum}
-use Rattle.fold_blocks.proofs.Numbers.{sum_at, sum_end}
 use Rattle.fold_blocks.proofs.sum.Given as goal
 
 pub record Added (bytes : List ℕ) (total i : ℕ) : Type 0 where

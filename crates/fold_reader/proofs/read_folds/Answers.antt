@@ -1,5 +1,5 @@
 -- `read_folds` meets its contract: each refusal, and the folds. Assumes nothing.
-use Rattle.lists.proofs.Kit.{sym, ◌∙◌, arith, length-take-le, rules}
+use Rattle.lists.proofs.Kit.{sym, ◌∙◌, arith, length-take-le}
 use Rattle.fold_blocks.proofs.Whole.{layout_whole, folds_most}
 use Rattle.fold_reader.proofs.Answers.{taken_front, read_text_lem, read_layout, read_folds, read_short, read_list}
 use Rattle.fold_reader.proofs.read_folds.Goals as goal

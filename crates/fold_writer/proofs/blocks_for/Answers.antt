@@ -1,5 +1,5 @@
 -- `blocks_for` meets its contract: one block where there are no folds, and else as many as they take. Assumes nothing.
-use Rattle.lists.proofs.Kit.{sym, arith, rules}
+use Rattle.lists.proofs.Kit.{sym, arith}
 use Rattle.fold_blocks.proofs.Files.{blocks_some, blocks_none}
 use Rattle.fold_writer.proofs.blocks_for.Goals as goal
 

@@ -1,5 +1,5 @@
 -- `put_block` meets its contract: the sum is taken of what was written. Assumes nothing.
-use Rattle.lists.proofs.Kit.{ap, ◌∙◌, arith, length, rules}
+use Rattle.lists.proofs.Kit.{ap, ◌∙◌, arith, length}
 use Rattle.fold_blocks.specs.Bytes.{sum}
 use Rattle.fold_blocks.proofs.Files.{length_body}
 use Rattle.fold_writer.proofs.Writes.{wrote_part, wrote_block}

@@ -1,7 +1,7 @@
 -- `put_blocks` meets its contract. The invariant of its loop: the folds before index `from` are written. The measure is how many blocks are left.
 -- Assumes nothing.
-use Rattle.lists.proofs.Kit.{◌-◌, rules}
-use Rattle.fold_writer.proofs.Laying.{Laying, laying_start, laying_room, laying_on, laying_end, part_most}
+use Rattle.lists.proofs.Kit.{◌-◌}
+use Rattle.fold_writer.proofs.Laying.{laying_start, laying_room, laying_on, laying_end, part_most}
 use Rattle.fold_writer.proofs.put_blocks.Goals as goal
 
 pub loop-k-init : goal.loop-k-init

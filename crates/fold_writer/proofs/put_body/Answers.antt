@@ -1,5 +1,5 @@
 -- `put_body` meets its contract: one piece after another. Assumes nothing.
-use Rattle.lists.proofs.Kit.{arith, rules}
+use Rattle.lists.proofs.Kit.{arith}
 use Rattle.print.proofs.Laws.{wrote_then}
 use Rattle.fold_blocks.specs.Files.{body}
 use Rattle.fold_blocks.proofs.Files.{length_entries}

@@ -1,10 +1,9 @@
 -- `put_entries` meets its contract. The invariant of its loop: what is written, with the entries to come, comes to the whole. The measure is what is
 -- left of the folds. Assumes nothing.
-use Rattle.lists.proofs.Kit.{List, ◌++◌, ℕ, ◌+◌, ◌-◌, ◌≤◌, arith, length, get_or, drop, rules}
+use Rattle.lists.proofs.Kit.{◌++◌, ◌+◌, ◌-◌, arith, get_or, drop}
 use Rattle.fold_blocks.specs.Bytes.{one, four, entries}
 use Rattle.fold_blocks.proofs.Files.{length_entries, entries_at, entries_end}
-use Rattle.fold_blocks.proofs.Toward.{Toward, toward_start, toward_room, toward_on, toward_end}
-use Rattle.fold_writer.proofs.put_entries.Invariants.{Put}
+use Rattle.fold_blocks.proofs.Toward.{toward_start, toward_room, toward_on, toward_end}
 use Rattle.fold_writer.proofs.put_entries.Goals as goal
 
 pub loop-i-init : goal.loop-i-init

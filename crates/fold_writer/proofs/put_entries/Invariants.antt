@@ -1,9 +1,8 @@
 -- `put_entries` meets its contract. The invariant of its loop: what is written, with the entries to come, comes to the whole. The measure is what is
 -- left of the folds. Assumes nothing.
-use Rattle.lists.proofs.Kit.{List, ◌++◌, ℕ, ◌+◌, ◌-◌, ◌≤◌, arith, length, get_or, drop, rules}
-use Rattle.fold_blocks.specs.Bytes.{one, four, entries}
-use Rattle.fold_blocks.proofs.Files.{length_entries, entries_at, entries_end}
-use Rattle.fold_blocks.proofs.Toward.{Toward, toward_start, toward_room, toward_on, toward_end}
+use Rattle.lists.proofs.Kit.{List, ℕ, ◌-◌, ◌≤◌, length, drop}
+use Rattle.fold_blocks.specs.Bytes.{entries}
+use Rattle.fold_blocks.proofs.Toward.{Toward}
 use Rattle.fold_writer.proofs.put_entries.Given as goal
 
 pub record Put (out₀ : List ℕ) (at : ℕ) (folds out : List ℕ) (next i : ℕ) : Type 0 where

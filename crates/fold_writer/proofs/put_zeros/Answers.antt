@@ -1,9 +1,7 @@
 -- `put_zeros` meets its contract. The invariant of its loop: i zeros are written. The measure is how many are left. Assumes nothing.
-use Rattle.lists.proofs.Kit.{List, ℕ, ◌+◌, ◌-◌, ◌≤◌, add-zero, arith, replicate, rules}
-use Rattle.print.specs.Print.{Wrote}
+use Rattle.lists.proofs.Kit.{◌-◌, add-zero, arith}
 use Rattle.print.proofs.Laws.{wrote_none}
 use Rattle.fold_writer.proofs.Writes.{wrote_zero, wrote_zeros}
-use Rattle.fold_writer.proofs.put_zeros.Invariants.{Put}
 use Rattle.fold_writer.proofs.put_zeros.Goals as goal
 
 pub loop-i-init : goal.loop-i-init

@@ -1,8 +1,6 @@
 -- `put_zeros` meets its contract. The invariant of its loop: i zeros are written. The measure is how many are left. Assumes nothing.
-use Rattle.lists.proofs.Kit.{List, ℕ, ◌+◌, ◌-◌, ◌≤◌, add-zero, arith, replicate, rules}
+use Rattle.lists.proofs.Kit.{List, ℕ, ◌+◌, ◌-◌, ◌≤◌, replicate}
 use Rattle.print.specs.Print.{Wrote}
-use Rattle.print.proofs.Laws.{wrote_none}
-use Rattle.fold_writer.proofs.Writes.{wrote_zero, wrote_zeros}
 use Rattle.fold_writer.proofs.put_zeros.Given as goal
 
 pub record Put (out₀ : List ℕ) (at n : ℕ) (out : List ℕ) (i : ℕ) : Type 0 where

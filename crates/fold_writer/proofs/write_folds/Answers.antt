@@ -1,5 +1,5 @@
 -- `write_folds` meets its contract: each refusal, and the file. Assumes nothing.
-use Rattle.lists.proofs.Kit.{ap, sym, ◌∙◌, ◌/◌, arith, length, rules}
+use Rattle.lists.proofs.Kit.{ap, sym, ◌∙◌, ◌/◌, arith, length}
 use Rattle.folds.specs.Folds.{fold_refusal}
 use Rattle.fold_blocks.proofs.Files.{length_file, blocks_few}
 use Rattle.fold_writer.proofs.Answers.{folds_few, write_text, write_folds, write_short, write_file}

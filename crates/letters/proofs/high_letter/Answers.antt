@@ -1,5 +1,5 @@
 -- `letters::high_letter` meets its contract: the consts are the starts and the lengths of its ranges. Assumes nothing.
-use Rattle.lists.proofs.Kit.{refl, rules}
+use Rattle.lists.proofs.Kit.{refl}
 use Rattle.letters.specs.Letters.{letters}
 use Rattle.letters.proofs.high_letter.Goals as goal
 

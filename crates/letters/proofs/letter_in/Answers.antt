@@ -1,5 +1,5 @@
 -- `letters::letter_in` meets its contract: what is lent lists the ranges of the definition, and keeps the rule. Assumes nothing.
-use Rattle.lists.proofs.Kit.{◌∙◌, rules}
+use Rattle.lists.proofs.Kit.{◌∙◌}
 use Rattle.letters.specs.Letters.{is_letter}
 use Rattle.letters.proofs.Tables.{letters_apart, letters_listed}
 use Rattle.letters.proofs.letter_in.Goals as goal

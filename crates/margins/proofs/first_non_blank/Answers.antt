@@ -1,6 +1,6 @@
 -- `margins::first_non_blank` meets its contract: the row's indent, within its last column.
 -- Assumes nothing.
-use Rattle.lists.proofs.Kit.{ap, arith, length, rules}
+use Rattle.lists.proofs.Kit.{ap, arith, length}
 use Rattle.text.proofs.Parts.{row_fits}
 use Rattle.margins.specs.Margins.{indent_of}
 use Rattle.margins.proofs.first_non_blank.Goals as goal

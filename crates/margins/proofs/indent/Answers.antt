@@ -1,7 +1,6 @@
 -- `margins::indent` meets its contract. The invariant of its loop: everything before i is blank. The measure is the row's length less i.
 -- Assumes nothing.
-use Rattle.lists.proofs.Kit.{◌≡◌, sym, ◌∙◌, ◌+◌, ◌-◌, ◌≤◌, arith, length, drop, rules, not-true, not-false}
-use Rattle.margins.specs.Margins.{indent_of}
+use Rattle.lists.proofs.Kit.{sym, ◌∙◌, ◌-◌, arith}
 use Rattle.margins.proofs.Edging.{indent_on, indent_stop, indent_end}
 use Rattle.margins.proofs.indent.Goals as goal
 

@@ -1,8 +1,7 @@
 -- `margins::indent` meets its contract. The invariant of its loop: everything before i is blank. The measure is the row's length less i.
 -- Assumes nothing.
-use Rattle.lists.proofs.Kit.{◌≡◌, sym, ◌∙◌, ◌+◌, ◌-◌, ◌≤◌, arith, length, drop, rules, not-true, not-false}
+use Rattle.lists.proofs.Kit.{◌≡◌, ◌+◌, ◌-◌, ◌≤◌, length, drop}
 use Rattle.margins.specs.Margins.{indent_of}
-use Rattle.margins.proofs.Edging.{indent_on, indent_stop, indent_end}
 use Rattle.margins.proofs.indent.Given as goal
 
 abbrev pub invariant-loop-i : goal.invariant-loop-i

@@ -1,6 +1,6 @@
 -- `margins::last_non_blank` meets its contract: the row up to its last character that is no white space, less one.
 -- Assumes nothing.
-use Rattle.lists.proofs.Kit.{refl, ap, arith, rules}
+use Rattle.lists.proofs.Kit.{refl, ap, arith}
 use Rattle.chars.specs.White.{whites}
 use Rattle.text.specs.Text.{row_at}
 use Rattle.text.proofs.Parts.{row_fits}

@@ -1,7 +1,7 @@
 -- `margins::solid` meets its contract. The invariant of its loop: from n on all is white space. The measure is n.
 -- Assumes nothing.
-use Rattle.lists.proofs.Kit.{sym, ◌∙◌, rules, not-true, not-false}
-use Rattle.margins.proofs.Edging.{SolidTo, solid_start, solid_on, solid_stop, solid_end}
+use Rattle.lists.proofs.Kit.{sym, ◌∙◌}
+use Rattle.margins.proofs.Edging.{solid_start, solid_on, solid_stop, solid_end}
 use Rattle.margins.proofs.solid.Goals as goal
 
 pub white_in-requires : goal.white_in-requires

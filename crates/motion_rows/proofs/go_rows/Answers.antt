@@ -1,5 +1,5 @@
 -- `go_rows` meets its contract: the table's number in the answer's place, or the first entry's answer by a row from the table. Assumes nothing.
-use Rattle.lists.proofs.Kit.{sym, ap, ◌∙◌, ℕ, rules}
+use Rattle.lists.proofs.Kit.{sym, ap, ◌∙◌, ℕ}
 use Rattle.text.specs.Text.{row_count}
 use Rattle.text_rows.specs.declared.Found.{Found}
 use Rattle.row_table.specs.Table.{table_refusal}

@@ -1,5 +1,5 @@
 -- `or_table` meets its contract, answer by answer. Assumes nothing.
-use Rattle.lists.proofs.Kit.{rules, eq-eqb, ne_eqb}
+use Rattle.lists.proofs.Kit.{eq-eqb, ne_eqb}
 use Rattle.motion_rows.specs.Going.{or_table}
 use Rattle.motion_rows.proofs.or_table.Goals as goal
 

@@ -1,6 +1,6 @@
 -- `enter` meets its contract: it goes through the checks in the order of the table.
 -- Assumes nothing.
-use Rattle.lists.proofs.Kit.{◌≡◌, ap, sym, ◌∙◌, List, ℕ, arith, rules}
+use Rattle.lists.proofs.Kit.{◌≡◌, ap, sym, ◌∙◌, List, ℕ, arith}
 use Rattle.text.specs.Text.{row_count, row_len, content_rows}
 use Rattle.text.specs.Offsets.{line_at}
 use Rattle.text.specs.declared.Line.{Line}

@@ -1,4 +1,4 @@
-use Rattle.lists.proofs.Kit.{rules, eq-eqb, ne_eqb}
+use Rattle.lists.proofs.Kit.{eq-eqb, ne_eqb}
 use Rattle.positions.specs.Positions.{or_folds}
 use Rattle.positions.proofs.or_folds.Goals as goal
 

@@ -1,5 +1,5 @@
 -- `or_sought` meets its contract: 1, then the character sought, then the rest. Assumes nothing.
-use Rattle.lists.proofs.Kit.{sym, ◌∙◌, rules, eq-eqb, ne_eqb, not-true, not-false}
+use Rattle.lists.proofs.Kit.{sym, ◌∙◌, eq-eqb, ne_eqb}
 use Rattle.positions.specs.Positions.{or_sought}
 use Rattle.positions.proofs.or_sought.Goals as goal
 

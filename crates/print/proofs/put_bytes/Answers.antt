@@ -1,9 +1,7 @@
 -- `print::put_bytes` meets its contract. The invariant of its loop: the first i bytes are written. The measure is the length less i.
 -- Assumes nothing.
-use Rattle.lists.proofs.Kit.{List, ℕ, ◌+◌, ◌-◌, ◌≤◌, add-zero, arith, length, take, rules}
-use Rattle.print.specs.Print.{Wrote}
+use Rattle.lists.proofs.Kit.{◌-◌, add-zero, arith}
 use Rattle.print.proofs.Laws.{wrote_none, wrote_byte, wrote_bytes}
-use Rattle.print.proofs.put_bytes.Invariants.{Put}
 use Rattle.print.proofs.put_bytes.Goals as goal
 
 pub loop-i-init : goal.loop-i-init

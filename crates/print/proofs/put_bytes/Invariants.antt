@@ -1,8 +1,7 @@
 -- `print::put_bytes` meets its contract. The invariant of its loop: the first i bytes are written. The measure is the length less i.
 -- Assumes nothing.
-use Rattle.lists.proofs.Kit.{List, ℕ, ◌+◌, ◌-◌, ◌≤◌, add-zero, arith, length, take, rules}
+use Rattle.lists.proofs.Kit.{List, ℕ, ◌+◌, ◌-◌, ◌≤◌, length, take}
 use Rattle.print.specs.Print.{Wrote}
-use Rattle.print.proofs.Laws.{wrote_none, wrote_byte, wrote_bytes}
 use Rattle.print.proofs.put_bytes.Given as goal
 
 pub record Put (out₀ : List ℕ) (at : ℕ) (s out : List ℕ) (i : ℕ) : Type 0 where

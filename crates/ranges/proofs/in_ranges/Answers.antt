@@ -1,6 +1,6 @@
 -- `ranges::in_ranges` meets its contract: the last range that starts at x or before decides, and there is none where x is before every start.
 -- Assumes nothing.
-use Rattle.lists.proofs.Kit.{sym, ◌-◌, arith, rules}
+use Rattle.lists.proofs.Kit.{sym, ◌-◌, arith}
 use Rattle.ranges.proofs.Lengths.{apart_starts, apart_length, before_all, last_of}
 use Rattle.ranges.proofs.in_ranges.Goals as goal
 

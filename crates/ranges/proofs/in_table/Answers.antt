@@ -1,5 +1,4 @@
 -- `ranges::in_table` meets its contract: a number lies in a range where the bounds up to it are odd in number. Assumes nothing.
-use borrow.Author.Rules.{rules}
 use Rattle.ranges.proofs.Bounds.{up_to_odd}
 use Rattle.ranges.proofs.in_table.Goals as goal
 

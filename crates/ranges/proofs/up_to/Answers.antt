@@ -1,6 +1,6 @@
 -- `ranges::up_to` meets its contract: x is below the third number, and so below all after it, or the whole table is searched.
 -- Assumes nothing.
-use Rattle.lists.proofs.Kit.{arith, rules}
+use Rattle.lists.proofs.Kit.{arith}
 use Rattle.ranges.proofs.Ascending.{ascending_le}
 use Rattle.ranges.proofs.up_to.Goals as goal
 

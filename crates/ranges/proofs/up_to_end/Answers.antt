@@ -1,7 +1,7 @@
 -- `ranges::up_to_end` meets its contract. The invariant of its loop: the numbers before `low` are at most x, those from `high` on are
 -- above it. The measure is what lies between. Assumes nothing.
-use Rattle.lists.proofs.Kit.{◌≡◌, ◌+◌, ◌-◌, ◌/◌, arith, rules}
-use Rattle.ranges.proofs.Search.{Search, search_up, search_down, search_found}
+use Rattle.lists.proofs.Kit.{◌≡◌, ◌+◌, ◌-◌, ◌/◌, arith}
+use Rattle.ranges.proofs.Search.{search_up, search_down, search_found}
 use Rattle.ranges.proofs.up_to_end.Goals as goal
 
 pub loop-low-init : goal.loop-low-init

@@ -1,5 +1,5 @@
 -- `by_class` meets its contract: the test of the definition, and the slice that is lent. Assumes nothing.
-use Rattle.lists.proofs.Kit.{sym, replicate, length-take-le, rules, le-leb, lt-leb}
+use Rattle.lists.proofs.Kit.{sym, replicate, length-take-le, le-leb, lt-leb}
 use Rattle.replay_verdicts.proofs.Comparing.{take_replicate}
 use Rattle.replay_classes.specs.Classes.{class_verdict}
 use Rattle.replay_classes.proofs.by_class.Goals as goal

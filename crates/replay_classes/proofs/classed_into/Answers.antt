@@ -1,5 +1,4 @@
 -- `classed_into` meets its contract: what the call answers, and leaves in the places and in the slice, is compared. Assumes nothing.
-use borrow.Author.Rules.{rules}
 use Rattle.replay_verdicts.proofs.Comparing.{places_count}
 use Rattle.replay_classes.specs.Classes.{classed_into}
 use Rattle.replay_classes.proofs.Parts.{slice_compared, moved_sized}

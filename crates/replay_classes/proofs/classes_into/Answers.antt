@@ -1,5 +1,4 @@
 -- `classes_into` meets its contract: what the call answers, and leaves in its place and in the slice, is compared. Assumes nothing.
-use borrow.Author.Rules.{rules}
 use Rattle.word_classes.specs.Call.{written_of}
 use Rattle.call_classes.specs.Classed.{told_written}
 use Rattle.replay_verdicts.proofs.Comparing.{told_sized, places_count}

@@ -1,5 +1,5 @@
 -- `compared_all` meets its contract: the number with the places first, and then the bytes. Assumes nothing.
-use Rattle.lists.proofs.Kit.{sym, ap, ◌∙◌, ◌∷◌, ◌+◌, ◌-◌, arith, length, drop, length-drop, take_all, length-take-le, rules}
+use Rattle.lists.proofs.Kit.{sym, ap, ◌∙◌, ◌∷◌, ◌+◌, ◌-◌, arith, length, drop, length-drop, take_all, length-take-le}
 use Rattle.replay_verdicts.specs.Answers.{compared}
 use Rattle.replay_classes.proofs.Parts.{parts_short, parts_agree, parts_differ, parts_formed}
 use Rattle.replay_classes.proofs.compared_all.Goals as goal

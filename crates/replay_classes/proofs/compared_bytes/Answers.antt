@@ -1,4 +1,4 @@
-use Rattle.lists.proofs.Kit.{sym, ◌∙◌, rules}
+use Rattle.lists.proofs.Kit.{sym, ◌∙◌}
 use Rattle.replay_verdicts.specs.Answers.{compared}
 use Rattle.replay_classes.proofs.compared_bytes.Goals as goal
 

@@ -1,5 +1,5 @@
 -- `into` meets its contract, by the operation. Assumes nothing.
-use Rattle.lists.proofs.Kit.{rules, eq-eqb, ne_eqb}
+use Rattle.lists.proofs.Kit.{eq-eqb, ne_eqb}
 use Rattle.replay_classes.specs.Classes.{answered}
 use Rattle.replay_classes.proofs.into.Goals as goal
 

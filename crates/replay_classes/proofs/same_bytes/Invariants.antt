@@ -1,7 +1,6 @@
 -- `same_bytes` meets its contract. The invariant of its loop: both are the same before i. The measure is the length less i. Assumes nothing.
-use Rattle.lists.proofs.Kit.{sym, ◌-◌, arith, length, rules}
-use Rattle.lists.proofs.Same.{same_long}
-use Rattle.replay_verdicts.proofs.SameTo.{SameTo, same_to_start, same_to_stop, same_to_on, same_to_end}
+use Rattle.lists.proofs.Kit.{◌-◌, length}
+use Rattle.replay_verdicts.proofs.SameTo.{SameTo}
 use Rattle.replay_classes.proofs.same_bytes.Given as goal
 
 abbrev pub invariant-loop-i : goal.invariant-loop-i

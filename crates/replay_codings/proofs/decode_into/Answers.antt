@@ -1,5 +1,4 @@
 -- `decode_into` meets its contract: what the call answers, and leaves in both lent places, is compared. Assumes nothing.
-use borrow.Author.Rules.{rules}
 use Rattle.replay_codings.proofs.Coded.{decoded_compared}
 use Rattle.replay_codings.proofs.decode_into.Goals as goal
 

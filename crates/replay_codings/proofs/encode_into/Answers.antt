@@ -1,5 +1,5 @@
 -- `encode_into` meets its contract: what the call answers, and leaves in both lent places, is compared. Assumes nothing.
-use Rattle.lists.proofs.Kit.{◌∙◌, rules}
+use Rattle.lists.proofs.Kit.{◌∙◌}
 use Rattle.replay_codings.proofs.Coded.{encoded_compared}
 use Rattle.replay_codings.proofs.encode_into.Goals as goal
 

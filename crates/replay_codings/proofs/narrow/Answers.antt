@@ -1,11 +1,9 @@
 -- `narrow` meets its contract. The invariant of its loop: the numbers before i are bytes, and stand in the places. The measure is the length
 -- less i. Assumes nothing.
-use Rattle.lists.proofs.Kit.{◌≡◌, ap, sym, ◌∙◌, List, false, not, ℕ, ◌-◌, ◌≤◌, arith, length, get_or, take, drop, length-set, take_all, rules, lt-ltb, le-ltb}
-use Rattle.lists.specs.Lists.{any}
+use Rattle.lists.proofs.Kit.{◌≡◌, ap, sym, ◌∙◌, false, not, ◌-◌, arith, length, get_or, length-set, take_all, lt-ltb, le-ltb}
 use Rattle.lists.proofs.Any.{any_on, any_end, any_there}
 use Rattle.replay_codings.specs.Codings.{is_wide}
 use Rattle.replay_codings.proofs.Coded.{take_on, no_true}
-use Rattle.replay_codings.proofs.narrow.Invariants.{Narrowed}
 use Rattle.replay_codings.proofs.narrow.Goals as goal
 
 -- a number that is no byte

@@ -1,10 +1,8 @@
 -- `narrow` meets its contract. The invariant of its loop: the numbers before i are bytes, and stand in the places. The measure is the length
 -- less i. Assumes nothing.
-use Rattle.lists.proofs.Kit.{◌≡◌, ap, sym, ◌∙◌, List, false, not, ℕ, ◌-◌, ◌≤◌, arith, length, get_or, take, drop, length-set, take_all, rules, lt-ltb, le-ltb}
+use Rattle.lists.proofs.Kit.{◌≡◌, List, ℕ, ◌-◌, ◌≤◌, length, take, drop}
 use Rattle.lists.specs.Lists.{any}
-use Rattle.lists.proofs.Any.{any_on, any_end, any_there}
 use Rattle.replay_codings.specs.Codings.{is_wide}
-use Rattle.replay_codings.proofs.Coded.{take_on, no_true}
 use Rattle.replay_codings.proofs.narrow.Given as goal
 
 pub record Narrowed (numbers bytes₀ bytes : List ℕ) (i : ℕ) : Type 0 where

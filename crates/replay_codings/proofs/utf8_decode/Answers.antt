@@ -1,5 +1,5 @@
 -- `utf8_decode` meets its contract: the tests of the definition in their order. Assumes nothing.
-use Rattle.lists.proofs.Kit.{sym, ◌∙◌, arith, length-take-le, rules, le-leb, lt-leb, not-true, not-false}
+use Rattle.lists.proofs.Kit.{sym, ◌∙◌, arith, length-take-le, rules, le-leb, lt-leb}
 use Rattle.replay_verdicts.specs.Answers.{filler}
 use Rattle.replay_verdicts.proofs.Comparing.{take_replicate}
 use Rattle.replay_codings.specs.Codings.{decode_verdict}

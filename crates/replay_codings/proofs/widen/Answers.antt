@@ -1,7 +1,6 @@
 -- `widen` meets its contract. The invariant of its loop: the first i bytes stand in the places. The measure is the length less i. Assumes nothing.
-use Rattle.lists.proofs.Kit.{◌≡◌, refl, sym, ◌∙◌, List, ℕ, ◌-◌, ◌≤◌, arith, length, take, length-set, take_all, rules}
+use Rattle.lists.proofs.Kit.{refl, sym, ◌∙◌, ◌-◌, arith, length-set, take_all, rules}
 use Rattle.replay_codings.proofs.Coded.{take_on}
-use Rattle.replay_codings.proofs.widen.Invariants.{Widened}
 use Rattle.replay_codings.proofs.widen.Goals as goal
 
 pub loop-i-init : goal.loop-i-init

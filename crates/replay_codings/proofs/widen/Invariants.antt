@@ -1,6 +1,5 @@
 -- `widen` meets its contract. The invariant of its loop: the first i bytes stand in the places. The measure is the length less i. Assumes nothing.
-use Rattle.lists.proofs.Kit.{◌≡◌, refl, sym, ◌∙◌, List, ℕ, ◌-◌, ◌≤◌, arith, length, take, length-set, take_all, rules}
-use Rattle.replay_codings.proofs.Coded.{take_on}
+use Rattle.lists.proofs.Kit.{◌≡◌, List, ℕ, ◌-◌, ◌≤◌, length, take}
 use Rattle.replay_codings.proofs.widen.Given as goal
 
 pub record Widened (bytes numbers₀ numbers : List ℕ) (i : ℕ) : Type 0 where

@@ -1,5 +1,5 @@
 -- `edit` meets its contract: the tests of the definition, and the buffers that are lent. Assumes nothing.
-use Rattle.lists.proofs.Kit.{sym, arith, length-take-le, rules, le-leb, lt-leb}
+use Rattle.lists.proofs.Kit.{sym, arith, length-take-le, le-leb, lt-leb}
 use Rattle.replay_edits.specs.Edits.{edit_verdict}
 use Rattle.replay_edits.proofs.Comparing.{lent_front}
 use Rattle.replay_edits.proofs.edit.Goals as goal

@@ -1,5 +1,4 @@
 -- `edited` meets its contract, by the operation. Assumes nothing.
-use borrow.Author.Rules.{rules}
 use Rattle.replay_edits.proofs.Comparing.{to_insert, put_insert, to_delete, put_delete}
 use Rattle.replay_edits.proofs.edited.Goals as goal
 

@@ -1,7 +1,6 @@
 -- `put_all` meets its contract. The invariant of its loop: the first i numbers are written. The measure is the length less i.
 -- Assumes nothing.
-use Rattle.lists.proofs.Kit.{◌+◌, ◌-◌, ◌≤◌, add-zero, length, take, rules}
-use Rattle.print.specs.Print.{Wrote}
+use Rattle.lists.proofs.Kit.{◌-◌, add-zero, rules}
 use Rattle.print.proofs.Laws.{wrote_none, wrote_byte, wrote_bytes}
 use Rattle.replay_edits.proofs.put_all.Goals as goal
 

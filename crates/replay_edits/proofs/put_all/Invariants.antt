@@ -1,8 +1,7 @@
 -- `put_all` meets its contract. The invariant of its loop: the first i numbers are written. The measure is the length less i.
 -- Assumes nothing.
-use Rattle.lists.proofs.Kit.{◌+◌, ◌-◌, ◌≤◌, add-zero, length, take, rules}
+use Rattle.lists.proofs.Kit.{◌+◌, ◌-◌, ◌≤◌, length, take}
 use Rattle.print.specs.Print.{Wrote}
-use Rattle.print.proofs.Laws.{wrote_none, wrote_byte, wrote_bytes}
 use Rattle.replay_edits.proofs.put_all.Given as goal
 
 abbrev pub invariant-loop-i : goal.invariant-loop-i

@@ -1,5 +1,5 @@
 -- `fold_file` meets its contract, by the operation. Assumes nothing.
-use Rattle.lists.proofs.Kit.{rules, eq-eqb, ne_eqb}
+use Rattle.lists.proofs.Kit.{eq-eqb, ne_eqb}
 use Rattle.replay_fold_file.specs.FoldFiles.{file_verdict}
 use Rattle.replay_fold_file.proofs.fold_file.Goals as goal
 

@@ -1,5 +1,5 @@
 -- `folds_read` meets its contract: the tests of the definition in their order. Assumes nothing.
-use Rattle.lists.proofs.Kit.{sym, ◌∙◌, arith, replicate, length-take-le, rules, le-leb, lt-leb, not-true, not-false}
+use Rattle.lists.proofs.Kit.{sym, ◌∙◌, arith, replicate, length-take-le, le-leb, lt-leb}
 use Rattle.replay_verdicts.specs.Answers.{filler}
 use Rattle.replay_verdicts.proofs.Comparing.{take_replicate}
 use Rattle.replay_fold_file.specs.FoldFiles.{read_verdict}

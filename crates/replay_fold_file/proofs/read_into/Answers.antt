@@ -1,5 +1,4 @@
 -- `read_into` meets its contract: what the call answers, and leaves in both lent places, is compared. Assumes nothing.
-use borrow.Author.Rules.{rules}
 use Rattle.replay_fold_file.proofs.Filed.{loaded_compared}
 use Rattle.replay_fold_file.proofs.read_into.Goals as goal
 

@@ -1,5 +1,5 @@
 -- `write_into` meets its contract: what the call answers, and leaves in both lent places, is compared. Assumes nothing.
-use Rattle.lists.proofs.Kit.{◌∙◌, rules}
+use Rattle.lists.proofs.Kit.{◌∙◌}
 use Rattle.replay_fold_file.proofs.Filed.{written_compared}
 use Rattle.replay_fold_file.proofs.write_into.Goals as goal
 

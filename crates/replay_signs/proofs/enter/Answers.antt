@@ -1,5 +1,4 @@
 -- `enter` meets its contract: what the call answers and leaves is compared. Assumes nothing.
-use borrow.Author.Rules.{rules}
 use Rattle.call_signs.specs.Entry.{entering}
 use Rattle.replay_verdicts.proofs.Comparing.{places_count}
 use Rattle.replay_signs.proofs.Entering.{placed_sized, entered_compared}

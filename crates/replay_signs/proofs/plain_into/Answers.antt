@@ -1,5 +1,4 @@
 -- `plain_into` meets its contract: what the call answers, and leaves in both lent places, is compared. Assumes nothing.
-use borrow.Author.Rules.{rules}
 use Rattle.call_signs.specs.Plain.{plain_told}
 use Rattle.replay_signs.specs.Signs.{plain_into}
 use Rattle.replay_verdicts.proofs.Comparing.{wrapped_compared}

@@ -1,5 +1,5 @@
 -- `vim` meets its contract: the operation decides. Assumes nothing.
-use Rattle.lists.proofs.Kit.{rules, eq-eqb, ne_eqb}
+use Rattle.lists.proofs.Kit.{eq-eqb, ne_eqb}
 use Rattle.replay_vim.specs.Vim.{vim_verdict}
 use Rattle.replay_vim.proofs.vim.Goals as goal
 

@@ -1,5 +1,4 @@
 -- `vim_list` meets its contract: what the call answers and leaves is compared. Assumes nothing.
-use borrow.Author.Rules.{rules}
 use Rattle.call_vim.specs.Vim.{vim_by}
 use Rattle.replay_verdicts.proofs.Comparing.{places_count}
 use Rattle.replay_vim.proofs.Placing.{placed_sized, list_compared}

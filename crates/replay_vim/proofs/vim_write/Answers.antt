@@ -1,5 +1,5 @@
 -- `vim_write` meets its contract: the test of the definition, and the places that are lent. Assumes nothing.
-use Rattle.lists.proofs.Kit.{sym, replicate, length-take-le, rules, le-leb, lt-leb}
+use Rattle.lists.proofs.Kit.{sym, replicate, length-take-le, le-leb, lt-leb}
 use Rattle.replay_verdicts.specs.Answers.{filler}
 use Rattle.replay_verdicts.proofs.Comparing.{take_replicate}
 use Rattle.replay_vim.specs.Vim.{vim_write_verdict}

@@ -1,5 +1,4 @@
 -- `word_vim` meets its contract: what the call answers and leaves is compared. Assumes nothing.
-use borrow.Author.Rules.{rules}
 use Rattle.replay_verdicts.proofs.Comparing.{places_count}
 use Rattle.replay_vim.proofs.Placing.{word_sized, word_compared}
 use Rattle.replay_vim.proofs.word_vim.Goals as goal

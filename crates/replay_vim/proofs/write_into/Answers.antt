@@ -1,5 +1,4 @@
 -- `write_into` meets its contract: what the call answers, and leaves in both lent places, is compared. Assumes nothing.
-use borrow.Author.Rules.{rules}
 use Rattle.replay_vim.proofs.Placing.{written_compared}
 use Rattle.replay_vim.proofs.write_into.Goals as goal
 

@@ -1,8 +1,7 @@
 -- `row_cells::cells_in` meets its contract. The invariant of its loop: `sum` is the cells of the characters before i.
 -- The measure is the row's length less i. Assumes nothing.
-use Rattle.lists.proofs.Kit.{◌-◌, arith, length, rules}
-use Rattle.chars.specs.Width.{width_by}
-use Rattle.row_cells.proofs.Fits.{CellsTo, cells_next, cells_end}
+use Rattle.lists.proofs.Kit.{◌-◌, arith}
+use Rattle.row_cells.proofs.Fits.{cells_next, cells_end}
 use Rattle.row_cells.proofs.cells_in.Goals as goal
 
 pub loop-i-init : goal.loop-i-init

@@ -1,4 +1,4 @@
-use Rattle.lists.proofs.Kit.{sym, max-eq_right, arith, rules}
+use Rattle.lists.proofs.Kit.{sym, max-eq_right, arith}
 use Rattle.chars.proofs.Facts.{width_most}
 use Rattle.row_cells.proofs.cells_of.Goals as goal
 

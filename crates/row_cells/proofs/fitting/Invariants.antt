@@ -1,8 +1,8 @@
 -- `row_cells::fitting` meets its contract. The invariant of its loop: the characters before i go into the room and leave `left` cells.
 -- The measure is the row's length less i. Assumes nothing.
-use Rattle.lists.proofs.Kit.{◌-◌, arith, length, rules}
+use Rattle.lists.proofs.Kit.{◌-◌, length}
 use Rattle.chars.specs.Width.{width_by}
-use Rattle.row_cells.proofs.Fits.{FitsTo, fits_next, fits_here, fits_end}
+use Rattle.row_cells.proofs.Fits.{FitsTo}
 use Rattle.row_cells.proofs.fitting.Given as goal
 
 abbrev pub invariant-loop-i : goal.invariant-loop-i

@@ -1,4 +1,4 @@
-use Rattle.lists.proofs.Kit.{rules, eq-eqb, ne_eqb}
+use Rattle.lists.proofs.Kit.{eq-eqb, ne_eqb}
 use Rattle.row_columns.proofs.Accepted.{ready}
 use Rattle.row_columns.proofs.char_col_in.Goals as goal
 

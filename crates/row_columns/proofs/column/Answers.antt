@@ -1,5 +1,4 @@
 -- `row_columns::column` meets its contract: a refusal is handed on, and what is not refused is ready for the walk, setting by setting. Assumes nothing.
-use borrow.Author.Rules.{rules}
 use Rattle.row_check.proofs.Answers.{answer_refused, answer_at_lem}
 use Rattle.row_tabs.proofs.Accepted.{brief, near}
 use Rattle.row_columns.proofs.column.Goals as goal

@@ -1,5 +1,4 @@
 -- `row_columns::column_in` meets its contract, by what is asked for. Assumes nothing.
-use borrow.Author.Rules.{rules}
 use Rattle.row_columns.proofs.column_in.Goals as goal
 
 pub returns-in-Char : goal.returns-in-Char

@@ -1,5 +1,5 @@
 -- `row_columns::cursor_at` meets its contract: past the row's end stands no tab, and a tab has a last cell. Assumes nothing.
-use Rattle.lists.proofs.Kit.{arith, rules}
+use Rattle.lists.proofs.Kit.{arith}
 use Rattle.chars.specs.Width.{width_by}
 use Rattle.row_columns.proofs.Cursor.{cursor_past, cursor_tab, cursor_other, tab_ends}
 use Rattle.row_columns.proofs.cursor_at.Goals as goal

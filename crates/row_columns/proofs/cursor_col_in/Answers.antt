@@ -1,4 +1,3 @@
-use borrow.Author.Rules.{rules}
 use Rattle.row_columns.proofs.Accepted.{ready}
 use Rattle.row_columns.proofs.cursor_col_in.Goals as goal
 

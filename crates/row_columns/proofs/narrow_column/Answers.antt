@@ -1,5 +1,5 @@
 -- `row_columns::narrow_column` meets its contract: the tables that it lends are those of the setting. Assumes nothing.
-use Rattle.lists.proofs.Kit.{refl, ℕ, rules}
+use Rattle.lists.proofs.Kit.{refl, ℕ}
 use Rattle.chars.specs.Width.{zero_widths, double_widths}
 use Rattle.widths.specs.declared.Ambiguous.TheVariants.{Narrow}
 use Rattle.widths.proofs.Lent.{doubles_of, by_width, widths_lent}

@@ -1,9 +1,7 @@
 -- `row_columns::visual_at` meets its contract. The invariant of its loop: `visual` is the visual column of character i, and i has not passed `col`.
 -- The measure is the row's length less i. Assumes nothing.
-use Rattle.lists.proofs.Kit.{List, ℕ, ◌-◌, ◌≤◌, arith, length, rules}
-use Rattle.chars.specs.Width.{width_by}
-use Rattle.row_columns.proofs.Visual.{VisualTo, visual_start, visual_on, visual_stop, visual_end}
-use Rattle.row_columns.proofs.visual_at.Invariants.{Walked}
+use Rattle.lists.proofs.Kit.{◌-◌, arith}
+use Rattle.row_columns.proofs.Visual.{visual_start, visual_on, visual_stop, visual_end}
 use Rattle.row_columns.proofs.visual_at.Goals as goal
 
 pub loop-i-init : goal.loop-i-init

@@ -1,5 +1,5 @@
 -- `row_columns::wide_column` meets its contract: the tables that it lends are those of the setting. Assumes nothing.
-use Rattle.lists.proofs.Kit.{refl, ℕ, rules}
+use Rattle.lists.proofs.Kit.{refl, ℕ}
 use Rattle.chars.specs.Width.{zero_widths}
 use Rattle.widths.specs.declared.Ambiguous.TheVariants.{Wide}
 use Rattle.widths.proofs.WideTable.{wide_doubles}

@@ -1,5 +1,5 @@
 -- `end_of` meets its contract: a row ends before the separator that the next one starts behind, and the last one with the text. Assumes nothing.
-use Rattle.lists.proofs.Kit.{arith, rules}
+use Rattle.lists.proofs.Kit.{arith}
 use Rattle.text.proofs.Parts.{next_start_lem}
 use Rattle.row_entries.proofs.Rows.{end_next, end_last}
 use Rattle.row_entries.proofs.end_of.Goals as goal

@@ -1,5 +1,5 @@
 -- `enter_by` meets its contract: the checks of a position, by the table. Assumes nothing.
-use Rattle.lists.proofs.Kit.{arith, rules}
+use Rattle.lists.proofs.Kit.{arith}
 use Rattle.positions.specs.Positions.{refusal_at}
 use Rattle.positions.proofs.Checks.{refusal_row_lem, refusal_col, refusal_none, by_refused, by_none}
 use Rattle.row_entries.proofs.enter_by.Goals as goal

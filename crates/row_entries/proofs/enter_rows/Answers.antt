@@ -1,5 +1,5 @@
 -- `enter_rows` meets its contract: text, position, table, in that order. Assumes nothing.
-use Rattle.lists.proofs.Kit.{sym, ◌∙◌, ap, ℕ, rules}
+use Rattle.lists.proofs.Kit.{sym, ◌∙◌, ap, ℕ}
 use Rattle.row_table.specs.Table.{table_refusal}
 use Rattle.positions.proofs.Checks.{refusal_text, entry_number}
 use Rattle.row_entries.proofs.Rows.{table_held, with_refused, with_entered, with_table, with_other}

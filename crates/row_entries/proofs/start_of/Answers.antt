@@ -1,5 +1,5 @@
 -- `start_of` meets its contract: the table is the text's. Assumes nothing.
-use Rattle.lists.proofs.Kit.{arith, rules}
+use Rattle.lists.proofs.Kit.{arith}
 use Rattle.row_entries.proofs.Rows.{start_by}
 use Rattle.row_entries.proofs.start_of.Goals as goal
 

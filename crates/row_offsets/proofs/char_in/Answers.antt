@@ -1,4 +1,4 @@
-use Rattle.lists.proofs.Kit.{arith, rules}
+use Rattle.lists.proofs.Kit.{arith}
 use Rattle.chars.specs.Width.{width_by}
 use Rattle.row_offsets.proofs.Places.{offset_inside, offset_past}
 use Rattle.row_offsets.proofs.char_in.Goals as goal

@@ -1,7 +1,7 @@
 -- `row_offsets::index_of` meets its contract. The invariant of its loop: no pair before k holds the column.
 -- The measure is the number of pairs less k. Assumes nothing.
-use Rattle.lists.proofs.Kit.{sym, ◌∙◌, ◌-◌, arith, rules}
-use Rattle.row_cells.proofs.Pairs.{PairsTo, pairs_next, pairs_stop, pairs_end}
+use Rattle.lists.proofs.Kit.{sym, ◌∙◌, ◌-◌, arith}
+use Rattle.row_cells.proofs.Pairs.{pairs_next, pairs_stop, pairs_end}
 use Rattle.row_offsets.proofs.index_of.Goals as goal
 
 pub loop-k-init : goal.loop-k-init

@@ -1,5 +1,5 @@
 -- `row_offsets::offset_in` meets its contract, by what is asked for: a part of a row is no longer than the row. Assumes nothing.
-use Rattle.lists.proofs.Kit.{arith, rules}
+use Rattle.lists.proofs.Kit.{arith}
 use Rattle.row_offsets.proofs.Places.{part_most}
 use Rattle.row_offsets.proofs.offset_in.Goals as goal
 

@@ -1,5 +1,5 @@
 -- `row_offsets::offset_of` meets its contract: a refusal is handed on, and what is not refused is walked, setting by setting. Assumes nothing.
-use Rattle.lists.proofs.Kit.{sym, ◌∙◌, rules}
+use Rattle.lists.proofs.Kit.{sym, ◌∙◌}
 use Rattle.row_check.proofs.Answers.{answer_refused, answer_at_lem, accepted_brief}
 use Rattle.row_offsets.proofs.offset_of.Goals as goal
 

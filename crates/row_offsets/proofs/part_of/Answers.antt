@@ -1,5 +1,4 @@
 -- `row_offsets::part_of` meets its contract: both ends are brought into the row. Assumes nothing.
-use borrow.Author.Rules.{rules}
 use Rattle.row_offsets.proofs.Places.{part_is}
 use Rattle.row_offsets.proofs.part_of.Goals as goal
 

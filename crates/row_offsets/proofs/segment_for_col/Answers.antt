@@ -1,4 +1,4 @@
-use Rattle.lists.proofs.Kit.{ap, rules, eq-eqb, ne_eqb}
+use Rattle.lists.proofs.Kit.{ap, eq-eqb, ne_eqb}
 use Rattle.row_offsets.specs.declared.Segment.TheVariants.{At}
 use Rattle.row_offsets.proofs.segment_for_col.Goals as goal
 

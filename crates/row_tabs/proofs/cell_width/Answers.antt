@@ -1,4 +1,4 @@
-use Rattle.lists.proofs.Kit.{sym, ◌∙◌, arith, rules}
+use Rattle.lists.proofs.Kit.{sym, ◌∙◌, arith}
 use Rattle.chars.specs.Width.{width_by}
 use Rattle.chars.proofs.Facts.{width_most}
 use Rattle.row_tabs.proofs.Accepted.{cells_tab, cells_other}

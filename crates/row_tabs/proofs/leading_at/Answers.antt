@@ -1,7 +1,7 @@
 -- `row_tabs::leading_at` meets its contract. The invariant of its loop: all before i are blanks, and `visual` is where they end.
 -- The measure is the row's length less i. Assumes nothing.
-use Rattle.lists.proofs.Kit.{refl, ◌-◌, arith, length, rules}
-use Rattle.row_tabs.proofs.Leading.{LeadingTo, leading_on_space, leading_on_tab, leading_stop, leading_end}
+use Rattle.lists.proofs.Kit.{refl, ◌-◌, arith}
+use Rattle.row_tabs.proofs.Leading.{leading_on_space, leading_on_tab, leading_stop, leading_end}
 use Rattle.row_tabs.proofs.leading_at.Goals as goal
 
 pub loop-i-init : goal.loop-i-init

@@ -1,5 +1,5 @@
 -- `row_tabs::leading_visual_width` meets its contract: a refusal is handed on, and what is not refused is ready for the walk. Assumes nothing.
-use Rattle.lists.proofs.Kit.{ap, ◌∙◌, ℕ, rules}
+use Rattle.lists.proofs.Kit.{ap, ◌∙◌, ℕ}
 use Rattle.row_tabs.proofs.Accepted.{brief, stops}
 use Rattle.row_tabs.specs.Indents.{leading_from}
 use Rattle.row_check.proofs.Answers.{answer_refused, answer_at_lem}

@@ -1,5 +1,5 @@
 -- `row_tabs::refused` meets its contract: the numbers in the order of document 01. Assumes nothing.
-use Rattle.lists.proofs.Kit.{rules, eq-eqb, ne_eqb, lt-ltb, le-ltb}
+use Rattle.lists.proofs.Kit.{eq-eqb, ne_eqb, lt-ltb, le-ltb}
 use Rattle.row_tabs.specs.Cells.{column_refusal}
 use Rattle.row_tabs.proofs.refused.Goals as goal
 

@@ -1,4 +1,3 @@
-use borrow.Author.Rules.{rules}
 use Rattle.screen_segments.proofs.ahead_of.Goals as goal
 
 pub returns-then-down : goal.returns-then-down

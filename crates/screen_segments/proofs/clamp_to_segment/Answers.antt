@@ -1,4 +1,3 @@
-use borrow.Author.Rules.{rules}
 use Rattle.screen_segments.proofs.clamp_to_segment.Goals as goal
 
 pub returns : goal.returns

@@ -1,8 +1,7 @@
 -- `screen_segments::find_segment` meets its contract. The invariant of its loop: k segments are passed, none of them the one looked for.
 -- The measure is the row's length less the start of the next. Assumes nothing.
-use Rattle.lists.proofs.Kit.{◌-◌, arith, length, rules}
-use Rattle.chars.specs.Width.{width_by}
-use Rattle.screen_segments.proofs.Finding.{Seeking, seek_start, seek_void, seek_on, found_index, found_col, found_last}
+use Rattle.lists.proofs.Kit.{◌-◌, arith}
+use Rattle.screen_segments.proofs.Finding.{seek_start, seek_void, seek_on, found_index, found_col, found_last}
 use Rattle.screen_segments.proofs.find_segment.Goals as goal
 
 pub loop-start-init : goal.loop-start-init

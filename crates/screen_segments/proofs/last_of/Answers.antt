@@ -1,4 +1,4 @@
-use Rattle.lists.proofs.Kit.{arith, rules, lt-ltb, le-ltb}
+use Rattle.lists.proofs.Kit.{arith, lt-ltb, le-ltb}
 use Rattle.screen_segments.proofs.last_of.Goals as goal
 
 pub returns-then-start-end : goal.returns-then-start-end

@@ -1,5 +1,5 @@
 -- `screen_segments::segment_count` meets its contract: the last segment tells how many there are. Assumes nothing.
-use Rattle.lists.proofs.Kit.{arith, rules}
+use Rattle.lists.proofs.Kit.{arith}
 use Rattle.chars.specs.Width.{width_by}
 use Rattle.screen_segments.proofs.Finding.{last_counts}
 use Rattle.screen_segments.proofs.segment_count.Goals as goal

@@ -1,7 +1,7 @@
 -- `session::lines` meets its contract. The invariant of its loop: what was printed so far, and that the rest is still to come. The measure is
 -- the rest of the input. Assumes nothing.
-use Rattle.lists.proofs.Kit.{sym, ◌∙◌, ◌+◌, ◌-◌, arith, length, rules}
-use Rattle.session.proofs.Progress.{Progress, progress_start, progress_end, progress_room, progress_on, commands_stop, commands_end}
+use Rattle.lists.proofs.Kit.{sym, ◌∙◌, ◌-◌, arith}
+use Rattle.session.proofs.Progress.{progress_start, progress_end, progress_room, progress_on, commands_stop, commands_end}
 use Rattle.session.proofs.lines.Goals as goal
 
 pub loop-i-init : goal.loop-i-init

@@ -1,5 +1,5 @@
 -- `session::put_line` meets its contract: the line's pieces, one after another. Assumes nothing.
-use Rattle.lists.proofs.Kit.{arith, rules}
+use Rattle.lists.proofs.Kit.{arith}
 use Rattle.session.specs.Session.{shown_of}
 use Rattle.session.proofs.Lengths.{length_line, wrote_line}
 use Rattle.session.proofs.put_line.Goals as goal

@@ -1,5 +1,5 @@
 -- `session::put_shown` meets its contract, by the cases of the answer. Assumes nothing.
-use Rattle.lists.proofs.Kit.{ap, arith, length, rules}
+use Rattle.lists.proofs.Kit.{ap, arith, length}
 use Rattle.print.proofs.Laws.{wrote_then}
 use Rattle.session.proofs.Lengths.{shown_to, shown_unknown, shown_refused}
 use Rattle.session.proofs.put_shown.Goals as goal

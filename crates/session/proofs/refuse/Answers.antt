@@ -1,4 +1,3 @@
-use borrow.Author.Rules.{rules}
 use Rattle.lists.specs.Codes.{codes}
 use Rattle.session.proofs.refuse.Goals as goal
 

@@ -1,5 +1,4 @@
 -- `session::run` meets its contract: the room's first places hold the text. Assumes nothing.
-use borrow.Author.Rules.{rules}
 use Rattle.session.proofs.run.Goals as goal
 
 pub returns : goal.returns

@@ -1,5 +1,5 @@
 -- `session::session` meets its contract: an input is refused, or run. Assumes nothing.
-use Rattle.lists.proofs.Kit.{sym, ◌∙◌, arith, rules}
+use Rattle.lists.proofs.Kit.{sym, ◌∙◌, arith}
 use Rattle.session.proofs.Printing.{session_refused, session_runs, session_short, session_fits, printed}
 use Rattle.session.proofs.session.Goals as goal
 

@@ -1,5 +1,4 @@
 -- `session::turn` meets its contract, by the cases of the count. Assumes nothing.
-use borrow.Author.Rules.{rules}
 use Rattle.session.specs.Session.{counted}
 use Rattle.session.proofs.turn.Goals as goal
 

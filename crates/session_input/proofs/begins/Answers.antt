@@ -1,5 +1,5 @@
 -- `session_input::begins` meets its contract: each way that an input is refused, and where its text begins. Assumes nothing.
-use Rattle.lists.proofs.Kit.{sym, ◌∙◌, rules}
+use Rattle.lists.proofs.Kit.{sym, ◌∙◌}
 use Rattle.session_input.proofs.Inputs.{begin_long, begin_bad, begin_stop}
 use Rattle.session_input.proofs.TextRead.{check_good, check_bad}
 use Rattle.session_input.proofs.begins.Goals as goal

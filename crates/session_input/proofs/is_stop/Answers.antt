@@ -1,4 +1,3 @@
-use borrow.Author.Rules.{rules}
 use Rattle.lists.specs.Codes.{codes}
 use Rattle.session_input.proofs.is_stop.Goals as goal
 

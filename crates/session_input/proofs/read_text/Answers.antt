@@ -1,5 +1,5 @@
 -- `session_input::read_text` meets its contract, by the answers of the decoder; there is always room. Assumes nothing.
-use Rattle.lists.proofs.Kit.{sym, ◌∙◌, rules}
+use Rattle.lists.proofs.Kit.{sym, ◌∙◌}
 use Rattle.session_input.proofs.TextRead.{text_none, text_read, text_bad, text_short}
 use Rattle.session_input.proofs.read_text.Goals as goal
 

@@ -1,6 +1,6 @@
 -- `session_keys::by_line` meets its contract: a name that is equal to fixed bytes is their key in the table; any other is like none of them.
 -- Assumes nothing.
-use Rattle.lists.proofs.Kit.{ap, sym, ◌∙◌, ◌++◌, rules}
+use Rattle.lists.proofs.Kit.{ap, sym, ◌∙◌, ◌++◌}
 use Rattle.lists.specs.Codes.{codes}
 use Rattle.lists.specs.Lists.{is_same}
 use Rattle.session_keys.specs.Keys.{line_keys, place_keys, found}

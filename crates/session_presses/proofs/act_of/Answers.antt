@@ -1,5 +1,4 @@
 -- `act_of` meets its contract, key by key. Assumes nothing.
-use borrow.Author.Rules.{rules}
 use Rattle.session_presses.specs.Pressed.{act_of}
 use Rattle.session_presses.proofs.act_of.Goals as goal
 

@@ -1,5 +1,4 @@
 -- `held` meets its contract, by the cases of the answer. Assumes nothing.
-use borrow.Author.Rules.{rules}
 use Rattle.session_presses.proofs.held.Goals as goal
 
 pub returns-in-To : goal.returns-in-To

@@ -1,5 +1,4 @@
 -- `motion` meets its contract: the list in the code is the definition's. Assumes nothing.
-use borrow.Author.Rules.{rules}
 use Rattle.lists.specs.Codes.{codes}
 use Rattle.session_presses.proofs.motion.Goals as goal
 

@@ -1,5 +1,5 @@
 -- `press` meets its contract, by the cases of what the key does. Assumes nothing.
-use Rattle.lists.proofs.Kit.{ap, ◌∙◌, rules}
+use Rattle.lists.proofs.Kit.{ap, ◌∙◌}
 use Rattle.session_presses.specs.Pressed.{held, acted}
 use Rattle.session_presses.proofs.press.Goals as goal
 

@@ -1,5 +1,4 @@
 -- `sticky_after` meets its contract, by the cases of what becomes of the column. Assumes nothing.
-use borrow.Author.Rules.{rules}
 use Rattle.session_presses.proofs.sticky_after.Goals as goal
 
 pub returns-in-Cleared : goal.returns-in-Cleared

@@ -1,4 +1,4 @@
-use Rattle.lists.proofs.Kit.{sym, ◌∙◌, rules}
+use Rattle.lists.proofs.Kit.{sym, ◌∙◌}
 use Rattle.session_row.proofs.Laws.{count_none, count_some}
 use Rattle.session_row.proofs.count_in.Goals as goal
 

@@ -1,8 +1,7 @@
 -- `session_row::digits` meets its contract. The invariant of its loop: n is the value of the first i digits, below ten to the i. The measure is
 -- the length less i. Assumes nothing.
-use Rattle.lists.proofs.Kit.{◌≡◌, refl, sym, ◌∙◌, List, ℕ, ◌-◌, ◌≤◌, ◌<◌, ◌^◌, arith, length, drop, rules}
+use Rattle.lists.proofs.Kit.{◌≡◌, List, ℕ, ◌-◌, ◌≤◌, ◌<◌, ◌^◌, length, drop}
 use Rattle.session_row.specs.Commands.{digits_from}
-use Rattle.session_row.proofs.Laws.{digits_on, digits_low, digits_high, digits_end, digits_most, digits_fit, digits_of_lem, digits_none, digits_many}
 use Rattle.session_row.proofs.digits.Given as goal
 
 pub record Read (s : List ℕ) (n i : ℕ) : Type 0 where

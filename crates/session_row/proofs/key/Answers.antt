@@ -1,4 +1,4 @@
-use Rattle.lists.proofs.Kit.{ap, sym, ℕ, take, length-take-le, rules}
+use Rattle.lists.proofs.Kit.{ap, sym, ℕ, take, length-take-le}
 use Rattle.session_row.proofs.Laws.{space_at}
 use Rattle.session_row.proofs.key.Goals as goal
 

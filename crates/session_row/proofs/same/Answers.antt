@@ -1,9 +1,7 @@
 -- `session_row::same` meets its contract. The invariant of its loop: what is left decides. The measure is the length less i. Assumes nothing.
-use Rattle.lists.proofs.Kit.{◌≡◌, refl, ◌∙◌, List, ℕ, ◌-◌, ◌≤◌, arith, length, drop, rules}
-use Rattle.lists.specs.Lists.{is_same}
+use Rattle.lists.proofs.Kit.{refl, ◌∙◌, ◌-◌, arith}
 use Rattle.lists.proofs.Same.{same_on, same_stop, same_end, same_long}
 use Rattle.session_row.proofs.Laws.{same_told}
-use Rattle.session_row.proofs.same.Invariants.{SameTo}
 use Rattle.session_row.proofs.same.Goals as goal
 
 pub returns-then-a-b : goal.returns-then-a-b

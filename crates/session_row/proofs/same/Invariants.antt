@@ -1,8 +1,6 @@
 -- `session_row::same` meets its contract. The invariant of its loop: what is left decides. The measure is the length less i. Assumes nothing.
-use Rattle.lists.proofs.Kit.{◌≡◌, refl, ◌∙◌, List, ℕ, ◌-◌, ◌≤◌, arith, length, drop, rules}
+use Rattle.lists.proofs.Kit.{◌≡◌, List, ℕ, ◌-◌, ◌≤◌, length, drop}
 use Rattle.lists.specs.Lists.{is_same}
-use Rattle.lists.proofs.Same.{same_on, same_stop, same_end, same_long}
-use Rattle.session_row.proofs.Laws.{same_told}
 use Rattle.session_row.proofs.same.Given as goal
 
 pub record SameTo (a b : List ℕ) (i : ℕ) : Type 0 where

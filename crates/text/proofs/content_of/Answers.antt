@@ -1,6 +1,6 @@
 -- `text::content_of` meets its contract: the rows with content go by the last code point.
 -- Assumes nothing.
-use Rattle.lists.proofs.Kit.{sym, ◌∙◌, arith, rules}
+use Rattle.lists.proofs.Kit.{sym, ◌∙◌, arith}
 use Rattle.text.proofs.Rows.{rows_pos}
 use Rattle.text.proofs.Content.{content_void, content_nl, content_char}
 use Rattle.text.proofs.content_of.Goals as goal

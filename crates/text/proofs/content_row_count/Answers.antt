@@ -1,6 +1,6 @@
 -- `text::content_row_count` meets its contract: an accepted text is short, so that its rows fit a u32.
 -- Assumes nothing.
-use Rattle.lists.proofs.Kit.{sym, ap, ◌∙◌, arith, rules, eq-eqb, ne_eqb}
+use Rattle.lists.proofs.Kit.{sym, ap, ◌∙◌, arith, eq-eqb, ne_eqb}
 use Rattle.text.specs.declared.Counted.TheVariants.{Rows}
 use Rattle.text_check.proofs.Accepted.{accepted_short}
 use Rattle.text.proofs.Parts.{count_le}

@@ -1,7 +1,6 @@
 -- `text::few` meets its contract. The invariant of its loop: n counts the separators before i. The measure is the part's length less i.
 -- Assumes nothing.
-use Rattle.lists.proofs.Kit.{◌≡◌, ◌+◌, ◌≤◌, ◌-◌, arith, length, drop, rules}
-use Rattle.text.specs.Text.{row_count}
+use Rattle.lists.proofs.Kit.{◌-◌, arith}
 use Rattle.text.proofs.Rows.{count_nl, count_on, count_end}
 use Rattle.text.proofs.few.Goals as goal
 

@@ -1,8 +1,7 @@
 -- `text::few` meets its contract. The invariant of its loop: n counts the separators before i. The measure is the part's length less i.
 -- Assumes nothing.
-use Rattle.lists.proofs.Kit.{◌≡◌, ◌+◌, ◌≤◌, ◌-◌, arith, length, drop, rules}
+use Rattle.lists.proofs.Kit.{◌≡◌, ◌+◌, ◌≤◌, ◌-◌, length, drop}
 use Rattle.text.specs.Text.{row_count}
-use Rattle.text.proofs.Rows.{count_nl, count_on, count_end}
 use Rattle.text.proofs.few.Given as goal
 
 abbrev pub invariant-loop-i : goal.invariant-loop-i

@@ -1,7 +1,6 @@
 -- `text::separators` meets its contract. The invariant of its loop: i stands in row n of the part. The measure is the part's length less i.
 -- Assumes nothing.
-use Rattle.lists.proofs.Kit.{◌-◌, arith, length, rules}
-use Rattle.text.specs.Offsets.{Stands, row_start}
+use Rattle.lists.proofs.Kit.{◌-◌, arith, length}
 use Rattle.text.proofs.At.{on_last}
 use Rattle.text.proofs.Stands.{stands_at_lem, stands_own, first_line}
 use Rattle.text.proofs.Stretches.{pass_on}

@@ -1,10 +1,7 @@
 -- `text::separators` meets its contract. The invariant of its loop: i stands in row n of the part. The measure is the part's length less i.
 -- Assumes nothing.
-use Rattle.lists.proofs.Kit.{◌-◌, arith, length, rules}
+use Rattle.lists.proofs.Kit.{◌-◌, length}
 use Rattle.text.specs.Offsets.{Stands, row_start}
-use Rattle.text.proofs.At.{on_last}
-use Rattle.text.proofs.Stands.{stands_at_lem, stands_own, first_line}
-use Rattle.text.proofs.Stretches.{pass_on}
 use Rattle.text.proofs.separators.Given as goal
 
 abbrev pub invariant-loop-i : goal.invariant-loop-i

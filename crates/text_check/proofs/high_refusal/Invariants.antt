@@ -1,9 +1,9 @@
 -- `text_check::high_refusal` meets its contract. The invariant of its loop: what was found so far, or is still to be found, is what the text holds.
 -- The measure is the text's length less i. Assumes nothing.
-use Rattle.lists.proofs.Kit.{List, Bool, ℕ, ◌-◌, length, rules, not-true, not-false}
+use Rattle.lists.proofs.Kit.{List, Bool, ℕ, ◌-◌, length}
 use Rattle.chars.specs.Scalar.{not_scalar}
-use Rattle.lists.proofs.Any.{Finds, finds_on, finds_end}
-use Rattle.text_check.specs.Accept.{is_separator, high_refusal}
+use Rattle.lists.proofs.Any.{Finds}
+use Rattle.text_check.specs.Accept.{is_separator}
 use Rattle.text_check.proofs.high_refusal.Given as goal
 
 pub record Found (t : List ℕ) (wrong separator : Bool) (i : ℕ) : Type 0 where

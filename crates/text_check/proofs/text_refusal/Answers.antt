@@ -1,10 +1,9 @@
 -- `text_check::text_refusal` meets its contract. The invariant of its loop: what was found so far, or is still to be found, is what the text holds.
 -- The measure is the text's length less i. Assumes nothing.
-use Rattle.lists.proofs.Kit.{sym, ◌∙◌, List, Bool, ◌||◌, ℕ, ◌-◌, length, rules, lt-ltb, eq-eqb, ne_eqb}
-use Rattle.lists.proofs.Any.{Finds, finds_on, finds_end}
-use Rattle.text_check.specs.Accept.{is_high, is_low, text_refusal}
+use Rattle.lists.proofs.Kit.{sym, ◌∙◌, ◌-◌, lt-ltb, eq-eqb, ne_eqb}
+use Rattle.lists.proofs.Any.{finds_on, finds_end}
+use Rattle.text_check.specs.Accept.{text_refusal}
 use Rattle.text_check.proofs.Accepted.{each_its_own, by_passes}
-use Rattle.text_check.proofs.text_refusal.Invariants.{Found}
 use Rattle.text_check.proofs.text_refusal.Goals as goal
 
 pub returns-then-t-gt1048576 : goal.returns-then-t-gt1048576

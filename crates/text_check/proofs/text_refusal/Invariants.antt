@@ -1,9 +1,8 @@
 -- `text_check::text_refusal` meets its contract. The invariant of its loop: what was found so far, or is still to be found, is what the text holds.
 -- The measure is the text's length less i. Assumes nothing.
-use Rattle.lists.proofs.Kit.{sym, ◌∙◌, List, Bool, ◌||◌, ℕ, ◌-◌, length, rules, lt-ltb, eq-eqb, ne_eqb}
-use Rattle.lists.proofs.Any.{Finds, finds_on, finds_end}
-use Rattle.text_check.specs.Accept.{is_high, is_low, text_refusal}
-use Rattle.text_check.proofs.Accepted.{each_its_own, by_passes}
+use Rattle.lists.proofs.Kit.{List, Bool, ◌||◌, ℕ, ◌-◌, length}
+use Rattle.lists.proofs.Any.{Finds}
+use Rattle.text_check.specs.Accept.{is_high, is_low}
 use Rattle.text_check.proofs.text_refusal.Given as goal
 
 pub record Found (t : List ℕ) (high low : Bool) (i : ℕ) : Type 0 where

@@ -1,5 +1,5 @@
 -- `text_rows::checked` meets its contract: where rows are told, only the number of rows with content is left to compare. Assumes nothing.
-use Rattle.lists.proofs.Kit.{rules, eq-eqb, ne_eqb}
+use Rattle.lists.proofs.Kit.{eq-eqb, ne_eqb}
 use Rattle.text_rows.proofs.Told.{told_count, told_found}
 use Rattle.text_rows.proofs.checked.Goals as goal
 

@@ -1,5 +1,5 @@
 -- `text_rows::found_apart` meets its contract: each answer by its own call. Assumes nothing.
-use Rattle.lists.proofs.Kit.{ap, ◌∙◌, ℕ, rules}
+use Rattle.lists.proofs.Kit.{ap, ◌∙◌, ℕ}
 use Rattle.row_table.specs.Table.{table_refusal}
 use Rattle.text_rows.proofs.found_apart.Goals as goal
 

@@ -1,10 +1,9 @@
 -- `text_rows::read` meets its contract. The invariant of its loop: the marks found so far and those still to come are all, and so are the bits.
 -- The measure is the text's length less i. Assumes nothing.
-use Rattle.lists.proofs.Kit.{◌≡◌, ap, sym, ◌∙◌, List, ℕ, ◌+◌, ◌≤◌, ◌-◌, arith, length, drop, leb, rules}
-use Rattle.text_rows.specs.Pass.{marks_in, all_bits}
+use Rattle.lists.proofs.Kit.{ap, sym, ◌∙◌, ◌-◌, arith, leb, rules}
+use Rattle.text_rows.specs.Pass.{all_bits}
 use Rattle.text_rows.proofs.Bits.{bits_on, bits_end}
 use Rattle.text_rows.proofs.Marks.{marks_on, marks_over, marks_end}
-use Rattle.text_rows.proofs.read.Invariants.{Read}
 use Rattle.text_rows.proofs.read.Goals as goal
 
 pub loop-i-preserved-then-is_mark : goal.loop-i-preserved-then-is_mark

@@ -1,9 +1,7 @@
 -- `text_rows::read` meets its contract. The invariant of its loop: the marks found so far and those still to come are all, and so are the bits.
 -- The measure is the text's length less i. Assumes nothing.
-use Rattle.lists.proofs.Kit.{◌≡◌, ap, sym, ◌∙◌, List, ℕ, ◌+◌, ◌≤◌, ◌-◌, arith, length, drop, leb, rules}
+use Rattle.lists.proofs.Kit.{◌≡◌, List, ℕ, ◌+◌, ◌≤◌, ◌-◌, length, drop}
 use Rattle.text_rows.specs.Pass.{marks_in, all_bits}
-use Rattle.text_rows.proofs.Bits.{bits_on, bits_end}
-use Rattle.text_rows.proofs.Marks.{marks_on, marks_over, marks_end}
 use Rattle.text_rows.proofs.read.Given as goal
 
 pub record Read (t : List ℕ) (bits n i : ℕ) : Type 0 where

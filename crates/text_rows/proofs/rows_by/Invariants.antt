@@ -1,8 +1,7 @@
 -- `text_rows::rows_by` meets its contract. The invariant of its loop: what is known of a text that was passed over up to `at`. The measure is the
 -- text's length less `at`. Assumes nothing.
-use Rattle.lists.proofs.Kit.{sym, ◌∙◌, ◌-◌, arith, length, drop, length-take, length-drop, rules, not-false}
-use Rattle.text_rows.proofs.Stretches.{Passed, passed_first, passed_next, passed_all}
-use Rattle.text_rows.proofs.Told.{tells_none}
+use Rattle.lists.proofs.Kit.{◌-◌, length}
+use Rattle.text_rows.proofs.Stretches.{Passed}
 use Rattle.text_rows.proofs.rows_by.Given as goal
 
 abbrev pub invariant-loop-at : goal.invariant-loop-at

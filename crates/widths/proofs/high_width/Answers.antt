@@ -1,5 +1,5 @@
 -- `widths::high_width` meets its contract: the consts are the lists of the tables. Assumes nothing.
-use Rattle.lists.proofs.Kit.{refl, ℕ, rules}
+use Rattle.lists.proofs.Kit.{refl, ℕ}
 use Rattle.chars.specs.Width.{zero_widths}
 use Rattle.widths.specs.declared.Ambiguous.TheVariants.{Wide}
 use Rattle.widths.proofs.WideTable.{wide_doubles}

@@ -1,5 +1,5 @@
 -- `widths::wide_width` meets its contract: before U+00A1 no character is of the class, and so the width is the same. Assumes nothing.
-use Rattle.lists.proofs.Kit.{◌∙◌, rules}
+use Rattle.lists.proofs.Kit.{◌∙◌}
 use Rattle.widths.specs.Widths.{width_as}
 use Rattle.widths.proofs.Lent.{class_low}
 use Rattle.widths.proofs.Laws.{wide_same}

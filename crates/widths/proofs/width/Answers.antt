@@ -1,5 +1,4 @@
 -- `widths::width` meets its contract, setting by setting. Assumes nothing.
-use borrow.Author.Rules.{rules}
 use Rattle.widths.specs.Widths.{width_as}
 use Rattle.widths.proofs.width.Goals as goal
 

@@ -1,5 +1,5 @@
 -- `closed` meets its contract: the close that the walk on finds is that of the open. Assumes nothing.
-use Rattle.lists.proofs.Kit.{sym, ◌∙◌, rules}
+use Rattle.lists.proofs.Kit.{sym, ◌∙◌}
 use Rattle.bracket_inner.proofs.Closed.{closed_pair, closed_none, closed_refused, close_brief}
 use Rattle.bracket_inner.proofs.around.closed.Goals as goal
 

@@ -1,5 +1,4 @@
 -- `ranges_of` meets its contract: the position after each bracket is that of `next`. Assumes nothing.
-use borrow.Author.Rules.{rules}
 use Rattle.bracket_inner.proofs.around.ranges_of.Goals as goal
 
 pub returns : goal.returns

@@ -1,5 +1,5 @@
 -- `stands_at_lem` meets its contract: past the text nothing stands. Assumes nothing.
-use Rattle.lists.proofs.Kit.{rules, lt-ltb, le-ltb}
+use Rattle.lists.proofs.Kit.{lt-ltb, le-ltb}
 use Rattle.bracket_inner.proofs.around.stands_at.Goals as goal
 
 pub returns-then-at-t : goal.returns-then-at-t

@@ -1,10 +1,9 @@
 -- `bracket_kinds::find::first_bracket` meets its contract. The invariant of its loop: the first bracket from the column on is the first from i on.
 -- The measure is the row's length less i. Assumes nothing.
-use Rattle.lists.proofs.Kit.{◌≡◌, refl, sym, ◌∙◌, List, Bool, ℕ, ◌-◌, length, get_or, rules}
+use Rattle.lists.proofs.Kit.{◌≡◌, List, Bool, ℕ, ◌-◌, length, get_or}
 use Rattle.bracket_kinds.specs.Kinds.{key_bracket}
 use Rattle.row_search.specs.Nearest.{first_in}
 use Rattle.bracket_kinds.specs.Find.{first_bracket}
-use Rattle.row_search.proofs.Nearest.{first_on, first_stop, first_end}
 use Rattle.bracket_kinds.proofs.find.first_bracket.Given as goal
 
 abbrev pub test : List ℕ → ℕ → Bool

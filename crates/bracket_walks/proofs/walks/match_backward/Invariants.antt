@@ -1,11 +1,9 @@
 -- `bracket_walks::walks::match_backward` meets its contract. The invariant of its loop: `depth` are closed from i on, no place passed opens what was
 -- closed, and i stands in row `row`. The measure is i. Assumes nothing.
-use Rattle.lists.proofs.Kit.{sym, ◌∙◌, ◌-◌, arith, rules}
-use Rattle.text.specs.Offsets.{Stands, row_start}
-use Rattle.text.proofs.Stands.{back_char, back_nl, stands_own}
-use Rattle.bracket_walks.proofs.Behind.{Behind, behind_start, behind_close, behind_open, behind_other, behind_found, behind_none}
-use Rattle.bracket_walks.proofs.Walking.{Walking, walking_on}
-use Rattle.bracket_walks.proofs.Placed.{placed_at, placed_none, stands_up}
+use Rattle.lists.proofs.Kit.{◌-◌}
+use Rattle.text.specs.Offsets.{row_start}
+use Rattle.bracket_walks.proofs.Behind.{Behind}
+use Rattle.bracket_walks.proofs.Walking.{Walking}
 use Rattle.bracket_walks.proofs.walks.match_backward.Given as goal
 
 abbrev pub invariant-loop-i : goal.invariant-loop-i

@@ -1,9 +1,9 @@
 -- `bracket_walks::walks::match_forward` meets its contract. The invariant of its loop: `depth` are open at j, no place passed closes what was open,
 -- and j stands in row `row`. The measure is the text's length less j. Assumes nothing.
-use Rattle.lists.proofs.Kit.{sym, ◌∙◌, ◌-◌, arith, length, rules}
+use Rattle.lists.proofs.Kit.{sym, ◌∙◌, ◌-◌, arith}
 use Rattle.text.proofs.Stands.{step_char, step_nl}
-use Rattle.bracket_walks.proofs.Ahead.{Ahead, ahead_start, ahead_close, ahead_open, ahead_other, ahead_found, ahead_none}
-use Rattle.bracket_walks.proofs.Walking.{Walking, walking_on}
+use Rattle.bracket_walks.proofs.Ahead.{ahead_start, ahead_close, ahead_open, ahead_other, ahead_found, ahead_none}
+use Rattle.bracket_walks.proofs.Walking.{walking_on}
 use Rattle.bracket_walks.proofs.Placed.{placed_at, placed_none}
 use Rattle.bracket_walks.proofs.walks.match_forward.Goals as goal
 

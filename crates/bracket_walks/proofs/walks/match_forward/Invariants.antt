@@ -1,10 +1,8 @@
 -- `bracket_walks::walks::match_forward` meets its contract. The invariant of its loop: `depth` are open at j, no place passed closes what was open,
 -- and j stands in row `row`. The measure is the text's length less j. Assumes nothing.
-use Rattle.lists.proofs.Kit.{sym, ◌∙◌, ◌-◌, arith, length, rules}
-use Rattle.text.proofs.Stands.{step_char, step_nl}
-use Rattle.bracket_walks.proofs.Ahead.{Ahead, ahead_start, ahead_close, ahead_open, ahead_other, ahead_found, ahead_none}
-use Rattle.bracket_walks.proofs.Walking.{Walking, walking_on}
-use Rattle.bracket_walks.proofs.Placed.{placed_at, placed_none}
+use Rattle.lists.proofs.Kit.{◌-◌, length}
+use Rattle.bracket_walks.proofs.Ahead.{Ahead}
+use Rattle.bracket_walks.proofs.Walking.{Walking}
 use Rattle.bracket_walks.proofs.walks.match_forward.Given as goal
 
 abbrev pub invariant-loop-j : goal.invariant-loop-j

@@ -1,6 +1,6 @@
 -- `bracket_walks::walks::partner` meets its contract: it hands each side to its walk.
 -- Assumes nothing.
-use Rattle.lists.proofs.Kit.{sym, ◌∙◌, rules}
+use Rattle.lists.proofs.Kit.{sym, ◌∙◌}
 use Rattle.bracket_walks.proofs.Sides.{open_asked, open_answer, close_asked, close_answer, no_answer}
 use Rattle.bracket_walks.proofs.walks.partner.Goals as goal
 

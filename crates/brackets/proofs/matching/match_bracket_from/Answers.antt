@@ -1,14 +1,13 @@
 -- `brackets::matching::match_bracket_from` meets its contract: it hands the first bracket of the row to `partner`.
 -- Assumes nothing.
-use Rattle.lists.proofs.Kit.{◌+◌, arith, rules}
-use Rattle.bracket_walks.specs.Walk.{Starts}
+use Rattle.lists.proofs.Kit.{arith}
 use Rattle.brackets.proofs.Call.{jump_starts, jump_answer, jump_none}
 use Rattle.brackets.proofs.matching.match_bracket_from.Goals as goal
 
 pub overflow_add-start : goal.overflow_add-start
 overflow_add-start c =
     let starts =
-      (jump_starts c.args.t.now c.requires.clear c.requires.line c.args.col c.row.ensures
+    (jump_starts c.args.t.now c.requires.clear c.requires.line c.args.col c.row.ensures
     c.first_bracket-f.ensures _ c.in-At.is) in
     let by_starts = starts in omega (arith, by_starts.inside, by_starts.short)
 
@@ -26,6 +25,6 @@ returns-in-Nothing c =
 pub partner-requires : goal.partner-requires
 partner-requires c =
     let starts =
-      (jump_starts c.args.t.now c.requires.clear c.requires.line c.args.col c.row.ensures
+    (jump_starts c.args.t.now c.requires.clear c.requires.line c.args.col c.row.ensures
     c.first_bracket-f.ensures _ c.in-At.is) in
     starts

@@ -1,6 +1,6 @@
 -- `brackets::matching::matching_bracket_pos` meets its contract: the text is refused, the place is outside it, or the answer is that of `partner`.
 -- Assumes nothing.
-use Rattle.lists.proofs.Kit.{sym, ◌∙◌, ap, ◌<◌, arith, rules}
+use Rattle.lists.proofs.Kit.{sym, ◌∙◌, ap, ◌<◌, arith}
 use Rattle.text.specs.Text.{row_count}
 use Rattle.bracket_walks.specs.declared.Partner.TheVariants.{Refused}
 use Rattle.brackets.proofs.Call.{call_refused, call_outside, no_row, row_there, no_col, place_starts, place_answer}
@@ -26,14 +26,14 @@ row_line-l-requires c = (c.row_count-rows.ensures, omega (arith, c.if-wanted-row
 pub offset_of-f-requires : goal.offset_of-f-requires
 offset_of-f-requires c =
     let within : c.args.row < row_count c.args.t.now =
-      (omega (arith, c.row_count-rows.ensures, c.if-wanted-rows.false)) in
+    (omega (arith, c.row_count-rows.ensures, c.if-wanted-rows.false)) in
     let given = c.args in
     row_there given.t.now given.row given.col within c.row_line-l.ensures
 
 pub partner-requires : goal.partner-requires
 partner-requires c =
     let within : c.args.row < row_count c.args.t.now =
-      (omega (arith, c.row_count-rows.ensures, c.if-wanted-rows.false)) in
+    (omega (arith, c.row_count-rows.ensures, c.if-wanted-rows.false)) in
     let given = c.args in
     let ok = sym c.text_refusal-f.ensures ∙ c.if-f-ne0.false in
     place_starts given.t.now given.row given.col within c.row_line-l.ensures c.offset_of-f.ensures ok
@@ -42,7 +42,7 @@ partner-requires c =
 pub returns-in-At : goal.returns-in-At
 returns-in-At c =
     let within : c.args.row < row_count c.args.t.now =
-      (omega (arith, c.row_count-rows.ensures, c.if-wanted-rows.false)) in
+    (omega (arith, c.row_count-rows.ensures, c.if-wanted-rows.false)) in
     let given = c.args in
     let ok = sym c.text_refusal-f.ensures ∙ c.if-f-ne0.false in
     place_answer given.t.now given.row given.col within c.row_line-l.ensures c.offset_of-f.ensures ok
@@ -52,7 +52,7 @@ returns-in-At c =
 pub returns-in-Nothing : goal.returns-in-Nothing
 returns-in-Nothing c =
     let within : c.args.row < row_count c.args.t.now =
-      (omega (arith, c.row_count-rows.ensures, c.if-wanted-rows.false)) in
+    (omega (arith, c.row_count-rows.ensures, c.if-wanted-rows.false)) in
     let given = c.args in
     let ok = sym c.text_refusal-f.ensures ∙ c.if-f-ne0.false in
     let out = no_col given.t.now given.row given.col within c.row_line-l.ensures c.offset_of-f.ensures

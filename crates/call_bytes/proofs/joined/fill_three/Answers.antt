@@ -1,5 +1,5 @@
 -- `joined::fill_three` meets its contract: the check shows that the room is enough for `decode_three`. Assumes nothing.
-use Rattle.lists.proofs.Kit.{refl, sym, ◌∙◌, rules}
+use Rattle.lists.proofs.Kit.{refl, sym, ◌∙◌}
 use Rattle.call_bytes.proofs.Replies.{fit_room}
 use Rattle.call_bytes.proofs.Joins.{unfit_three}
 use Rattle.call_bytes.proofs.joined.fill_three.Goals as goal

@@ -1,5 +1,5 @@
 -- `lend::fill` meets its contract: the check shows that the room is enough for `decode`. Assumes nothing.
-use Rattle.lists.proofs.Kit.{refl, sym, ◌∙◌, rules}
+use Rattle.lists.proofs.Kit.{refl, sym, ◌∙◌}
 use Rattle.call_bytes.proofs.Replies.{fit_room}
 use Rattle.call_bytes.proofs.lend.fill.Goals as goal
 

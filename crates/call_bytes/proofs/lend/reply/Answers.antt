@@ -1,5 +1,4 @@
 -- `lend::reply` meets its contract, by the cases of what it is told. Assumes nothing.
-use borrow.Author.Rules.{rules}
 use Rattle.call_bytes.proofs.lend.reply.Goals as goal
 
 pub returns-in-Value : goal.returns-in-Value

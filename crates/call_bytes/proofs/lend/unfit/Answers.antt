@@ -1,5 +1,5 @@
 -- `lend::unfit` meets its contract, arm by arm. Assumes nothing.
-use borrow.Author.Tests.{not-true, not-false, le-leb, lt-leb}
+use borrow.Author.Tests.{le-leb, lt-leb}
 use Rattle.call_bytes.specs.Reply.{unfit}
 use Rattle.call_bytes.proofs.lend.unfit.Goals as goal
 

@@ -1,5 +1,5 @@
 -- `terms::by_term` meets its contract, by the cases of what is asked for. Assumes nothing.
-use Rattle.lists.proofs.Kit.{refl, rules}
+use Rattle.lists.proofs.Kit.{refl}
 use Rattle.call_classes.specs.ByTerm.{by_term, left_by}
 use Rattle.call_classes.proofs.terms.by_term.Goals as goal
 

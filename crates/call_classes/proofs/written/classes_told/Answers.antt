@@ -1,5 +1,5 @@
 -- `written::classes_told` meets its contract, by the cases of the answer. Assumes nothing.
-use Rattle.lists.proofs.Kit.{ap, sym, ◌∙◌, arith, rules}
+use Rattle.lists.proofs.Kit.{ap, sym, ◌∙◌, arith}
 use Rattle.call_classes.specs.Classed.{told_written}
 use Rattle.call_classes.proofs.Sizes.{written_size}
 use Rattle.call_classes.proofs.written.classes_told.Goals as goal

@@ -1,5 +1,4 @@
 -- `written::word_classes` meets its contract: it hands on what the call answers. Assumes nothing.
-use borrow.Author.Rules.{rules}
 use Rattle.call_bytes.proofs.Replies.{replied_as}
 use Rattle.call_classes.proofs.written.word_classes.Goals as goal
 

@@ -1,5 +1,5 @@
 -- `kept::kept_of` meets its contract, number by number. Assumes nothing.
-use Rattle.lists.proofs.Kit.{rules, ne_eqb}
+use Rattle.lists.proofs.Kit.{ne_eqb}
 use Rattle.call_folds.specs.Kept.{kept_of}
 use Rattle.call_folds.proofs.kept.kept_of.Goals as goal
 

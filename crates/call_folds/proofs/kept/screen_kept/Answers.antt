@@ -1,5 +1,5 @@
 -- `kept::screen_kept` meets its contract: it hands on what the motion answers. Assumes nothing.
-use Rattle.lists.proofs.Kit.{ap, ◌∙◌, rules}
+use Rattle.lists.proofs.Kit.{ap, ◌∙◌}
 use Rattle.motions.specs.declared.Caret.{Caret}
 use Rattle.call_folds.specs.Kept.{screen_kept}
 use Rattle.call_texts.specs.Carets.{moved_six}

@@ -1,5 +1,5 @@
 -- `terms::word_of` meets its contract, number by number. Assumes nothing.
-use Rattle.lists.proofs.Kit.{rules, ne_eqb}
+use Rattle.lists.proofs.Kit.{ne_eqb}
 use Rattle.call_folds.specs.Terms.{word_of}
 use Rattle.call_folds.proofs.terms.word_of.Goals as goal
 

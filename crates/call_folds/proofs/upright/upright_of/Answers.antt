@@ -1,5 +1,5 @@
 -- `upright::upright_of` meets its contract, number by number. Assumes nothing.
-use Rattle.lists.proofs.Kit.{rules, ne_eqb}
+use Rattle.lists.proofs.Kit.{ne_eqb}
 use Rattle.call_folds.specs.Upright.{upright_of}
 use Rattle.call_folds.proofs.upright.upright_of.Goals as goal
 

@@ -1,5 +1,5 @@
 -- `vertical` meets its contract: it hands on what the motion answers. Assumes nothing.
-use Rattle.lists.proofs.Kit.{ap, ◌∙◌, rules}
+use Rattle.lists.proofs.Kit.{ap, ◌∙◌}
 use Rattle.motions.specs.declared.Caret.{Caret}
 use Rattle.call_folds.specs.Upright.{vertical}
 use Rattle.call_texts.specs.Carets.{moved}

@@ -1,5 +1,4 @@
 -- `asks::go_as` meets its contract, by the cases of what is asked for. Assumes nothing.
-use borrow.Author.Rules.{rules}
 use Rattle.call_motion_rows.specs.Asks.{rows_as}
 use Rattle.call_motion_rows.proofs.asks.go_as.Goals as goal
 

@@ -1,5 +1,5 @@
 -- `moves::viewport_rows` meets its contract: it hands on what the move answers beside the table. Assumes nothing.
-use Rattle.lists.proofs.Kit.{[], rules}
+use Rattle.lists.proofs.Kit.{[]}
 use Rattle.call_bytes.specs.Reply.{Reply}
 use Rattle.call_bytes.proofs.Replies.{replied_of}
 use Rattle.call_texts.specs.Viewports.{viewport}

@@ -1,5 +1,4 @@
 -- `moves::word_rows` meets its contract: it hands on what the move answers beside the table. Assumes nothing.
-use borrow.Author.Rules.{rules}
 use Rattle.call_bytes.specs.Reply.{Reply}
 use Rattle.call_bytes.proofs.Replies.{replied_of}
 use Rattle.call_folds.specs.Terms.{word}

@@ -1,5 +1,5 @@
 -- `upright::screen_kept_rows` meets its contract: it hands on what the move answers beside the table. Assumes nothing.
-use Rattle.lists.proofs.Kit.{ap, ◌∙◌, [], rules}
+use Rattle.lists.proofs.Kit.{ap, ◌∙◌, []}
 use Rattle.motions.specs.declared.Moved.{Moved}
 use Rattle.call_bytes.specs.Reply.{Reply}
 use Rattle.call_bytes.proofs.Replies.{replied_of}

@@ -1,5 +1,5 @@
 -- `upright::upright_by` meets its contract: the mode's number, then the motion's. Assumes nothing.
-use Rattle.lists.proofs.Kit.{ap, ◌∙◌, ℕ, rules, lt-leb, le-leb}
+use Rattle.lists.proofs.Kit.{ap, ◌∙◌, ℕ, lt-leb, le-leb}
 use Rattle.widths.specs.declared.Ambiguous.{Ambiguous}
 use Rattle.row_wrap.specs.declared.Wrap.{Wrap}
 use Rattle.call_rows.specs.Flags.{setting_of}

@@ -1,5 +1,4 @@
 -- `character` meets its contract: it hands on the fact. Assumes nothing.
-use Rattle.lists.proofs.Kit.{rules}
 use Rattle.call_bytes.proofs.Replies.{replied_as}
 use Rattle.call_rows.proofs.characters.character.Goals as goal
 

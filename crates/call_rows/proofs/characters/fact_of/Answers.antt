@@ -1,5 +1,5 @@
 -- `characters::fact_of` meets its contract, arm by arm. Assumes nothing.
-use Rattle.lists.proofs.Kit.{◌∙◌, ap, rules, ne_eqb}
+use Rattle.lists.proofs.Kit.{◌∙◌, ap, ne_eqb}
 use Rattle.call_bytes.specs.declared.Told.TheVariants.{Value}
 use Rattle.call_rows.specs.Characters.{fact, tested}
 use Rattle.call_bytes.specs.Reply.{bit}

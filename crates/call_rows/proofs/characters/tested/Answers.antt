@@ -1,4 +1,4 @@
-use Rattle.lists.proofs.Kit.{◌∙◌, sym, rules, not-false, not-true}
+use Rattle.lists.proofs.Kit.{◌∙◌, sym}
 use Rattle.call_rows.proofs.characters.tested.Goals as goal
 
 pub returns-then-not-is_scalar : goal.returns-then-not-is_scalar

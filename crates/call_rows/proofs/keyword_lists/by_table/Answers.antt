@@ -1,5 +1,5 @@
 -- `lists::by_table` meets its contract: a refusal is handed on, else the table answers. Assumes nothing.
-use Rattle.lists.proofs.Kit.{◌∙◌, ap, rules, eq-eqb, ne_eqb}
+use Rattle.lists.proofs.Kit.{◌∙◌, ap, eq-eqb, ne_eqb}
 use Rattle.call_rows.specs.Lists.{by_table, told_matched}
 use Rattle.call_rows.proofs.keyword_lists.by_table.Goals as goal
 

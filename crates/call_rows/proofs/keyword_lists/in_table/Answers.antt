@@ -1,5 +1,5 @@
 -- `lists::in_table` meets its contract: the character, then the list. Assumes nothing.
-use Rattle.lists.proofs.Kit.{◌∙◌, ap, sym, rules, not-false, not-true}
+use Rattle.lists.proofs.Kit.{◌∙◌, ap, sym}
 use Rattle.keywords.specs.declared.Parsed.{Parsed}
 use Rattle.call_rows.specs.Lists.{in_table, by_table}
 use Rattle.call_rows.proofs.keyword_lists.in_table.Goals as goal

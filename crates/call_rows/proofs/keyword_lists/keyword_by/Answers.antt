@@ -1,5 +1,5 @@
 -- `lists::keyword_by` meets its contract, arm by arm. Assumes nothing.
-use Rattle.lists.proofs.Kit.{◌∙◌, ap, rules, ne_eqb}
+use Rattle.lists.proofs.Kit.{◌∙◌, ap, ne_eqb}
 use Rattle.call_rows.specs.Lists.{keyword, told_matched}
 use Rattle.call_rows.proofs.keyword_lists.keyword_by.Goals as goal
 

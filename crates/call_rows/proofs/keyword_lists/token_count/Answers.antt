@@ -1,5 +1,5 @@
 -- `lists::token_count` meets its contract: a refusal is handed on, and a table has few tokens. Assumes nothing.
-use Rattle.lists.proofs.Kit.{arith, rules, eq-eqb, ne_eqb}
+use Rattle.lists.proofs.Kit.{arith, eq-eqb, ne_eqb}
 use Rattle.call_rows.specs.Lists.{token_count}
 use Rattle.keywords.proofs.Agree.{parse_length}
 use Rattle.call_rows.proofs.keyword_lists.token_count.Goals as goal

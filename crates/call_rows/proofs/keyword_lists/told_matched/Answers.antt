@@ -1,5 +1,5 @@
 -- `lists::told_matched` meets its contract, by the cases of the answer. Assumes nothing.
-use Rattle.lists.proofs.Kit.{ap, rules}
+use Rattle.lists.proofs.Kit.{ap}
 use Rattle.call_bytes.specs.declared.Told.TheVariants.{Value}
 use Rattle.call_rows.proofs.keyword_lists.told_matched.Goals as goal
 

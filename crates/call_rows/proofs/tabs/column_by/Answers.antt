@@ -1,5 +1,5 @@
 -- `tabs::column_by` meets its contract, arm by arm. Assumes nothing.
-use Rattle.lists.proofs.Kit.{◌∙◌, ap, rules, ne_eqb}
+use Rattle.lists.proofs.Kit.{◌∙◌, ap, ne_eqb}
 use Rattle.call_rows.specs.Tabs.{told_column, tab_column_under}
 use Rattle.call_rows.proofs.tabs.column_by.Goals as goal
 

@@ -1,5 +1,4 @@
 -- `tabs::told_column` meets its contract, by the cases of the column. Assumes nothing.
-use Rattle.lists.proofs.Kit.{rules}
 use Rattle.call_rows.specs.Tabs.{told_column}
 use Rattle.call_rows.proofs.tabs.told_column.Goals as goal
 

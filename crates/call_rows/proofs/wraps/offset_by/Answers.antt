@@ -1,5 +1,5 @@
 -- `wraps::offset_by` meets its contract, arm by arm. Assumes nothing.
-use Rattle.lists.proofs.Kit.{◌∙◌, ap, rules, ne_eqb}
+use Rattle.lists.proofs.Kit.{◌∙◌, ap, ne_eqb}
 use Rattle.call_rows.specs.Tabs.{told_column}
 use Rattle.call_rows.specs.Wraps.{offset_under}
 use Rattle.call_rows.proofs.wraps.offset_by.Goals as goal

@@ -1,5 +1,4 @@
 -- `offsets` meets its contract: it hands on what the operation answers. Assumes nothing.
-use Rattle.lists.proofs.Kit.{rules}
 use Rattle.call_bytes.proofs.Replies.{replied_as}
 use Rattle.call_rows.proofs.wraps.offsets.Goals as goal
 

@@ -1,5 +1,5 @@
 -- `segment_for_col` meets its contract: it hands on what `segment_for_col` answers. Assumes nothing.
-use Rattle.lists.proofs.Kit.{◌∙◌, ap, rules}
+use Rattle.lists.proofs.Kit.{◌∙◌, ap}
 use Rattle.call_rows.specs.Wraps.{told_segment}
 use Rattle.call_bytes.proofs.Replies.{replied_as}
 use Rattle.call_rows.proofs.wraps.segment_for_col.Goals as goal

@@ -1,5 +1,5 @@
 -- `wraps::segments_by` meets its contract, mode by mode. Assumes nothing.
-use Rattle.lists.proofs.Kit.{arith, rules}
+use Rattle.lists.proofs.Kit.{arith}
 use Rattle.call_rows.specs.Wraps.{mode_of}
 use Rattle.call_rows.proofs.Segments.{segmented_by, segmented_none}
 use Rattle.call_rows.proofs.wraps.segments_by.Goals as goal

@@ -1,5 +1,5 @@
 -- `wraps::told_segment` meets its contract, by the cases of the answer. Assumes nothing.
-use Rattle.lists.proofs.Kit.{rules, le-leb, lt-leb}
+use Rattle.lists.proofs.Kit.{le-leb, lt-leb}
 use Rattle.call_rows.specs.Wraps.{told_segment}
 use Rattle.call_rows.proofs.wraps.told_segment.Goals as goal
 

@@ -1,5 +1,4 @@
 -- `wraps::told_segments` meets its contract, by the cases of the answer. Assumes nothing.
-use Rattle.lists.proofs.Kit.{rules}
 use Rattle.call_rows.specs.Wraps.{told_segments}
 use Rattle.call_rows.proofs.wraps.told_segments.Goals as goal
 

@@ -1,5 +1,4 @@
 -- `wrap_segments` meets its contract: it hands on what the mode's call answers. Assumes nothing.
-use Rattle.lists.proofs.Kit.{rules}
 use Rattle.call_bytes.proofs.Replies.{replied_as}
 use Rattle.call_rows.proofs.wraps.wrap_segments.Goals as goal
 

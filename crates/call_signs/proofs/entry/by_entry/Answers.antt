@@ -1,5 +1,5 @@
 -- `entry::by_entry` meets its contract: a refusal is handed on with its place, else the table answers. Assumes nothing.
-use Rattle.lists.proofs.Kit.{ap, ◌∙◌, rules, eq-eqb, ne_eqb}
+use Rattle.lists.proofs.Kit.{ap, ◌∙◌, eq-eqb, ne_eqb}
 use Rattle.call_signs.specs.declared.Placed.TheVariants.{Refused}
 use Rattle.call_signs.specs.Entry.{by_entry, placed_matched}
 use Rattle.call_signs.proofs.entry.by_entry.Goals as goal

@@ -1,5 +1,4 @@
 -- `entry::enter` meets its contract: it hands on what the operation answers. Assumes nothing.
-use borrow.Author.Rules.{rules}
 use Rattle.call_signs.proofs.entry.enter.Goals as goal
 
 pub returns : goal.returns

@@ -1,5 +1,5 @@
 -- `entry::enter_by` meets its contract, arm by arm. Assumes nothing.
-use Rattle.lists.proofs.Kit.{rules, ne_eqb}
+use Rattle.lists.proofs.Kit.{ne_eqb}
 use Rattle.call_signs.specs.Entry.{entering}
 use Rattle.call_signs.proofs.entry.enter_by.Goals as goal
 

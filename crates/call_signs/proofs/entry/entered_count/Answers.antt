@@ -1,5 +1,5 @@
 -- `entry::entered_count` meets its contract: a refusal is handed on with its place, and a table has few tokens. Assumes nothing.
-use Rattle.lists.proofs.Kit.{ap, sym, ◌∙◌, arith, rules, eq-eqb, ne_eqb}
+use Rattle.lists.proofs.Kit.{ap, sym, ◌∙◌, arith, eq-eqb, ne_eqb}
 use Rattle.list_signs.specs.declared.Entered.{Entered}
 use Rattle.call_signs.specs.declared.Placed.TheVariants.{Refused}
 use Rattle.call_signs.specs.Entry.{entered_count}

@@ -1,5 +1,5 @@
 -- `entry::entered_matches` meets its contract: the character, then the list. Assumes nothing.
-use Rattle.lists.proofs.Kit.{ap, sym, ◌∙◌, rules, not-true, not-false}
+use Rattle.lists.proofs.Kit.{ap, sym, ◌∙◌}
 use Rattle.list_signs.specs.declared.Entered.{Entered}
 use Rattle.call_signs.specs.Entry.{entered_matches, by_entry}
 use Rattle.call_signs.proofs.Bounds.{entry_place}

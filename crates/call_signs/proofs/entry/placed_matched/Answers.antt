@@ -1,5 +1,5 @@
 -- `entry::placed_matched` meets its contract, by the cases of the answer. Assumes nothing.
-use Rattle.lists.proofs.Kit.{ap, rules}
+use Rattle.lists.proofs.Kit.{ap}
 use Rattle.call_signs.specs.declared.Placed.TheVariants.{Value}
 use Rattle.call_signs.proofs.entry.placed_matched.Goals as goal
 

@@ -1,5 +1,4 @@
 -- `entry::reply_placed` meets its contract, by the cases of what it is told. Assumes nothing.
-use borrow.Author.Rules.{rules}
 use Rattle.call_signs.proofs.entry.reply_placed.Goals as goal
 
 pub returns-in-Value : goal.returns-in-Value

@@ -1,5 +1,4 @@
 -- `plain::without_plus` meets its contract: it hands on what the call answers. Assumes nothing.
-use borrow.Author.Rules.{rules}
 use Rattle.call_bytes.proofs.Replies.{replied_as}
 use Rattle.call_signs.proofs.plain.without_plus.Goals as goal
 

@@ -1,5 +1,4 @@
 -- `asks::move_as` meets its contract, by the cases of what is asked for. Assumes nothing.
-use borrow.Author.Rules.{rules}
 use Rattle.call_texts.specs.Asks.{move_as}
 use Rattle.call_texts.proofs.asks.move_as.Goals as goal
 

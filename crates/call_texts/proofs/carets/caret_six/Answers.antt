@@ -1,4 +1,3 @@
-use borrow.Author.Rules.{rules}
 use Rattle.call_texts.proofs.carets.caret_six.Goals as goal
 
 pub returns : goal.returns

@@ -1,5 +1,4 @@
 -- `carets::place_six` meets its contract, by the cases of the answer. Assumes nothing.
-use borrow.Author.Rules.{rules}
 use Rattle.call_texts.specs.Carets.{moved_six}
 use Rattle.call_texts.proofs.carets.place_six.Goals as goal
 

@@ -1,5 +1,5 @@
 -- `inners::inner_by` meets its contract, arm by arm. Assumes nothing.
-use Rattle.lists.proofs.Kit.{rules, ne_eqb}
+use Rattle.lists.proofs.Kit.{ne_eqb}
 use Rattle.call_texts.specs.Inners.{inner_by}
 use Rattle.call_texts.proofs.inners.inner_by.Goals as goal
 

@@ -1,5 +1,4 @@
 -- `inner_pair` meets its contract: it hands on what the call answers. Assumes nothing.
-use borrow.Author.Rules.{rules}
 use Rattle.call_bytes.proofs.Replies.{replied_of}
 use Rattle.call_texts.specs.Inners.{surrounded}
 use Rattle.call_texts.proofs.Placing.{inner_by_fits}

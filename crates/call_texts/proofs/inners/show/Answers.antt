@@ -1,5 +1,5 @@
 -- `inners::show` meets its contract, by the cases of the answer. Assumes nothing.
-use Rattle.lists.proofs.Kit.{arith, rules}
+use Rattle.lists.proofs.Kit.{arith}
 use Rattle.call_texts.specs.Inners.{surrounded}
 use Rattle.call_texts.proofs.inners.show.Goals as goal
 

@@ -1,5 +1,4 @@
 -- `moves::place` meets its contract, by the cases of the answer. Assumes nothing.
-use borrow.Author.Rules.{rules}
 use Rattle.call_texts.specs.Carets.{moved}
 use Rattle.call_texts.proofs.moves.place.Goals as goal
 

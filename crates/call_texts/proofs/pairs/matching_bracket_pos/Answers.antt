@@ -1,5 +1,4 @@
 -- `matching_bracket_pos` meets its contract: it hands on what the call answers. Assumes nothing.
-use borrow.Author.Rules.{rules}
 use Rattle.call_texts.specs.Partners.{partnered}
 use Rattle.call_bytes.proofs.Replies.{replied_of}
 use Rattle.call_texts.proofs.Placing.{partner_fits}

@@ -1,5 +1,5 @@
 -- `pairs::show` meets its contract, by the cases of the answer. Assumes nothing.
-use Rattle.lists.proofs.Kit.{arith, rules}
+use Rattle.lists.proofs.Kit.{arith}
 use Rattle.call_texts.specs.Partners.{partnered}
 use Rattle.call_texts.proofs.pairs.show.Goals as goal
 

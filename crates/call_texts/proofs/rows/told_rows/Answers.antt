@@ -1,5 +1,4 @@
 -- `rows::told_rows` meets its contract, by the cases of the count. Assumes nothing.
-use borrow.Author.Rules.{rules}
 use Rattle.call_texts.proofs.rows.told_rows.Goals as goal
 
 pub returns-in-Rows : goal.returns-in-Rows

@@ -1,5 +1,5 @@
 -- `seeks::seek` meets its contract: it hands on what the search answers. Assumes nothing.
-use Rattle.lists.proofs.Kit.{ap, ◌∙◌, rules}
+use Rattle.lists.proofs.Kit.{ap, ◌∙◌}
 use Rattle.motions.specs.declared.Caret.{Caret}
 use Rattle.call_bytes.proofs.Replies.{replied_of}
 use Rattle.call_texts.specs.declared.Asked.{Asked}

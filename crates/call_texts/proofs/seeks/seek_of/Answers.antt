@@ -1,5 +1,5 @@
 -- `seeks::seek_of` meets its contract, number by number. Assumes nothing.
-use Rattle.lists.proofs.Kit.{rules, ne_eqb}
+use Rattle.lists.proofs.Kit.{ne_eqb}
 use Rattle.call_texts.specs.Seeks.{seek_of}
 use Rattle.call_texts.proofs.seeks.seek_of.Goals as goal
 

@@ -1,5 +1,4 @@
 -- `seeks::tell` meets its contract, by the cases of the answer. Assumes nothing.
-use borrow.Author.Rules.{rules}
 use Rattle.call_texts.specs.Seeks.{sought}
 use Rattle.call_texts.proofs.seeks.tell.Goals as goal
 

@@ -1,5 +1,5 @@
 -- `viewports::edge_of` meets its contract, number by number. Assumes nothing.
-use Rattle.lists.proofs.Kit.{rules, ne_eqb}
+use Rattle.lists.proofs.Kit.{ne_eqb}
 use Rattle.call_texts.specs.Viewports.{edge_of}
 use Rattle.call_texts.proofs.viewports.edge_of.Goals as goal
 

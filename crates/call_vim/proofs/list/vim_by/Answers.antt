@@ -1,5 +1,5 @@
 -- `list::vim_by` meets its contract: arm by arm. Assumes nothing.
-use Rattle.lists.proofs.Kit.{rules, ne_eqb}
+use Rattle.lists.proofs.Kit.{ne_eqb}
 use Rattle.call_vim.specs.Vim.{vim_by}
 use Rattle.call_vim.proofs.list.vim_by.Goals as goal
 

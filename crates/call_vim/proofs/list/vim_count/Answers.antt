@@ -1,5 +1,5 @@
 -- `list::vim_count` meets its contract: a refusal is handed on with its place, and a table has few tokens. Assumes nothing.
-use Rattle.lists.proofs.Kit.{ap, arith, rules, eq-eqb, ne_eqb}
+use Rattle.lists.proofs.Kit.{ap, arith, eq-eqb, ne_eqb}
 use Rattle.vim_reader.specs.declared.VimRead.{VimRead}
 use Rattle.vim_reader.proofs.Answers.{read_few}
 use Rattle.call_signs.specs.declared.Placed.TheVariants.{Refused}

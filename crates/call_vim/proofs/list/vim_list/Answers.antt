@@ -1,5 +1,4 @@
 -- `list::vim_list` meets its contract: it hands on what the operation answers. Assumes nothing.
-use borrow.Author.Rules.{rules}
 use Rattle.call_vim.proofs.list.vim_list.Goals as goal
 
 pub returns : goal.returns

@@ -1,5 +1,5 @@
 -- `list::vim_matches` meets its contract: by the cases of the answer. Assumes nothing.
-use Rattle.lists.proofs.Kit.{ap, sym, ◌∙◌, rules}
+use Rattle.lists.proofs.Kit.{ap, sym, ◌∙◌}
 use Rattle.call_signs.specs.declared.Placed.TheVariants.{Value, Refused}
 use Rattle.call_vim.specs.Vim.{tested_placed}
 use Rattle.call_vim.proofs.Bounds.{tested_place}

@@ -1,5 +1,4 @@
 -- `list::vim_write` meets its contract: it hands on what the call answers. Assumes nothing.
-use borrow.Author.Rules.{rules}
 use Rattle.call_vim.proofs.list.vim_write.Goals as goal
 
 pub returns : goal.returns

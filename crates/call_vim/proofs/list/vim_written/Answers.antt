@@ -1,5 +1,5 @@
 -- `list::vim_written` meets its contract: a refusal is handed on with its place, else what writing answers. Assumes nothing.
-use Rattle.lists.proofs.Kit.{ap, sym, ◌∙◌, arith, rules}
+use Rattle.lists.proofs.Kit.{ap, sym, ◌∙◌, arith}
 use Rattle.vim_reader.specs.declared.VimRead.{VimRead}
 use Rattle.vim_writer.specs.Written.{written_of}
 use Rattle.call_vim.specs.Vim.{written_placed}
@@ -12,8 +12,8 @@ placed_at-requires c = rw c.parse-r.ensures (read_place c.args.list.now)
 pub returns-then-r-ne0 : goal.returns-then-r-ne0
 returns-then-r-ne0 c =
     let told =
-      writing_refused c.args.list.now c.args.written.now _ c.parse-r.ensures _ c.placed_at.ensures
-      c.if-r-ne0.true in
+    writing_refused c.args.list.now c.args.written.now _ c.parse-r.ensures _ c.placed_at.ensures
+    c.if-r-ne0.true in
     record { value = told.0; written_after = told.1 }
 
 pub overflow_cast-result : goal.overflow_cast-result

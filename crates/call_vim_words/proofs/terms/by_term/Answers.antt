@@ -1,5 +1,4 @@
 -- `terms::by_term` meets its contract, by the cases of what is asked for. Assumes nothing.
-use borrow.Author.Rules.{rules}
 use Rattle.call_vim_words.specs.ByTerm.{by_vim_term}
 use Rattle.call_vim_words.proofs.terms.by_term.Goals as goal
 

@@ -1,5 +1,5 @@
 -- `terms::place_vim` meets its contract, by the cases of the answer. Assumes nothing.
-use Rattle.lists.proofs.Kit.{refl, rules}
+use Rattle.lists.proofs.Kit.{refl}
 use Rattle.call_vim_words.specs.ByTerm.{vim_moved}
 use Rattle.call_vim_words.proofs.terms.place_vim.Goals as goal
 

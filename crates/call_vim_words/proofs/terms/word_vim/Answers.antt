@@ -1,5 +1,5 @@
 -- `terms::word_vim` meets its contract: it hands on what the motion answers. Assumes nothing.
-use Rattle.lists.proofs.Kit.{sym, ap, subst, ◌∙◌, rules}
+use Rattle.lists.proofs.Kit.{sym, ap, subst, ◌∙◌}
 use Rattle.motions.specs.declared.Caret.{Caret}
 use Rattle.call_bytes.proofs.Replies.{replied_of}
 use Rattle.call_folds.specs.Terms.{is_big}

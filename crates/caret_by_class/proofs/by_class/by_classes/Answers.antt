@@ -1,6 +1,6 @@
 -- `caret_by_class::by_class::by_classes` meets its contract: the classes are written, and the second engine's motion by them is the first engine's.
 -- Assumes nothing.
-use Rattle.lists.proofs.Kit.{ap, ◌∙◌, rules}
+use Rattle.lists.proofs.Kit.{ap, ◌∙◌}
 use Rattle.text_check.proofs.Accepted.{accepted_short}
 use Rattle.list_tokens.specs.Tokens.{any_token}
 use Rattle.keywords.specs.Table.{kept}

@@ -1,5 +1,5 @@
 -- `caret_by_class::by_class::word_by_class` meets its contract: each refusal in its turn, and else the motion by the classes. Assumes nothing.
-use Rattle.lists.proofs.Kit.{refl, ap, sym, ◌∙◌, List, ℕ, take, rules}
+use Rattle.lists.proofs.Kit.{refl, ap, sym, ◌∙◌, List, ℕ, take}
 use Rattle.list_tokens.specs.declared.Token.{Token}
 use Rattle.list_tokens.specs.Tokens.{any_token, in_list}
 use Rattle.keywords.specs.declared.Parsed.{Parsed}
@@ -81,5 +81,8 @@ returns c =
     given.big given.m given.stop given.count given.k) kept_is
     ∙ ap (λ (own : List ℕ). word_caret given.t.now own (in_list given.list.now) given.big given.m given.stop
     given.count given.k) c.taken-n.ensures.part in
-    record { answer = answer_given places_refusal_is _ _ c.if-g-ne0.false by_classes_is; left = slice_written places_refusal_is given.t.now given.list.now given.classes.now _ c.if-g-ne0.false
-          (c.by_classes.ensures.left ∙ ap (λ (ts : List Token). holding (classes_of (any_token ts) given.t.now) given.classes.now) kept_is) }
+    record {
+      answer = answer_given places_refusal_is _ _ c.if-g-ne0.false by_classes_is;
+      left = slice_written places_refusal_is given.t.now given.list.now given.classes.now _ c.if-g-ne0.false
+          (c.by_classes.ensures.left ∙ ap (λ (ts : List Token). holding (classes_of (any_token ts) given.t.now) given.classes.now) kept_is);
+    }

@@ -1,5 +1,5 @@
 -- `chars::cell_widths::high_width` meets its contract: the consts are the lists of the definition. Assumes nothing.
-use Rattle.lists.proofs.Kit.{refl, ℕ, rules}
+use Rattle.lists.proofs.Kit.{refl, ℕ}
 use Rattle.chars.specs.Width.{zero_widths, double_widths}
 use Rattle.chars.proofs.Lent.{by_width, widths_lent}
 use Rattle.chars.proofs.cell_widths.high_width.Goals as goal

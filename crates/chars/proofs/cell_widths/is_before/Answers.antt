@@ -1,4 +1,3 @@
-use borrow.Author.Rules.{rules}
 use Rattle.chars.proofs.Before.{before_none, before_first}
 use Rattle.chars.proofs.cell_widths.is_before.Goals as goal
 

@@ -1,5 +1,5 @@
 -- `chars::width` meets its contract: below U+0300 the tables hold U+0000 alone. Assumes nothing.
-use Rattle.lists.proofs.Kit.{sym, ◌∙◌, rules}
+use Rattle.lists.proofs.Kit.{sym, ◌∙◌}
 use Rattle.chars.proofs.Lent.{width_low}
 use Rattle.chars.proofs.cell_widths.width.Goals as goal
 

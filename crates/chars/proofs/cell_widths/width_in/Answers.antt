@@ -1,5 +1,5 @@
 -- `chars::width_in` meets its contract: what lies before the doubles by what is required of the zeros, the rest by searching both. Assumes nothing.
-use Rattle.lists.proofs.Kit.{◌∙◌, sym, rules}
+use Rattle.lists.proofs.Kit.{◌∙◌, sym}
 use Rattle.chars.specs.Width.{width_by}
 use Rattle.chars.proofs.Before.{before_low}
 use Rattle.chars.proofs.cell_widths.width_in.Goals as goal

@@ -1,8 +1,7 @@
 -- `chars::all_scalar` meets its contract. The invariant of its loop: what was found, or will be. The measure is what is left.
 -- Assumes nothing.
-use Rattle.lists.proofs.Kit.{ap, not, ◌-◌, length, rules}
-use Rattle.chars.specs.Scalar.{not_scalar}
-use Rattle.lists.proofs.Any.{Finds, finds_start, finds_on, finds_end}
+use Rattle.lists.proofs.Kit.{ap, not, ◌-◌}
+use Rattle.lists.proofs.Any.{finds_start, finds_on, finds_end}
 use Rattle.chars.proofs.scalar.all_scalar.Goals as goal
 
 pub loop-i-preserved : goal.loop-i-preserved

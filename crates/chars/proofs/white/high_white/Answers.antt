@@ -1,5 +1,5 @@
 -- `chars::white::high_white` meets its contract: the const is the list of the definition. Assumes nothing.
-use Rattle.lists.proofs.Kit.{refl, rules}
+use Rattle.lists.proofs.Kit.{refl}
 use Rattle.chars.specs.White.{whites}
 use Rattle.chars.proofs.white.high_white.Goals as goal
 

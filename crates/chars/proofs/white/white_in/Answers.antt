@@ -1,5 +1,5 @@
 -- `chars::white_in` meets its contract: the lent table is the list of the definition, and ascends. Assumes nothing.
-use Rattle.lists.proofs.Kit.{◌∙◌, rules}
+use Rattle.lists.proofs.Kit.{◌∙◌}
 use Rattle.chars.specs.White.{is_white}
 use Rattle.chars.proofs.Tables.{whites_ascend}
 use Rattle.chars.proofs.white.white_in.Goals as goal

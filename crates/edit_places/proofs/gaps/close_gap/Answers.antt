@@ -1,5 +1,5 @@
 -- `gaps::close_gap` meets its contract: what `close_up` leaves, with zeros put behind it. Assumes nothing.
-use Rattle.lists.proofs.Kit.{arith, rules}
+use Rattle.lists.proofs.Kit.{arith}
 use Rattle.edit_places.proofs.Closing.{deleted}
 use Rattle.edit_places.proofs.gaps.close_gap.Goals as goal
 

@@ -1,8 +1,7 @@
 -- `gaps::close_up` meets its contract. The invariant of its loop: the first k of the part are moved. The measure is the part's length less k.
 -- A read stands behind what is written, since a + k ≤ b + k. Assumes nothing.
-use Rattle.lists.proofs.Kit.{sym, ◌∙◌, List, ℕ, ◌+◌, ◌-◌, ◌≤◌, arith, take, drop, length-slice, rules}
-use Rattle.edit_places.proofs.Puts.{Up, up_none, up_next, up_all, up_read, part_read}
-use Rattle.edit_places.proofs.gaps.close_up.Invariants.{Moved}
+use Rattle.lists.proofs.Kit.{sym, ◌∙◌, ◌+◌, ◌-◌, arith, length-slice}
+use Rattle.edit_places.proofs.Puts.{up_none, up_next, up_all, up_read, part_read}
 use Rattle.edit_places.proofs.gaps.close_up.Goals as goal
 
 pub loop-k-init : goal.loop-k-init

@@ -1,7 +1,7 @@
 -- `gaps::close_up` meets its contract. The invariant of its loop: the first k of the part are moved. The measure is the part's length less k.
 -- A read stands behind what is written, since a + k ≤ b + k. Assumes nothing.
-use Rattle.lists.proofs.Kit.{sym, ◌∙◌, List, ℕ, ◌+◌, ◌-◌, ◌≤◌, arith, take, drop, length-slice, rules}
-use Rattle.edit_places.proofs.Puts.{Up, up_none, up_next, up_all, up_read, part_read}
+use Rattle.lists.proofs.Kit.{List, ℕ, ◌-◌, ◌≤◌, take, drop}
+use Rattle.edit_places.proofs.Puts.{Up}
 use Rattle.edit_places.proofs.gaps.close_up.Given as goal
 
 pub record Moved (buf₀ : List ℕ) (len a b : ℕ) (buf : List ℕ) (k : ℕ) : Type 0 where

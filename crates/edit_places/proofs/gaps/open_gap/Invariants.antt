@@ -1,7 +1,7 @@
 -- `gaps::open_gap` meets its contract. The invariant of its loop: all but the first k of the part are moved. The measure is k.
 -- A read stands before what is written: with k the new one, a + k < a + m + (k + 1). Assumes nothing.
-use Rattle.lists.proofs.Kit.{sym, ◌∙◌, List, ℕ, ◌+◌, ◌-◌, ◌≤◌, arith, take, drop, length-slice, rules}
-use Rattle.edit_places.proofs.Puts.{Down, down_none, down_next, down_all, down_read, part_read}
+use Rattle.lists.proofs.Kit.{List, ℕ, ◌+◌, ◌-◌, ◌≤◌, take, drop}
+use Rattle.edit_places.proofs.Puts.{Down}
 use Rattle.edit_places.proofs.gaps.open_gap.Given as goal
 
 pub record Moved (buf₀ : List ℕ) (len a m : ℕ) (buf : List ℕ) (k : ℕ) : Type 0 where

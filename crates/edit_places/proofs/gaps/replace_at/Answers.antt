@@ -1,6 +1,6 @@
 -- `gaps::replace_at` meets its contract: a shorter text is written first and the rest closed up, a longer one is written into a gap.
 -- Assumes nothing.
-use Rattle.lists.proofs.Kit.{arith, rules}
+use Rattle.lists.proofs.Kit.{arith}
 use Rattle.edit_places.proofs.Replaces.{refilled_shorter, refilled_longer}
 use Rattle.edit_places.proofs.gaps.replace_at.Goals as goal
 

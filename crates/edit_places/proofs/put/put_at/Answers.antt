@@ -1,7 +1,7 @@
 -- `put::put_at` meets its contract. The invariant of its loop: the first k points are written. The measure is their number less k.
 -- Assumes nothing.
-use Rattle.lists.proofs.Kit.{refl, ◌-◌, length, rules}
-use Rattle.edit_places.proofs.Puts.{Up, up_none, up_next, up_all}
+use Rattle.lists.proofs.Kit.{refl, ◌-◌}
+use Rattle.edit_places.proofs.Puts.{up_none, up_next, up_all}
 use Rattle.edit_places.proofs.put.put_at.Goals as goal
 
 pub loop-k-init : goal.loop-k-init

@@ -1,9 +1,7 @@
 -- `put::put_zeros` meets its contract. The invariant of its loop: the first k zeros are written. The measure is their number less k.
 -- Assumes nothing.
-use Rattle.lists.proofs.Kit.{List, ℕ, ◌-◌, ◌≤◌, arith, rules}
-use Rattle.edit_places.specs.Replaced.{zeros}
-use Rattle.edit_places.proofs.Puts.{Up, up_none, up_next, up_all, length_zeros, zeros_read}
-use Rattle.edit_places.proofs.put.put_zeros.Invariants.{Put}
+use Rattle.lists.proofs.Kit.{◌-◌, arith}
+use Rattle.edit_places.proofs.Puts.{up_none, up_next, up_all, length_zeros, zeros_read}
 use Rattle.edit_places.proofs.put.put_zeros.Goals as goal
 
 pub loop-k-init : goal.loop-k-init

@@ -1,8 +1,8 @@
 -- `put::put_zeros` meets its contract. The invariant of its loop: the first k zeros are written. The measure is their number less k.
 -- Assumes nothing.
-use Rattle.lists.proofs.Kit.{List, ℕ, ◌-◌, ◌≤◌, arith, rules}
+use Rattle.lists.proofs.Kit.{List, ℕ, ◌-◌, ◌≤◌}
 use Rattle.edit_places.specs.Replaced.{zeros}
-use Rattle.edit_places.proofs.Puts.{Up, up_none, up_next, up_all, length_zeros, zeros_read}
+use Rattle.edit_places.proofs.Puts.{Up}
 use Rattle.edit_places.proofs.put.put_zeros.Given as goal
 
 pub record Put (buf₀ : List ℕ) (at n : ℕ) (buf : List ℕ) (k : ℕ) : Type 0 where

@@ -1,8 +1,7 @@
 -- `entries::take_all` meets its contract. The invariant of its loop: the folds of the blocks before k are taken. The measure is how many are left.
 -- Assumes nothing.
-use Rattle.lists.proofs.Kit.{◌*◌, ◌-◌, arith, rules}
-use Rattle.fold_blocks.proofs.Cuts.{length_block_at}
-use Rattle.fold_reader.proofs.Takes.{Taking, taking_begun, taking_few, taking_room, taking_on, taking_end}
+use Rattle.lists.proofs.Kit.{◌-◌}
+use Rattle.fold_reader.proofs.Takes.{Taking}
 use Rattle.fold_reader.proofs.entries.take_all.Given as goal
 
 abbrev pub invariant-loop-k : goal.invariant-loop-k

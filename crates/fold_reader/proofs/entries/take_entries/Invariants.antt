@@ -1,10 +1,9 @@
 -- `entries::take_entries` meets its contract. The invariant of its loop: what is written, with the entries to come, comes to the whole. The measure is how
 -- many are left. Assumes nothing.
-use Rattle.lists.proofs.Kit.{List, ℕ, ◌+◌, ◌*◌, ◌-◌, ◌≤◌, arith, drop, rules}
-use Rattle.fold_blocks.specs.Bytes.{entry_at, entries_in}
-use Rattle.fold_blocks.proofs.Rules.{length_entries_in}
-use Rattle.fold_blocks.proofs.Toward.{Toward, toward_room, toward_on, toward_end}
-use Rattle.fold_reader.proofs.Takes.{entries_from, taking_start, entries_on, entries_done}
+use Rattle.lists.proofs.Kit.{List, ℕ, ◌-◌, ◌≤◌, drop}
+use Rattle.fold_blocks.specs.Bytes.{entries_in}
+use Rattle.fold_blocks.proofs.Toward.{Toward}
+use Rattle.fold_reader.proofs.Takes.{entries_from}
 use Rattle.fold_reader.proofs.entries.take_entries.Given as goal
 
 pub record Taken (block : List ℕ) (count : ℕ) (out₀ : List ℕ) (at : ℕ) (out : List ℕ) (next i : ℕ) : Type 0 where

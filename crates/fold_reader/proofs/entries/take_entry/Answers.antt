@@ -1,5 +1,4 @@
 -- `entries::take_entry` meets its contract: three numbers, one after another. Assumes nothing.
-use borrow.Author.Rules.{rules}
 use Rattle.print.proofs.Laws.{wrote_then}
 use Rattle.fold_reader.proofs.entries.take_entry.Goals as goal
 

@@ -1,10 +1,9 @@
 -- `layout::any_torn` meets its contract. The invariant of its loop: the blocks from k on decide. The measure is how many are left. Assumes nothing.
-use Rattle.lists.proofs.Kit.{ap, sym, ◌∙◌, ◌+◌, ◌*◌, ◌-◌, arith, rules}
+use Rattle.lists.proofs.Kit.{ap, sym, ◌∙◌, ◌+◌, ◌*◌, ◌-◌, arith}
 use Rattle.lists.specs.Lists.{any}
-use Rattle.lists.proofs.Decides.{Decides, decides_stop, decides_on, decides_end}
-use Rattle.fold_blocks.specs.Listed.{blocks_of}
+use Rattle.lists.proofs.Decides.{decides_stop, decides_on, decides_end}
 use Rattle.fold_blocks.specs.Layout.{is_torn}
-use Rattle.fold_blocks.proofs.Cuts.{cut_from, cut_start, length_block_at, any_on, any_end}
+use Rattle.fold_blocks.proofs.Cuts.{cut_start, length_block_at, any_on, any_end}
 use Rattle.fold_reader.proofs.layout.any_torn.Goals as goal
 
 pub loop-k-init : goal.loop-k-init

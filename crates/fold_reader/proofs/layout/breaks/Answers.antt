@@ -1,5 +1,4 @@
 -- `layout::breaks` meets its contract: the rules one after another. Assumes nothing.
-use borrow.Author.Rules.{rules}
 use Rattle.fold_reader.proofs.Breaking.{breaks_number, breaks_many, breaks_full, breaks_some, breaks_unused, breaks_total}
 use Rattle.fold_reader.proofs.layout.breaks.Goals as goal
 

@@ -1,8 +1,7 @@
 -- `layout::broken` meets its contract. The invariant of its loop: the blocks from k on decide. The measure is how many are left. Assumes nothing.
-use Rattle.lists.proofs.Kit.{sym, ◌∙◌, ◌+◌, ◌*◌, ◌-◌, arith, rules}
-use Rattle.lists.proofs.Decides.{Decides, decides_stop, decides_on, decides_end}
-use Rattle.fold_blocks.specs.Layout.{is_broken, broken}
-use Rattle.fold_blocks.proofs.Cuts.{cut_from, length_block_at, broken_start, broken_on, broken_end}
+use Rattle.lists.proofs.Kit.{sym, ◌∙◌, ◌+◌, ◌*◌, ◌-◌, arith}
+use Rattle.lists.proofs.Decides.{decides_stop, decides_on, decides_end}
+use Rattle.fold_blocks.proofs.Cuts.{length_block_at, broken_start, broken_on, broken_end}
 use Rattle.fold_reader.proofs.layout.broken.Goals as goal
 
 pub loop-k-init : goal.loop-k-init

@@ -1,9 +1,8 @@
 -- `layout::count_all` meets its contract. The invariant of its loop: what is counted, with the blocks from k on, comes to the whole. The measure is how
 -- many blocks are left. Assumes nothing.
-use Rattle.lists.proofs.Kit.{◌≡◌, ap, List, ℕ, ◌+◌, ◌*◌, ◌-◌, ◌≤◌, arith, rules}
-use Rattle.fold_blocks.specs.Listed.{blocks_of, count_all}
-use Rattle.fold_blocks.proofs.Cuts.{cut_from, cut_start, count_on, count_end}
-use Rattle.fold_reader.proofs.layout.count_all.Invariants.{Counted}
+use Rattle.lists.proofs.Kit.{ap, ◌-◌, arith}
+use Rattle.fold_blocks.specs.Listed.{count_all}
+use Rattle.fold_blocks.proofs.Cuts.{cut_start, count_on, count_end}
 use Rattle.fold_reader.proofs.layout.count_all.Goals as goal
 
 pub loop-k-init : goal.loop-k-init

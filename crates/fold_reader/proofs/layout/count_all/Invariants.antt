@@ -1,8 +1,8 @@
 -- `layout::count_all` meets its contract. The invariant of its loop: what is counted, with the blocks from k on, comes to the whole. The measure is how
 -- many blocks are left. Assumes nothing.
-use Rattle.lists.proofs.Kit.{◌≡◌, ap, List, ℕ, ◌+◌, ◌*◌, ◌-◌, ◌≤◌, arith, rules}
+use Rattle.lists.proofs.Kit.{◌≡◌, List, ℕ, ◌+◌, ◌*◌, ◌-◌, ◌≤◌}
 use Rattle.fold_blocks.specs.Listed.{blocks_of, count_all}
-use Rattle.fold_blocks.proofs.Cuts.{cut_from, cut_start, count_on, count_end}
+use Rattle.fold_blocks.proofs.Cuts.{cut_from}
 use Rattle.fold_reader.proofs.layout.count_all.Given as goal
 
 pub record Counted (file : List ℕ) (many n k : ℕ) : Type 0 where

@@ -1,5 +1,5 @@
 -- `layout::layout_refusal` meets its contract: each refusal in its order. Assumes nothing.
-use Rattle.lists.proofs.Kit.{sym, ◌∙◌, rules}
+use Rattle.lists.proofs.Kit.{sym, ◌∙◌}
 use Rattle.fold_blocks.specs.Layout.{layout_refusal}
 use Rattle.fold_blocks.proofs.Whole.{uncut_false}
 use Rattle.fold_reader.proofs.layout.layout_refusal.Goals as goal

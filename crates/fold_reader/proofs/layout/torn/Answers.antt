@@ -1,5 +1,5 @@
 -- `layout::torn` meets its contract: the sum stored against the sum of the first 510 bytes. Assumes nothing.
-use Rattle.lists.proofs.Kit.{sym, arith, length-take, length-take-le, rules}
+use Rattle.lists.proofs.Kit.{sym, arith, length-take, length-take-le}
 use Rattle.fold_blocks.specs.Layout.{is_torn}
 use Rattle.fold_reader.proofs.layout.torn.Goals as goal
 

@@ -1,6 +1,6 @@
 -- `layout::used` meets its contract. The invariant of its loop: what was found, or is to come. The measure is the length less i. Assumes nothing.
-use Rattle.lists.proofs.Kit.{◌-◌, length, rules}
-use Rattle.lists.proofs.Any.{Finds, finds_start, finds_on, finds_end}
+use Rattle.lists.proofs.Kit.{◌-◌, length}
+use Rattle.lists.proofs.Any.{Finds}
 use Rattle.fold_blocks.specs.Layout.{is_used}
 use Rattle.fold_reader.proofs.layout.used.Given as goal
 

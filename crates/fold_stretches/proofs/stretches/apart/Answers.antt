@@ -1,5 +1,5 @@
 -- `fold_stretches::stretches::apart` meets its contract: the fold hides nothing, lies below the stretch, or above it. Assumes nothing.
-use Rattle.lists.proofs.Kit.{arith, rules}
+use Rattle.lists.proofs.Kit.{arith}
 use Rattle.fold_stretches.proofs.Asunder.{apart_open, apart_one, apart_low, apart_high}
 use Rattle.fold_stretches.proofs.stretches.apart.Goals as goal
 

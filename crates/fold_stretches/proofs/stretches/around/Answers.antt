@@ -1,7 +1,7 @@
 -- `fold_stretches::stretches::around` meets its contract. The invariant of its loop: the folds before i hide no row of the stretch.
 -- The measure is the folds' length less i. Assumes nothing.
-use Rattle.lists.proofs.Kit.{refl, ◌+◌, ◌-◌, arith, length, rules}
-use Rattle.fold_stretches.proofs.Asunder.{NoFoldTo, no_fold_step, no_fold_end}
+use Rattle.lists.proofs.Kit.{refl, ◌-◌, arith}
+use Rattle.fold_stretches.proofs.Asunder.{no_fold_step, no_fold_end}
 use Rattle.fold_stretches.proofs.stretches.around.Goals as goal
 
 pub loop-i-init : goal.loop-i-init

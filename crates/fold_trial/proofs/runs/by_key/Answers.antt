@@ -1,5 +1,5 @@
 -- `by_key` meets its contract, key by key. Assumes nothing.
-use Rattle.lists.proofs.Kit.{arith, rules}
+use Rattle.lists.proofs.Kit.{arith}
 use Rattle.fold_trial.proofs.Rows.{unread_fits, prints}
 use Rattle.fold_trial.proofs.Inputs.{key_write, key_none, key_many, key_read}
 use Rattle.fold_trial.proofs.runs.by_key.Goals as goal

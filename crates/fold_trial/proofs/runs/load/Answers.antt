@@ -1,5 +1,5 @@
 -- `load` meets its contract, by the answers of the reader. Assumes nothing.
-use Rattle.lists.proofs.Kit.{◌≡◌, sym, ◌∙◌, List, ℕ, arith, length, replicate, length-replicate, rules}
+use Rattle.lists.proofs.Kit.{◌≡◌, sym, ◌∙◌, List, ℕ, arith, length, replicate, length-replicate}
 use Rattle.fold_blocks.specs.Listed.{folds_in}
 use Rattle.fold_trial.proofs.Rows.{fold_row_fits, refusal_row_fits, prints}
 use Rattle.fold_trial.proofs.Answers.{loaded_front, loaded_counts, loaded_few, loaded_within, loaded_shown, loaded_refused}

@@ -1,5 +1,5 @@
 -- `load_in` meets its contract, by the length of the file and the check of the text. Assumes nothing.
-use Rattle.lists.proofs.Kit.{sym, ◌∙◌, length-take-le, rules}
+use Rattle.lists.proofs.Kit.{sym, ◌∙◌, length-take-le}
 use Rattle.session_input.proofs.TextRead.{check_good, check_bad}
 use Rattle.fold_trial.proofs.Rows.{unread_fits, prints}
 use Rattle.fold_trial.proofs.Inputs.{load_long, load_good, load_bad}

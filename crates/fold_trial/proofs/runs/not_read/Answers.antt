@@ -1,4 +1,3 @@
-use borrow.Author.Rules.{rules}
 use Rattle.lists.specs.Codes.{codes}
 use Rattle.fold_trial.specs.Runs.{unread}
 use Rattle.fold_trial.proofs.runs.not_read.Goals as goal

@@ -1,12 +1,11 @@
 -- `put_folds` meets its contract. The invariant of its loop: what is written, with the numbers to come and the row's end, comes to the row. The measure is
 -- what is left of the folds. Assumes nothing.
-use Rattle.lists.proofs.Kit.{refl, List, [], ◌∷◌, ◌++◌, ℕ, ◌+◌, ◌-◌, ◌≤◌, arith, length, get_or, drop, rules}
+use Rattle.lists.proofs.Kit.{refl, [], ◌∷◌, ◌++◌, ◌+◌, ◌-◌, arith, get_or, drop}
 use Rattle.print.specs.Print.{decimal}
 use Rattle.print.proofs.Laws.{wrote_then}
-use Rattle.fold_blocks.proofs.Toward.{Toward, toward_start, toward_room, toward_on, toward_end}
+use Rattle.fold_blocks.proofs.Toward.{toward_start, toward_room, toward_on, toward_end}
 use Rattle.fold_trial.specs.Runs.{spaced, fold_row}
 use Rattle.fold_trial.proofs.Rows.{spaced_at, spaced_end, fold_row_fits, fold_row_length}
-use Rattle.fold_trial.proofs.runs.put_folds.Invariants.{Put}
 use Rattle.fold_trial.proofs.runs.put_folds.Goals as goal
 
 pub loop-i-init : goal.loop-i-init

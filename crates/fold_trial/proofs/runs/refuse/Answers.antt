@@ -1,5 +1,5 @@
 -- `refuse` meets its contract: the row's pieces, one after another. Assumes nothing.
-use Rattle.lists.proofs.Kit.{arith, rules}
+use Rattle.lists.proofs.Kit.{arith}
 use Rattle.print.proofs.Laws.{wrote_then, length_decimal}
 use Rattle.fold_trial.specs.Runs.{refusal_row}
 use Rattle.fold_trial.proofs.runs.refuse.Goals as goal

@@ -1,5 +1,5 @@
 -- `run` meets its contract: an input that is too long, one without a key, and one by its first row. Assumes nothing.
-use Rattle.lists.proofs.Kit.{sym, ℕ, arith, length-replicate, length-take-le, rules}
+use Rattle.lists.proofs.Kit.{sym, ℕ, arith, length-replicate, length-take-le}
 use Rattle.fold_trial.proofs.Rows.{unread_fits, prints}
 use Rattle.fold_trial.proofs.Inputs.{row_most, run_long, run_short, run_count, run_malformed, count_within}
 use Rattle.fold_trial.proofs.runs.run.Goals as goal

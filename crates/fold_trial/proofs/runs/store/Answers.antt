@@ -1,5 +1,5 @@
 -- `store` meets its contract, by the answers of the writer. Assumes nothing.
-use Rattle.lists.proofs.Kit.{ap, sym, ◌∙◌, length, rules}
+use Rattle.lists.proofs.Kit.{ap, sym, ◌∙◌, length}
 use Rattle.fold_trial.proofs.Rows.{refusal_row_fits, prints}
 use Rattle.fold_trial.proofs.Answers.{stored_bytes, stored_kept, stored_refused}
 use Rattle.fold_trial.proofs.runs.store.Goals as goal

@@ -1,5 +1,5 @@
 -- `store_in` meets its contract, by the check of the text. Assumes nothing.
-use Rattle.lists.proofs.Kit.{sym, ◌∙◌, rules}
+use Rattle.lists.proofs.Kit.{sym, ◌∙◌}
 use Rattle.session_input.proofs.TextRead.{check_good, check_bad}
 use Rattle.fold_trial.proofs.Rows.{unread_fits, prints}
 use Rattle.fold_trial.proofs.Inputs.{store_good, store_bad}

@@ -1,6 +1,6 @@
 -- `folds::folds::closed_from` meets its contract: the row after the first is hidden or not, and a next row shows or not.
 -- Assumes nothing.
-use Rattle.lists.proofs.Kit.{sym, ◌∙◌, arith, rules, not-true, not-false}
+use Rattle.lists.proofs.Kit.{sym, ◌∙◌, arith}
 use Rattle.folds.proofs.Past.{visible_within}
 use Rattle.folds.proofs.folds.closed_from.Goals as goal
 

@@ -1,9 +1,7 @@
 -- `folds::folds::cover` meets its contract. The invariant of its loop: the folds from i on decide. The measure is what is left of them.
 -- Assumes nothing.
-use Rattle.lists.proofs.Kit.{◌≡◌, sym, ◌∙◌, List, ℕ, ◌+◌, ◌-◌, ◌≤◌, arith, length, drop, rules}
-use Rattle.folds.specs.Cover.{cover_of}
+use Rattle.lists.proofs.Kit.{sym, ◌∙◌, ◌+◌, ◌-◌, arith}
 use Rattle.folds.proofs.Hiding.{cover_on, cover_end}
-use Rattle.folds.proofs.folds.cover.Invariants.{Passed}
 use Rattle.folds.proofs.folds.cover.Goals as goal
 
 -- the numbers of a fold fit

@@ -1,8 +1,7 @@
 -- `folds::folds::cover` meets its contract. The invariant of its loop: the folds from i on decide. The measure is what is left of them.
 -- Assumes nothing.
-use Rattle.lists.proofs.Kit.{◌≡◌, sym, ◌∙◌, List, ℕ, ◌+◌, ◌-◌, ◌≤◌, arith, length, drop, rules}
+use Rattle.lists.proofs.Kit.{◌≡◌, List, ℕ, ◌-◌, ◌≤◌, length, drop}
 use Rattle.folds.specs.Cover.{cover_of}
-use Rattle.folds.proofs.Hiding.{cover_on, cover_end}
 use Rattle.folds.proofs.folds.cover.Given as goal
 
 pub record Passed (folds : List ℕ) (row i : ℕ) : Type 0 where

@@ -1,9 +1,8 @@
 -- `folds::folds::fold_refusal` meets its contract. The invariant of its loop: the folds from i on decide. The measure is what is left of them.
 -- Assumes nothing.
-use Rattle.lists.proofs.Kit.{◌≡◌, ◌∙◌, List, ℕ, ◌-◌, ◌≤◌, arith, length, drop, rules, eq-eqb, ne_eqb, lt-ltb, le-ltb}
-use Rattle.folds.specs.Folds.{any_fold, bad_fold, fold_refusal}
+use Rattle.lists.proofs.Kit.{◌∙◌, ◌-◌, arith, eq-eqb, ne_eqb, lt-ltb, le-ltb}
+use Rattle.folds.specs.Folds.{bad_fold, fold_refusal}
 use Rattle.folds.proofs.Hiding.{any_fold_on, any_fold_end}
-use Rattle.folds.proofs.folds.fold_refusal.Invariants.{Passed}
 use Rattle.folds.proofs.folds.fold_refusal.Goals as goal
 
 pub returns-then-folds-ne0 : goal.returns-then-folds-ne0

@@ -1,8 +1,7 @@
 -- `folds::folds::fold_refusal` meets its contract. The invariant of its loop: the folds from i on decide. The measure is what is left of them.
 -- Assumes nothing.
-use Rattle.lists.proofs.Kit.{◌≡◌, ◌∙◌, List, ℕ, ◌-◌, ◌≤◌, arith, length, drop, rules, eq-eqb, ne_eqb, lt-ltb, le-ltb}
-use Rattle.folds.specs.Folds.{any_fold, bad_fold, fold_refusal}
-use Rattle.folds.proofs.Hiding.{any_fold_on, any_fold_end}
+use Rattle.lists.proofs.Kit.{◌≡◌, List, ℕ, ◌-◌, ◌≤◌, length, drop}
+use Rattle.folds.specs.Folds.{any_fold, bad_fold}
 use Rattle.folds.proofs.folds.fold_refusal.Given as goal
 
 pub record Passed (folds : List ℕ) (rows i : ℕ) : Type 0 where

@@ -1,6 +1,6 @@
 -- `folds::folds::is_row_hidden` meets its contract: the first fold that hides the row tells whether there is one.
 -- Assumes nothing.
-use Rattle.lists.proofs.Kit.{sym, ◌∙◌, rules}
+use Rattle.lists.proofs.Kit.{sym, ◌∙◌}
 use Rattle.folds.proofs.Past.{said}
 use Rattle.folds.proofs.folds.is_row_hidden.Goals as goal
 

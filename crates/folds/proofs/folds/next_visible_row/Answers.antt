@@ -1,9 +1,7 @@
 -- `folds::folds::next_visible_row` meets its contract. The invariant of its loop: the first row seen from r on is the answer.
 -- The measure is the rows less r. Assumes nothing.
-use Rattle.lists.proofs.Kit.{◌≡◌, refl, sym, ◌∙◌, List, false, ℕ, ◌-◌, ◌≤◌, arith, rules}
-use Rattle.folds.specs.Folds.{any_fold, bad_fold, visible_from, next_visible}
+use Rattle.lists.proofs.Kit.{refl, sym, ◌∙◌, ◌-◌, arith}
 use Rattle.folds.proofs.Past.{said, folds_good, next_jump, next_here, next_none}
-use Rattle.folds.proofs.folds.next_visible_row.Invariants.{Passed}
 use Rattle.folds.proofs.folds.next_visible_row.Goals as goal
 
 pub loop-r-init : goal.loop-r-init

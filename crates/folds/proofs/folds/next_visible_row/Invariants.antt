@@ -1,8 +1,7 @@
 -- `folds::folds::next_visible_row` meets its contract. The invariant of its loop: the first row seen from r on is the answer.
 -- The measure is the rows less r. Assumes nothing.
-use Rattle.lists.proofs.Kit.{◌≡◌, refl, sym, ◌∙◌, List, false, ℕ, ◌-◌, ◌≤◌, arith, rules}
+use Rattle.lists.proofs.Kit.{◌≡◌, List, false, ℕ, ◌-◌, ◌≤◌}
 use Rattle.folds.specs.Folds.{any_fold, bad_fold, visible_from, next_visible}
-use Rattle.folds.proofs.Past.{said, folds_good, next_jump, next_here, next_none}
 use Rattle.folds.proofs.folds.next_visible_row.Given as goal
 
 pub record Passed (folds : List ℕ) (rows row r : ℕ) : Type 0 where

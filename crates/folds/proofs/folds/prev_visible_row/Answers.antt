@@ -1,7 +1,6 @@
 -- `folds::folds::prev_visible_row` meets its contract. The invariant of its loop: the last row seen before r is the answer.
 -- The measure is r. Assumes nothing.
-use Rattle.lists.proofs.Kit.{◌≡◌, sym, ◌∙◌, ◌-◌, arith, rules}
-use Rattle.folds.specs.Folds.{prev_visible}
+use Rattle.lists.proofs.Kit.{sym, ◌∙◌, ◌-◌, arith}
 use Rattle.folds.proofs.Past.{said, prev_jump, prev_here, prev_none}
 use Rattle.folds.proofs.folds.prev_visible_row.Goals as goal
 

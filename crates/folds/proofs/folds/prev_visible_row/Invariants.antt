@@ -1,8 +1,7 @@
 -- `folds::folds::prev_visible_row` meets its contract. The invariant of its loop: the last row seen before r is the answer.
 -- The measure is r. Assumes nothing.
-use Rattle.lists.proofs.Kit.{◌≡◌, sym, ◌∙◌, ◌-◌, arith, rules}
+use Rattle.lists.proofs.Kit.{◌≡◌, ◌-◌}
 use Rattle.folds.specs.Folds.{prev_visible}
-use Rattle.folds.proofs.Past.{said, prev_jump, prev_here, prev_none}
 use Rattle.folds.proofs.folds.prev_visible_row.Given as goal
 
 abbrev pub invariant-loop-r : goal.invariant-loop-r

@@ -1,5 +1,5 @@
 -- `call::caret_of` meets its contract: the column is counted from where the table says that the row starts. Assumes nothing.
-use Rattle.lists.proofs.Kit.{ap, ◌∙◌, ℕ, ◌-◌, arith, rules}
+use Rattle.lists.proofs.Kit.{ap, ◌∙◌, ℕ, ◌-◌, arith}
 use Rattle.motions.specs.Carets.{caret_at}
 use Rattle.jumps.proofs.Spots.{spot_short}
 use Rattle.jumps.proofs.call.caret_of.Goals as goal

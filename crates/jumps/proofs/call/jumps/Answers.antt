@@ -1,5 +1,5 @@
 -- `call::jumps` meets its contract: what is refused, in its order; no jump; or the run, which is the single calls in turn. Assumes nothing.
-use Rattle.lists.proofs.Kit.{ap, sym, ◌∙◌, List, false, rules}
+use Rattle.lists.proofs.Kit.{ap, sym, ◌∙◌, List, false}
 use Rattle.list_tokens.specs.declared.Token.{Token}
 use Rattle.list_tokens.specs.Tokens.{any_token}
 use Rattle.keywords.specs.declared.Parsed.{Parsed}

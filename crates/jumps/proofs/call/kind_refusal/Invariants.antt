@@ -1,7 +1,7 @@
 -- `jumps::call::kind_refusal` meets its contract. The invariant of its loop: what is refused of the jumps from i on is what is refused of all.
 -- The measure is how many numbers are left. Assumes nothing.
-use Rattle.lists.proofs.Kit.{◌≡◌, refl, sym, ◌∙◌, ℕ, ◌+◌, ◌-◌, ◌<◌, arith, length, rules}
-use Rattle.jumps.proofs.Pairs.{KindsLeft, kinds_none, kinds_odd, kinds_bad, kinds_on}
+use Rattle.lists.proofs.Kit.{◌-◌, length}
+use Rattle.jumps.proofs.Pairs.{KindsLeft}
 use Rattle.jumps.proofs.call.kind_refusal.Given as goal
 
 abbrev pub invariant-loop-i : goal.invariant-loop-i

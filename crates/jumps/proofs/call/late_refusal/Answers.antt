@@ -1,5 +1,5 @@
 -- `call::late_refusal` meets its contract: the table, the kinds, the places. Assumes nothing.
-use Rattle.lists.proofs.Kit.{ap, ◌∙◌, ℕ, rules}
+use Rattle.lists.proofs.Kit.{ap, ◌∙◌, ℕ}
 use Rattle.row_table.specs.Table.{table_refusal}
 use Rattle.jumps.proofs.Late.{late_table, late_kind, late_answer}
 use Rattle.jumps.proofs.call.late_refusal.Goals as goal

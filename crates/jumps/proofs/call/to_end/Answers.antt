@@ -1,5 +1,5 @@
 -- `call::to_end` meets its contract: the caret's spot goes in, and the spot at the end is a caret again. Assumes nothing.
-use Rattle.lists.proofs.Kit.{ap, ◌∙◌, false, arith, rules}
+use Rattle.lists.proofs.Kit.{ap, ◌∙◌, false, arith}
 use Rattle.list_tokens.specs.Tokens.{any_token}
 use Rattle.keywords.specs.Table.{kept}
 use Rattle.word_kinds.specs.Places.{kind_of}

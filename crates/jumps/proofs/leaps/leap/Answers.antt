@@ -1,5 +1,5 @@
 -- `leaps::leap` meets its contract: `%`, or the rounds of a word motion. Assumes nothing.
-use Rattle.lists.proofs.Kit.{sym, rules}
+use Rattle.lists.proofs.Kit.{sym}
 use Rattle.word_kinds.specs.Spots.{place_of}
 use Rattle.word_kinds.specs.Lent.{kind_by}
 use Rattle.word_kinds.proofs.Telling.{tells_too}

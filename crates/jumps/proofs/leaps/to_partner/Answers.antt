@@ -1,5 +1,5 @@
 -- `leaps::to_partner` meets its contract: the partner that the key goes to from the spot's row and column, by its cases. Assumes nothing.
-use Rattle.lists.proofs.Kit.{sym, ◌∙◌, ◌-◌, arith, rules}
+use Rattle.lists.proofs.Kit.{sym, ◌∙◌, ◌-◌, arith}
 use Rattle.word_kinds.proofs.Telling.{tells_too, lands_here}
 use Rattle.jumps.proofs.Spots.{line_here, partner_is, key_inside}
 use Rattle.jumps.proofs.leaps.to_partner.Goals as goal

@@ -1,5 +1,5 @@
 -- `run::jump` meets its contract: one jump, and its row and column by the table. Assumes nothing.
-use Rattle.lists.proofs.Kit.{ap, ℕ, ◌+◌, ◌-◌, arith, set, length-set, rules}
+use Rattle.lists.proofs.Kit.{ap, ℕ, ◌+◌, ◌-◌, arith, set, length-set}
 use Rattle.jumps.proofs.Spots.{spot_short}
 use Rattle.jumps.proofs.run.jump.Goals as goal
 

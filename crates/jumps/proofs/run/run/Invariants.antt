@@ -1,12 +1,9 @@
 -- `run::run` meets its contract. The invariant of its loop: the places of the jumps made are written, what is left from the place reached is what is
 -- left of all (`Running`), that place is one of the text, and the stretch has no closed fold (`OnTheWay`). The measure is how many numbers are left.
 -- Assumes nothing.
-use Rattle.lists.proofs.Kit.{refl, sym, ◌-◌, arith, length, rules}
-use Rattle.word_kinds.specs.Spots.{place_of}
+use Rattle.lists.proofs.Kit.{◌-◌, length}
 use Rattle.word_kinds.specs.Lent.{kind_by}
-use Rattle.word_kinds.proofs.Telling.{tells_too, lands_here}
-use Rattle.word_rounds.proofs.Turning.{set_at}
-use Rattle.jumps.proofs.Running.{OnTheWay, running_first, running_two, running_next, running_places, running_end}
+use Rattle.jumps.proofs.Running.{OnTheWay}
 use Rattle.jumps.proofs.run.run.Given as goal
 
 abbrev pub invariant-loop-i : goal.invariant-loop-i

@@ -1,6 +1,6 @@
 -- `run::run_by` meets its contract: what was made once is what every jump goes by, and a text with no high code point needs no ranges of the letters.
 -- Assumes nothing.
-use Rattle.lists.proofs.Kit.{◌≡◌, sym, ◌∙◌, ℕ, arith, rules}
+use Rattle.lists.proofs.Kit.{◌≡◌, sym, ◌∙◌, ℕ, arith}
 use Rattle.words.proofs.Made.{made_folded}
 use Rattle.jumps.proofs.Running.{ran_as}
 use Rattle.jumps.proofs.run.run_by.Goals as goal

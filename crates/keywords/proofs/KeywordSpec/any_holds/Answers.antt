@@ -1,8 +1,8 @@
 -- `keywords::KeywordSpec::any_holds` meets its contract. The invariant of its loop: the tokens before i do not hold c. The measure is the
 -- table's length less i. Assumes nothing.
-use Rattle.lists.proofs.Kit.{◌≡◌, sym, ◌∙◌, ◌+◌, ◌-◌, arith, length, take, drop, rules}
-use Rattle.lists.proofs.Decides.{Decides, decides_stop, decides_on, decides_end}
-use Rattle.list_tokens.specs.Tokens.{any_token, token_holds}
+use Rattle.lists.proofs.Kit.{◌≡◌, sym, ◌∙◌, ◌+◌, ◌-◌, arith, length, rules}
+use Rattle.lists.proofs.Decides.{decides_stop, decides_on, decides_end}
+use Rattle.list_tokens.specs.Tokens.{token_holds}
 use Rattle.list_tokens.proofs.Lists.{places}
 use Rattle.list_tokens.proofs.TokenLaws.{any_on, any_end}
 use Rattle.keywords.proofs.KeywordSpec.any_holds.Goals as goal

@@ -1,5 +1,5 @@
 -- `keywords::KeywordSpec::matches` meets its contract: refusal 2, then 8, then the answer. Assumes nothing.
-use Rattle.lists.proofs.Kit.{ap, sym, ◌∙◌, rules, le-leb, lt-leb}
+use Rattle.lists.proofs.Kit.{ap, sym, ◌∙◌, le-leb, lt-leb}
 use Rattle.keywords.specs.declared.Matched.TheVariants.{Is}
 use Rattle.keywords.proofs.RefusalLaws.{matched_refused}
 use Rattle.keywords.proofs.KeywordSpec.matches.Goals as goal

@@ -1,5 +1,5 @@
 -- `keywords::KeywordSpec::parse` meets its contract: refusal 7, then what reading the list gives. Assumes nothing.
-use Rattle.lists.proofs.Kit.{sym, ◌∙◌, rules}
+use Rattle.lists.proofs.Kit.{sym, ◌∙◌}
 use Rattle.keywords.proofs.RefusalLaws.{parsed_refused}
 use Rattle.keywords.proofs.KeywordSpec.parse.Goals as goal
 

@@ -1,11 +1,9 @@
 -- `keywords::bounds_of` meets its contract. The invariant of its loop: the bounds of the tokens before i are stored, and after them stands 0.
 -- The measure is the table's length less i. Assumes nothing.
-use Rattle.lists.proofs.Kit.{◌≡◌, refl, List, ℕ, ◌-◌, ◌≤◌, arith, length, take, rules}
-use Rattle.keywords.specs.Flat.{flat, padded}
-use Rattle.list_tokens.specs.declared.Token.{Token}
+use Rattle.lists.proofs.Kit.{◌≡◌, refl, ◌-◌, arith, length, rules}
+use Rattle.keywords.specs.Flat.{flat}
 use Rattle.list_tokens.proofs.Lists.{places}
 use Rattle.keywords.proofs.FlatLaws.{flat_push}
-use Rattle.keywords.proofs.flat.bounds_of.Invariants.{Stored}
 use Rattle.keywords.proofs.flat.bounds_of.Goals as goal
 
 pub loop-i-init : goal.loop-i-init

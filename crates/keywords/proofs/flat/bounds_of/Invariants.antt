@@ -1,10 +1,8 @@
 -- `keywords::bounds_of` meets its contract. The invariant of its loop: the bounds of the tokens before i are stored, and after them stands 0.
 -- The measure is the table's length less i. Assumes nothing.
-use Rattle.lists.proofs.Kit.{◌≡◌, refl, List, ℕ, ◌-◌, ◌≤◌, arith, length, take, rules}
+use Rattle.lists.proofs.Kit.{◌≡◌, List, ℕ, ◌-◌, ◌≤◌, take}
 use Rattle.keywords.specs.Flat.{flat, padded}
 use Rattle.list_tokens.specs.declared.Token.{Token}
-use Rattle.list_tokens.proofs.Lists.{places}
-use Rattle.keywords.proofs.FlatLaws.{flat_push}
 use Rattle.keywords.proofs.flat.bounds_of.Given as goal
 
 pub record Stored (tokens : List Token) (n : ℕ) (bounds : List ℕ) (i : ℕ) : Type 0 where

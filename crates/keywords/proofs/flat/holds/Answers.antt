@@ -1,5 +1,5 @@
 -- `keywords::holds` meets its contract: the letters first, where they count, and then the bounds. Assumes nothing.
-use Rattle.lists.proofs.Kit.{sym, ◌∙◌, rules, not-true, not-false}
+use Rattle.lists.proofs.Kit.{sym, ◌∙◌}
 use Rattle.keywords.proofs.flat.holds.Goals as goal
 
 pub returns-then-not-alphabetic : goal.returns-then-not-alphabetic

@@ -1,9 +1,8 @@
 -- `keywords::flat::in_bounds` meets its contract. The invariant of its loop: no pair before i holds c. The measure is n less i.
 -- Assumes nothing.
-use Rattle.lists.proofs.Kit.{◌+◌, ◌-◌, arith, take, drop, rules}
-use Rattle.lists.proofs.Decides.{Decides, decides_stop, decides_on, decides_end}
+use Rattle.lists.proofs.Kit.{◌+◌, ◌-◌, take, drop}
+use Rattle.lists.proofs.Decides.{Decides}
 use Rattle.keywords.specs.Flat.{within}
-use Rattle.keywords.proofs.FlatLaws.{within_on, within_end}
 use Rattle.keywords.proofs.flat.in_bounds.Given as goal
 
 abbrev pub invariant-loop-i : goal.invariant-loop-i

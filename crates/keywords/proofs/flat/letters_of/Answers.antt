@@ -1,8 +1,7 @@
 -- `keywords::letters_of` meets its contract. The invariant of its loop: no token before i holds every letter. The measure is the table's
 -- length less i. Assumes nothing.
-use Rattle.lists.proofs.Kit.{◌≡◌, ◌+◌, ◌-◌, arith, length, take, drop, eqb, rules, eq-eqb, ne_eqb}
-use Rattle.lists.proofs.Decides.{Decides, decides_stop, decides_on, decides_end}
-use Rattle.keywords.specs.Flat.{any_alpha}
+use Rattle.lists.proofs.Kit.{◌≡◌, ◌+◌, ◌-◌, arith, length, eqb, rules, eq-eqb, ne_eqb}
+use Rattle.lists.proofs.Decides.{decides_stop, decides_on, decides_end}
 use Rattle.list_tokens.proofs.Lists.{places}
 use Rattle.list_tokens.proofs.TokenLaws.{any_on, any_end}
 use Rattle.keywords.proofs.flat.letters_of.Goals as goal

@@ -1,5 +1,5 @@
 -- `keywords::is_keyword_char` meets its contract: refusal 2, then 7, then the answer. Assumes nothing.
-use Rattle.lists.proofs.Kit.{ap, sym, ◌∙◌, rules}
+use Rattle.lists.proofs.Kit.{ap, sym, ◌∙◌}
 use Rattle.keywords.specs.declared.Matched.TheVariants.{Is}
 use Rattle.keywords.proofs.RefusalLaws.{matched_refused, matched_refused_next}
 use Rattle.keywords.proofs.keyword_spec.is_keyword_char.Goals as goal

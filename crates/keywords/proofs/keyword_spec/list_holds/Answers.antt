@@ -1,9 +1,9 @@
 -- `keywords::keyword_spec::list_holds` meets its contract. The invariant of its loop: the parts before `from` do not hold c. The measure is how
 -- far `from` is from past the list's end. Assumes nothing.
-use Rattle.lists.proofs.Kit.{ap, sym, ◌∙◌, List, ℕ, ◌+◌, ◌-◌, arith, length, rules}
-use Rattle.list_tokens.specs.Tokens.{in_list, tokens_in, any_token}
-use Rattle.lists.proofs.Decides.{Decides, decides_stop, decides_on, decides_end}
-use Rattle.lists.proofs.Splits.{split_from, split_from_start}
+use Rattle.lists.proofs.Kit.{ap, sym, ◌∙◌, List, ℕ, ◌-◌, arith, rules}
+use Rattle.list_tokens.specs.Tokens.{tokens_in, any_token}
+use Rattle.lists.proofs.Decides.{decides_stop, decides_on, decides_end}
+use Rattle.lists.proofs.Splits.{split_from_start}
 use Rattle.list_tokens.proofs.TokenLaws.{step_next, step_any, parts_none}
 use Rattle.keywords.proofs.keyword_spec.list_holds.Goals as goal
 

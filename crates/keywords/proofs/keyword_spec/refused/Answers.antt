@@ -1,5 +1,4 @@
 -- `keywords::keyword_spec::refused` meets its contract: the table is the empty one. Assumes nothing.
-use borrow.Author.Rules.{rules}
 use Rattle.keywords.proofs.keyword_spec.refused.Goals as goal
 
 pub returns : goal.returns

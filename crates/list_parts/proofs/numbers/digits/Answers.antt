@@ -1,9 +1,7 @@
 -- `list_parts::numbers::digits` meets its contract. The invariant of its loop: the digits before i have the value `sum`, which is below 2^32,
 -- and reading on from them gives the number. The measure is the part's length less i. Assumes nothing.
-use Rattle.lists.proofs.Kit.{◌≡◌, sym, ◌∙◌, List, ℕ, ◌-◌, ◌≤◌, arith, length, drop, rules}
-use Rattle.list_parts.specs.Numbers.{digits_of, number_from}
+use Rattle.lists.proofs.Kit.{sym, ◌∙◌, ◌-◌, arith, rules}
 use Rattle.list_parts.proofs.NumberLaws.{digits_none, digits_some, number_below, number_above, number_too_large, number_digit, number_end}
-use Rattle.list_parts.proofs.numbers.digits.Invariants.{Read}
 use Rattle.list_parts.proofs.numbers.digits.Goals as goal
 
 pub returns-then-p-eq0 : goal.returns-then-p-eq0

@@ -1,8 +1,7 @@
 -- `list_parts::numbers::digits` meets its contract. The invariant of its loop: the digits before i have the value `sum`, which is below 2^32,
 -- and reading on from them gives the number. The measure is the part's length less i. Assumes nothing.
-use Rattle.lists.proofs.Kit.{◌≡◌, sym, ◌∙◌, List, ℕ, ◌-◌, ◌≤◌, arith, length, drop, rules}
+use Rattle.lists.proofs.Kit.{◌≡◌, List, ℕ, ◌-◌, ◌≤◌, length, drop}
 use Rattle.list_parts.specs.Numbers.{digits_of, number_from}
-use Rattle.list_parts.proofs.NumberLaws.{digits_none, digits_some, number_below, number_above, number_too_large, number_digit, number_end}
 use Rattle.list_parts.proofs.numbers.digits.Given as goal
 
 pub record Read (p : List ℕ) (sum i : ℕ) : Type 0 where

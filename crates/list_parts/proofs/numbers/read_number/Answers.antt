@@ -1,5 +1,5 @@
 -- `list_parts::numbers::read_number` meets its contract: what stands after a `+`, or the whole part, is read as digits. Assumes nothing.
-use Rattle.lists.proofs.Kit.{◌∙◌, arith, rules}
+use Rattle.lists.proofs.Kit.{◌∙◌, arith}
 use Rattle.list_parts.proofs.NumberLaws.{number_none, number_plus, number_plain}
 use Rattle.list_parts.proofs.numbers.read_number.Goals as goal
 

@@ -1,8 +1,8 @@
 -- `list_parts::parts::trim_end` meets its contract. The invariant of its loop: what stands from e on is white space. The measure is e.
 -- Assumes nothing.
-use Rattle.lists.proofs.Kit.{ap, sym, ◌∙◌, arith, take, take-length, rules, not-true, not-false}
+use Rattle.lists.proofs.Kit.{take}
 use Rattle.list_parts.specs.Parts.{trim_end}
-use Rattle.list_parts.proofs.TrimLaws.{Trims, trims_on, trims_stop, trim_end_on, trim_end_stop, trim_end_end}
+use Rattle.list_parts.proofs.TrimLaws.{Trims}
 use Rattle.list_parts.proofs.parts.trim_end.Given as goal
 
 abbrev pub invariant-loop-e : goal.invariant-loop-e

@@ -1,8 +1,7 @@
 -- `list_parts::parts::trim_start_lem` meets its contract. The invariant of its loop: what stands before i is white space. The measure is the part's
 -- length less i. Assumes nothing.
-use Rattle.lists.proofs.Kit.{sym, ◌∙◌, ◌-◌, arith, length, drop, rules, not-true, not-false}
-use Rattle.list_parts.specs.Parts.{trim_start}
-use Rattle.list_parts.proofs.TrimLaws.{Trims, trims_on, trims_stop, trim_start_on, trim_start_stop, trim_start_end}
+use Rattle.lists.proofs.Kit.{sym, ◌∙◌, ◌-◌, arith}
+use Rattle.list_parts.proofs.TrimLaws.{trims_on, trims_stop, trim_start_on, trim_start_stop, trim_start_end}
 use Rattle.list_parts.proofs.parts.trim_start.Goals as goal
 
 pub returns-then-not-white_in : goal.returns-then-not-white_in

@@ -1,5 +1,5 @@
 -- `list_parts::parts::trimmed` meets its contract: both ends are trimmed by the table WHITE, the start first. Assumes nothing.
-use Rattle.lists.proofs.Kit.{refl, sym, length-take-le, rules}
+use Rattle.lists.proofs.Kit.{refl, sym, length-take-le}
 use Rattle.chars.specs.White.{whites}
 use Rattle.list_parts.proofs.TrimLaws.{trim_is}
 use Rattle.list_parts.proofs.parts.trimmed.Goals as goal

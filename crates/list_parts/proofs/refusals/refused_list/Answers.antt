@@ -1,5 +1,5 @@
 -- `list_parts::refusals::refused_list` meets its contract: the tests are those of the definition. Assumes nothing.
-use Rattle.lists.proofs.Kit.{sym, ◌∙◌, rules, not-true, not-false, le-leb, lt-leb}
+use Rattle.lists.proofs.Kit.{sym, ◌∙◌, le-leb, lt-leb}
 use Rattle.list_parts.proofs.refusals.refused_list.Goals as goal
 
 -- too long

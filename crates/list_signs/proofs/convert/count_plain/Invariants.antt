@@ -1,8 +1,7 @@
 -- `list_signs::convert::count_plain` meets its contract. The invariant of its loop: n are those before i. The measure is the list's length less
 -- i. Assumes nothing.
-use Rattle.lists.proofs.Kit.{◌≡◌, ap, List, Bool, ℕ, ◌+◌, ◌-◌, ◌≤◌, arith, length, drop, rules}
+use Rattle.lists.proofs.Kit.{◌≡◌, List, Bool, ℕ, ◌+◌, ◌-◌, ◌≤◌, length, drop}
 use Rattle.list_signs.specs.Plain.{without}
-use Rattle.list_signs.proofs.ListLaws.{without_skip, without_keep, without_end}
 use Rattle.list_signs.proofs.convert.count_plain.Given as goal
 
 pub record Counted (list : List ℕ) (marks : List Bool) (n i : ℕ) : Type 0 where

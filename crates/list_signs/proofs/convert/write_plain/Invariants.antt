@@ -1,7 +1,7 @@
 -- `list_signs::convert::write_plain` meets its contract. The invariant of its loop: the first n of what has no mark are written. The measure is
 -- the list's length less i. Assumes nothing.
-use Rattle.lists.proofs.Kit.{List, Bool, ℕ, ◌-◌, ◌≤◌, arith, length, rules}
-use Rattle.list_signs.proofs.ListLaws.{Writing, writing_start, writing_skip, writing_room, writing_keep, writing_end}
+use Rattle.lists.proofs.Kit.{List, Bool, ℕ, ◌-◌, ◌≤◌, length}
+use Rattle.list_signs.proofs.ListLaws.{Writing}
 use Rattle.list_signs.proofs.convert.write_plain.Given as goal
 
 pub record WrittenTo (list : List ℕ) (marks : List Bool) (room₀ room : List ℕ) (n i : ℕ) : Type 0 where

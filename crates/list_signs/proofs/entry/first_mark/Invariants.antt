@@ -1,8 +1,7 @@
 -- `list_signs::entry::first_mark` meets its contract. The invariant of its loop: no mark before i is true. The measure is the list's length less
 -- i. Assumes nothing.
-use Rattle.lists.proofs.Kit.{◌≡◌, List, Bool, ℕ, ◌+◌, ◌-◌, ◌≤◌, arith, length, drop, rules}
+use Rattle.lists.proofs.Kit.{◌≡◌, List, Bool, ℕ, ◌+◌, ◌-◌, ◌≤◌, length, drop}
 use Rattle.list_signs.specs.Plain.{first_in}
-use Rattle.list_signs.proofs.ListLaws.{first_hit, first_on, first_end}
 use Rattle.list_signs.proofs.entry.first_mark.Given as goal
 
 pub record Passed (list : List ℕ) (marks : List Bool) (i : ℕ) : Type 0 where

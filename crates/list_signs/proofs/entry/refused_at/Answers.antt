@@ -1,5 +1,4 @@
 -- `list_signs::entry::refused_at` meets its contract: the table is the empty one. Assumes nothing.
-use borrow.Author.Rules.{rules}
 use Rattle.list_signs.proofs.entry.refused_at.Goals as goal
 
 pub returns : goal.returns

@@ -1,5 +1,5 @@
 -- `list_signs::marks::is_range` meets its contract: the numbers on both sides of the first `-`. Assumes nothing.
-use Rattle.lists.proofs.Kit.{sym, ◌∙◌, arith, length-take-le, rules, not-true, not-false}
+use Rattle.lists.proofs.Kit.{sym, ◌∙◌, arith, length-take-le}
 use Rattle.list_signs.proofs.RangeLaws.{no_range, both_range}
 use Rattle.list_signs.proofs.marks.is_range.Goals as goal
 

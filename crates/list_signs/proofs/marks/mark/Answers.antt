@@ -1,5 +1,4 @@
 -- `list_signs::marks::mark` meets its contract: the test is that of the definition. Assumes nothing.
-use borrow.Author.Rules.{rules}
 use Rattle.list_signs.proofs.marks.mark.Goals as goal
 
 pub returns-then-on : goal.returns-then-on

@@ -1,8 +1,7 @@
 -- `list_signs::marks::marks_of` meets its contract. The invariant of its loop: the marks of the parts before `from` are made, and there are none
 -- from there on. The measure is how far `from` is from past the list's end. Assumes nothing.
-use Rattle.lists.proofs.Kit.{sym, List, Bool, ℕ, ◌+◌, ◌-◌, ◌≤◌, arith, length, drop, length-drop, length-take-le, rules}
-use Rattle.lists.proofs.Splits.{next_most}
-use Rattle.list_signs.proofs.Marking.{Marking, marking_start, marking_length, marking_step, marking_end}
+use Rattle.lists.proofs.Kit.{List, Bool, ℕ, ◌+◌, ◌-◌, ◌≤◌, length}
+use Rattle.list_signs.proofs.Marking.{Marking}
 use Rattle.list_signs.proofs.marks.marks_of.Given as goal
 
 pub record MarkedTo (list : List ℕ) (marks : List Bool) (from : ℕ) : Type 0 where

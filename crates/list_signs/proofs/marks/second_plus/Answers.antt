@@ -1,5 +1,5 @@
 -- `list_signs::marks::second_plus` meets its contract: the tests of the definition in their order. Assumes nothing.
-use Rattle.lists.proofs.Kit.{sym, ◌∙◌, arith, rules, eq-eqb, ne_eqb}
+use Rattle.lists.proofs.Kit.{sym, ◌∙◌, arith, eq-eqb, ne_eqb}
 use Rattle.lists.proofs.Finding.{up_to_most}
 use Rattle.list_signs.proofs.RangeLaws.{seconds_none, seconds_not, seconds_is}
 use Rattle.list_signs.proofs.marks.second_plus.Goals as goal

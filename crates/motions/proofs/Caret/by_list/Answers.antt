@@ -1,5 +1,5 @@
 -- `Caret::by_list` meets its contract: the list's refusal, or the motion by its table, which holds what the list does. Assumes nothing.
-use Rattle.lists.proofs.Kit.{ap, ◌∙◌, List, rules}
+use Rattle.lists.proofs.Kit.{ap, ◌∙◌, List}
 use Rattle.list_tokens.specs.declared.Token.{Token}
 use Rattle.list_tokens.specs.Tokens.{any_token}
 use Rattle.keywords.specs.declared.Parsed.{Parsed}

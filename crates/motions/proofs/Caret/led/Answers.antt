@@ -1,5 +1,4 @@
 -- `Caret::led` meets its contract: the walk by the tables of the setting. Assumes nothing.
-use borrow.Author.Rules.{rules}
 use Rattle.motions.proofs.Upright.{upright_ready}
 use Rattle.motions.proofs.Caret.led.Goals as goal
 

@@ -1,5 +1,5 @@
 -- `Caret::moved_by_lem` meets its contract: the caret that the answer of `go` leaves. Assumes nothing.
-use Rattle.lists.proofs.Kit.{ap, ◌∙◌, rules}
+use Rattle.lists.proofs.Kit.{ap, ◌∙◌}
 use Rattle.motions.specs.Going.{landed}
 use Rattle.motions.proofs.Every.{landed_goes}
 use Rattle.motions.proofs.Caret.moved_by.Goals as goal

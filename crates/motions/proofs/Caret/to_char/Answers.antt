@@ -1,5 +1,5 @@
 -- `Caret::to_char` meets its contract: the search in the caret's row, by its cases. Assumes nothing.
-use Rattle.lists.proofs.Kit.{sym, ap, ◌∙◌, List, ℕ, arith, length, rules}
+use Rattle.lists.proofs.Kit.{sym, ap, ◌∙◌, List, ℕ, arith, length}
 use Rattle.text.specs.Text.{row_at}
 use Rattle.row_search.specs.Find.{find_on_row}
 use Rattle.motions.specs.declared.Sought.TheVariants.{Found, Missing}

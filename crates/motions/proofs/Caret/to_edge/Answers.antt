@@ -1,5 +1,5 @@
 -- `Caret::to_edge` meets its contract: the edge is a row of the text. Assumes nothing.
-use Rattle.lists.proofs.Kit.{ap, ◌∙◌, rules}
+use Rattle.lists.proofs.Kit.{ap, ◌∙◌}
 use Rattle.text.specs.declared.Line.{Line}
 use Rattle.text.proofs.Stands.{line_there}
 use Rattle.vertical.proofs.Edges.{viewport_within}

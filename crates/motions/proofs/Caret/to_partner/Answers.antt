@@ -1,6 +1,6 @@
 -- `Caret::to_partner` meets its contract: the partner that the key goes to from the caret's row and column, by its cases.
 -- Assumes nothing.
-use Rattle.lists.proofs.Kit.{sym, ap, ◌∙◌, rules}
+use Rattle.lists.proofs.Kit.{sym, ap, ◌∙◌}
 use Rattle.motions.specs.declared.Sought.TheVariants.{Found, Missing}
 use Rattle.motions.specs.Finds.{partner_to}
 use Rattle.motions.proofs.Fitting.{key_fits}

@@ -1,5 +1,5 @@
 -- `Caret::to_place` meets its contract: the position that the move leads to is in the text. Assumes nothing.
-use Rattle.lists.proofs.Kit.{ap, ◌∙◌, rules}
+use Rattle.lists.proofs.Kit.{ap, ◌∙◌}
 use Rattle.steps.proofs.Staying.{accepted_in}
 use Rattle.text_moves.proofs.Going.{gone_in}
 use Rattle.motions.specs.Carets.{here, put}

@@ -1,5 +1,5 @@
 -- `Caret::to_row` meets its contract: without an offset the target is that of `gj` and `gk`, and it becomes a caret. Assumes nothing.
-use Rattle.lists.proofs.Kit.{ap, ◌∙◌, rules}
+use Rattle.lists.proofs.Kit.{ap, ◌∙◌}
 use Rattle.widths.specs.Widths.{width_as}
 use Rattle.screen.specs.declared.Kept.{Kept}
 use Rattle.screen.specs.declared.Offset.TheVariants.{Absent}

@@ -1,5 +1,5 @@
 -- `Caret::to_row_kept` meets its contract: the target is in the text, and with the offset that was kept it becomes a caret. Assumes nothing.
-use Rattle.lists.proofs.Kit.{ap, ◌∙◌, arith, rules}
+use Rattle.lists.proofs.Kit.{ap, ◌∙◌, arith}
 use Rattle.motions.specs.UpDown.{at_kept}
 use Rattle.motions.proofs.Upright.{upright_ready, target_fits}
 use Rattle.motions.proofs.Caret.to_row_kept.Goals as goal

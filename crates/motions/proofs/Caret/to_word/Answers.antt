@@ -1,6 +1,6 @@
 -- `Caret::to_word` meets its contract: the caret's spot goes in, and the spot that the walk ended on is a row and a column again.
 -- Assumes nothing.
-use Rattle.lists.proofs.Kit.{ap, ◌∙◌, List, ℕ, ◌-◌, arith, take, rules}
+use Rattle.lists.proofs.Kit.{ap, ◌∙◌, List, ℕ, ◌-◌, arith, take}
 use Rattle.text.specs.declared.Position.{Position}
 use Rattle.list_tokens.specs.Tokens.{any_token}
 use Rattle.keywords.specs.Table.{kept}

@@ -1,5 +1,5 @@
 -- `Caret::walk` meets its contract, move by move. Assumes nothing.
-use Rattle.lists.proofs.Kit.{ap, rules}
+use Rattle.lists.proofs.Kit.{ap}
 use Rattle.motions.specs.declared.Sought.TheVariants.{Found}
 use Rattle.motions.proofs.Caret.walk.Goals as goal
 

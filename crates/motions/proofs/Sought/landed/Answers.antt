@@ -1,5 +1,4 @@
 -- `Sought::landed` meets its contract, by the cases of the answer. Assumes nothing.
-use borrow.Author.Rules.{rules}
 use Rattle.motions.proofs.Sought.landed.Goals as goal
 
 pub returns-in-Found : goal.returns-in-Found

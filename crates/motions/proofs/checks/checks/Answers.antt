@@ -1,5 +1,5 @@
 -- `checks::checks` meets its contract, move by move. Assumes nothing.
-use Rattle.lists.proofs.Kit.{ap, ◌∙◌, ℕ, rules}
+use Rattle.lists.proofs.Kit.{ap, ◌∙◌, ℕ}
 use Rattle.positions.specs.Positions.{or_folds}
 use Rattle.motions.specs.Checks.{or_stop}
 use Rattle.motions.proofs.Fitting.{part_count}

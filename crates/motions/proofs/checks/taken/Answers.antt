@@ -1,5 +1,5 @@
 -- `checks::taken` meets its contract: all of the folds' numbers, or none of them. Assumes nothing.
-use Rattle.lists.proofs.Kit.{arith, take-length, rules}
+use Rattle.lists.proofs.Kit.{arith, take-length}
 use Rattle.motions.proofs.checks.taken.Goals as goal
 
 pub returns-in-Fwd : goal.returns-in-Fwd

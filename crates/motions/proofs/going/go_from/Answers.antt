@@ -1,5 +1,5 @@
 -- `go_from` meets its contract: the number of its checks, or what the walk answers. Assumes nothing.
-use Rattle.lists.proofs.Kit.{sym, ◌∙◌, rules}
+use Rattle.lists.proofs.Kit.{sym, ◌∙◌}
 use Rattle.motions.proofs.Checked.{checked_ready}
 use Rattle.motions.proofs.Every.{goes_by}
 use Rattle.motions.proofs.Finding.{seek_refused, seek_found}

@@ -1,5 +1,4 @@
 -- `settings::walk_as` meets its contract, setting by setting. Assumes nothing.
-use borrow.Author.Rules.{rules}
 use Rattle.motions.proofs.settings.walk_as.Goals as goal
 
 pub returns-in-Narrow : goal.returns-in-Narrow

@@ -1,5 +1,5 @@
 -- `Reader::digit` meets its contract, by the test of the definition. Assumes nothing.
-use Rattle.lists.proofs.Kit.{rules, lt-ltb, le-ltb}
+use Rattle.lists.proofs.Kit.{lt-ltb, le-ltb}
 use Rattle.replay_rows.specs.Rows.{digit}
 use Rattle.replay_rows.proofs.Reader.digit.Goals as goal
 

@@ -1,5 +1,4 @@
 -- `Reader::star` meets its contract, by the test of the definition. Assumes nothing.
-use borrow.Author.Rules.{rules}
 use Rattle.replay_rows.specs.Rows.{star}
 use Rattle.replay_rows.proofs.Reader.star.Goals as goal
 

@@ -1,5 +1,5 @@
 -- `Reader::step` meets its contract: the tests of the definition in their order. Assumes nothing.
-use Rattle.lists.proofs.Kit.{rules, eq-eqb, ne_eqb, le-leb, lt-leb}
+use Rattle.lists.proofs.Kit.{eq-eqb, ne_eqb, le-leb, lt-leb}
 use Rattle.replay_rows.specs.Rows.{step}
 use Rattle.replay_rows.proofs.Reader.step.Goals as goal
 

@@ -1,5 +1,5 @@
 -- `head_of` meets its contract: the numbers in their order. Assumes nothing.
-use Rattle.lists.proofs.Kit.{refl, rules}
+use Rattle.lists.proofs.Kit.{refl}
 use Rattle.replay_rows.specs.Cases.{head_of}
 use Rattle.replay_rows.proofs.cases.head_of.Goals as goal
 

@@ -1,7 +1,6 @@
 -- `rows::fill` meets its contract. The invariant of its loop: i places are filled. The measure is `times` less i. Assumes nothing.
-use Rattle.lists.proofs.Kit.{◌≡◌, List, ℕ, ◌-◌, ◌≤◌, arith, length, replicate, length-set, paste, paste-zero, rules}
+use Rattle.lists.proofs.Kit.{◌≡◌, ◌-◌, arith, length-set, paste-zero, rules}
 use Rattle.replay_rows.proofs.Reading.{fill_on, fill_all}
-use Rattle.replay_rows.proofs.rows.fill.Invariants.{Filled}
 use Rattle.replay_rows.proofs.rows.fill.Goals as goal
 
 -- all are filled

@@ -1,6 +1,5 @@
 -- `rows::fill` meets its contract. The invariant of its loop: i places are filled. The measure is `times` less i. Assumes nothing.
-use Rattle.lists.proofs.Kit.{◌≡◌, List, ℕ, ◌-◌, ◌≤◌, arith, length, replicate, length-set, paste, paste-zero, rules}
-use Rattle.replay_rows.proofs.Reading.{fill_on, fill_all}
+use Rattle.lists.proofs.Kit.{◌≡◌, List, ℕ, ◌-◌, ◌≤◌, length, replicate, paste}
 use Rattle.replay_rows.proofs.rows.fill.Given as goal
 
 pub record Filled (room₀ : List ℕ) (from times x : ℕ) (room : List ℕ) (i : ℕ) : Type 0 where

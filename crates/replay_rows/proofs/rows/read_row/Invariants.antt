@@ -1,8 +1,7 @@
 -- `rows::read_row` meets its contract. The invariant of its loop, `Reading`: the numbers before i stand at the front of the room.
 -- The measure is the row's length less i. Assumes nothing.
-use Rattle.lists.proofs.Kit.{◌-◌, arith, length, rules, not-true, not-false}
-use Rattle.replay_rows.proofs.Reading.{Reading, read_unbegun, read_full, read_ended, read_spoilt, read_on, read_cut, read_whole}
-use Rattle.replay_rows.proofs.Reading.{reading_start, reading_malformed, reading_whole, reading_on, reading_ended}
+use Rattle.lists.proofs.Kit.{◌-◌, length}
+use Rattle.replay_rows.proofs.Reading.{Reading}
 use Rattle.replay_rows.proofs.rows.read_row.Given as goal
 
 abbrev pub invariant-loop-i : goal.invariant-loop-i

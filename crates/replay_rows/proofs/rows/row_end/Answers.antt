@@ -1,9 +1,7 @@
 -- `rows::row_end` meets its contract. The invariant of its loop: the row ends no sooner than i. The measure is the length less i.
 -- Assumes nothing.
-use Rattle.lists.proofs.Kit.{◌≡◌, refl, List, ℕ, ◌+◌, ◌-◌, ◌≤◌, arith, length, drop, rules}
-use Rattle.replay_rows.specs.Rows.{row_length}
+use Rattle.lists.proofs.Kit.{refl, ◌-◌, arith}
 use Rattle.replay_rows.proofs.Reading.{row_end_here, row_end_on, row_end_cut}
-use Rattle.replay_rows.proofs.rows.row_end.Invariants.{Passed}
 use Rattle.replay_rows.proofs.rows.row_end.Goals as goal
 
 pub loop-i-init : goal.loop-i-init

@@ -1,8 +1,7 @@
 -- `rows::row_end` meets its contract. The invariant of its loop: the row ends no sooner than i. The measure is the length less i.
 -- Assumes nothing.
-use Rattle.lists.proofs.Kit.{◌≡◌, refl, List, ℕ, ◌+◌, ◌-◌, ◌≤◌, arith, length, drop, rules}
+use Rattle.lists.proofs.Kit.{◌≡◌, List, ℕ, ◌+◌, ◌-◌, ◌≤◌, length, drop}
 use Rattle.replay_rows.specs.Rows.{row_length}
-use Rattle.replay_rows.proofs.Reading.{row_end_here, row_end_on, row_end_cut}
 use Rattle.replay_rows.proofs.rows.row_end.Given as goal
 
 pub record Passed (bytes : List ℕ) (at i : ℕ) : Type 0 where

@@ -1,5 +1,4 @@
 -- `Tally::counted` meets its contract, by the cases of the verdict. Assumes nothing.
-use borrow.Author.Rules.{rules}
 use Rattle.replay_verdicts.specs.Tallies.{counted}
 use Rattle.replay_verdicts.proofs.Tally.counted.Goals as goal
 

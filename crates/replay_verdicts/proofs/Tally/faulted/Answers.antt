@@ -1,5 +1,5 @@
 -- `Tally::faulted` meets its contract, by the test of the definition. Assumes nothing.
-use Rattle.lists.proofs.Kit.{rules, eq-eqb, ne_eqb}
+use Rattle.lists.proofs.Kit.{eq-eqb, ne_eqb}
 use Rattle.replay_verdicts.specs.Tallies.{faulted}
 use Rattle.replay_verdicts.proofs.Tally.faulted.Goals as goal
 

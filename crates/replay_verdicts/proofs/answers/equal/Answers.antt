@@ -1,8 +1,8 @@
 -- `answers::equal` meets its contract. The invariant of its loop: both are the same before i. The measure is the length less i.
 -- Assumes nothing.
-use Rattle.lists.proofs.Kit.{sym, ◌-◌, arith, length, rules}
+use Rattle.lists.proofs.Kit.{sym, ◌-◌, arith}
 use Rattle.lists.proofs.Same.{same_long}
-use Rattle.replay_verdicts.proofs.SameTo.{SameTo, same_to_start, same_to_stop, same_to_on, same_to_end}
+use Rattle.replay_verdicts.proofs.SameTo.{same_to_start, same_to_stop, same_to_on, same_to_end}
 use Rattle.replay_verdicts.proofs.answers.equal.Goals as goal
 
 pub returns-then-a-b : goal.returns-then-a-b

@@ -1,5 +1,5 @@
 -- `row_search::find::find_on_row` meets its contract: it lands on the match, or one place short of it. Assumes nothing.
-use Rattle.lists.proofs.Kit.{arith, rules}
+use Rattle.lists.proofs.Kit.{arith}
 use Rattle.row_search.proofs.Finds.{match_inside, match_past, find_onto, find_nowhere}
 use Rattle.row_search.proofs.find.find_on_row.Goals as goal
 

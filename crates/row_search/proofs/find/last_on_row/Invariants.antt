@@ -1,9 +1,8 @@
 -- `row_search::find::last_on_row` meets its contract. The invariant of its loop: the last match before the column is the last before i.
 -- The measure is i. Assumes nothing.
-use Rattle.lists.proofs.Kit.{◌≡◌, refl, sym, ◌∙◌, List, ℕ, ◌≤◌, arith, length, rules, eq-eqb, ne_eqb}
+use Rattle.lists.proofs.Kit.{◌≡◌, List, ℕ, ◌≤◌, length}
 use Rattle.row_search.specs.Nearest.{last_below}
 use Rattle.row_search.specs.Find.{is}
-use Rattle.row_search.proofs.Nearest.{last_on, last_stop, last_end}
 use Rattle.row_search.proofs.find.last_on_row.Given as goal
 
 pub record Passed (row : List ℕ) (upto sought i : ℕ) : Type 0 where

@@ -1,6 +1,6 @@
 -- `row_search::find::nearest` meets its contract.
 -- Assumes nothing.
-use Rattle.lists.proofs.Kit.{ap, ◌∙◌, ℕ, arith, length, rules}
+use Rattle.lists.proofs.Kit.{ap, ◌∙◌, ℕ, arith, length}
 use Rattle.row_search.specs.Nearest.{first_in, last_below}
 use Rattle.row_search.specs.Find.{is}
 use Rattle.row_search.proofs.Finds.{back_within}

@@ -1,9 +1,8 @@
 -- `row_search::find::next_on_row` meets its contract. The invariant of its loop: the first match from the column on is the first from i on.
 -- The measure is the row's length less i. Assumes nothing.
-use Rattle.lists.proofs.Kit.{◌≡◌, refl, sym, ◌∙◌, ◌-◌, arith, length, rules, eq-eqb, ne_eqb}
+use Rattle.lists.proofs.Kit.{◌≡◌, ◌-◌, length}
 use Rattle.row_search.specs.Nearest.{first_in}
 use Rattle.row_search.specs.Find.{is}
-use Rattle.row_search.proofs.Nearest.{first_on, first_stop, first_end}
 use Rattle.row_search.proofs.find.next_on_row.Given as goal
 
 abbrev pub invariant-loop-i : goal.invariant-loop-i

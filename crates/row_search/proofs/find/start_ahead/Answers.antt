@@ -1,6 +1,6 @@
 -- `row_search::find::start_ahead` meets its contract.
 -- Assumes nothing.
-use Rattle.lists.proofs.Kit.{rules, eq-eqb, ne_eqb, lt-ltb, le-ltb}
+use Rattle.lists.proofs.Kit.{eq-eqb, ne_eqb, lt-ltb, le-ltb}
 use Rattle.row_search.proofs.find.start_ahead.Goals as goal
 
 pub returns-then-row-from : goal.returns-then-row-from

@@ -1,6 +1,6 @@
 -- `row_search::find::start_back` meets its contract.
 -- Assumes nothing.
-use Rattle.lists.proofs.Kit.{rules, eq-eqb, ne_eqb, lt-ltb, le-ltb}
+use Rattle.lists.proofs.Kit.{eq-eqb, ne_eqb, lt-ltb, le-ltb}
 use Rattle.row_search.proofs.find.start_back.Goals as goal
 
 pub returns-then-row-b : goal.returns-then-row-b

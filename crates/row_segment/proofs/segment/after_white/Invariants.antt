@@ -1,8 +1,7 @@
 -- `row_segment::segment::after_white` meets its contract. The invariant of its loop: the characters from k on and before n are no white space.
 -- The measure is k. Assumes nothing.
-use Rattle.lists.proofs.Kit.{◌≡◌, refl, sym, ap, ◌∙◌, List, ℕ, ◌≤◌, arith, rules}
+use Rattle.lists.proofs.Kit.{◌≡◌, List, ℕ, ◌≤◌}
 use Rattle.chars.specs.White.{is_white}
-use Rattle.row_segment.proofs.White.{white_none, white_here, white_before}
 use Rattle.row_segment.specs.Segments.{after_white}
 use Rattle.row_segment.proofs.segment.after_white.Given as goal
 

@@ -1,4 +1,4 @@
-use Rattle.lists.proofs.Kit.{arith, rules, not-true, not-false}
+use Rattle.lists.proofs.Kit.{arith}
 use Rattle.chars.specs.White.{is_white}
 use Rattle.chars.specs.Width.{width_by}
 use Rattle.row_segment.proofs.Step.{found_char, found_end, found_none, found_word}

@@ -1,4 +1,4 @@
-use Rattle.lists.proofs.Kit.{arith, length-set, rules}
+use Rattle.lists.proofs.Kit.{arith, length-set}
 use Rattle.row_segment.proofs.segment.put_segment.Goals as goal
 
 pub bounds-out-at-2 : goal.bounds-out-at-2

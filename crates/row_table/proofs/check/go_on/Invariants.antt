@@ -1,9 +1,7 @@
 -- `check::go_on` meets its contract. The invariant of its loop: the first i starts ascend, and stand behind a separator each. The measure is the
 -- number of rows less i. Assumes nothing.
-use Rattle.lists.proofs.Kit.{◌≡◌, refl, List, ℕ, ◌+◌, ◌-◌, ◌≤◌, arith, get_or, rules}
+use Rattle.lists.proofs.Kit.{◌≡◌, List, ℕ, ◌-◌, ◌≤◌, get_or}
 use Rattle.row_table.specs.Ascend.{Ascend}
-use Rattle.row_table.proofs.Held.{held_no, table_within, table_behind, table_ascends}
-use Rattle.row_table.proofs.Ascend.{ascend_next, goes_yes, goes_no}
 use Rattle.row_table.proofs.check.go_on.Given as goal
 
 pub record Gone (t starts : List ℕ) (rows last i : ℕ) : Type 0 where

@@ -1,5 +1,5 @@
 -- `check::table_refusal` meets its contract: places, starts, number. Assumes nothing.
-use Rattle.lists.proofs.Kit.{sym, ◌∙◌, and-false, rules, eq-eqb, ne_eqb, lt-ltb, le-ltb, not-true, not-false}
+use Rattle.lists.proofs.Kit.{sym, ◌∙◌, and-false, eq-eqb, ne_eqb, lt-ltb, le-ltb}
 use Rattle.row_table.specs.Table.{table_refusal}
 use Rattle.row_table.proofs.Held.{held_same}
 use Rattle.row_table.proofs.check.table_refusal.Goals as goal

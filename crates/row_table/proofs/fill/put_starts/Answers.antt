@@ -1,7 +1,7 @@
 -- `fill::put_starts` meets its contract. The invariant of its loop: the starts of the first i code points are written. The measure is the part's
 -- length less i. Assumes nothing.
-use Rattle.lists.proofs.Kit.{◌-◌, arith, length, rules}
-use Rattle.row_table.proofs.Puts.{Putting, putting_none, putting_room, putting_nl, putting_on, putting_end}
+use Rattle.lists.proofs.Kit.{◌-◌, arith}
+use Rattle.row_table.proofs.Puts.{putting_none, putting_room, putting_nl, putting_on, putting_end}
 use Rattle.row_table.proofs.fill.put_starts.Goals as goal
 
 pub loop-i-init : goal.loop-i-init

@@ -1,9 +1,9 @@
 -- `row_walks::paragraphs::find_paragraph` meets its contract. The invariant of its loop: a round from `here` and those still owed lead where all of them do.
 -- The measure is the rounds owed. Assumes nothing.
-use Rattle.lists.proofs.Kit.{refl, ap, sym, ◌∙◌, ℕ, ◌-◌, rules}
+use Rattle.lists.proofs.Kit.{refl, ap, sym, ◌∙◌, ℕ, ◌-◌}
 use Rattle.text.proofs.Rows.{rows_pos}
 use Rattle.row_walks.specs.Paragraphs.{at_last, go_on, paragraphs}
-use Rattle.row_walks.proofs.Walks.{Leads, last_round, one_round}
+use Rattle.row_walks.proofs.Walks.{last_round, one_round}
 use Rattle.row_walks.proofs.paragraphs.find_paragraph.Goals as goal
 
 pub loop-l-init : goal.loop-l-init

@@ -1,6 +1,6 @@
 -- `row_walks::paragraphs::is_void` meets its contract: the code point at the row's start tells.
 -- Assumes nothing.
-use Rattle.lists.proofs.Kit.{sym, arith, rules}
+use Rattle.lists.proofs.Kit.{sym, arith}
 use Rattle.text.proofs.At.{at_start}
 use Rattle.row_walks.proofs.Walks.{void_end, void_is}
 use Rattle.row_walks.proofs.paragraphs.is_void.Goals as goal

@@ -6,7 +6,6 @@ use mir.Val.{Fits}
 use mir.Facts.{of_z-to_z, Fits-of_z}
 use Rattle.text.proofs.Parts.{count_le}
 use Rattle.text.proofs.Content.{content_near}
-use Rattle.row_walks.specs.Toward.{rows_left}
 use Rattle.row_walks.proofs.Ways.{fits_pos}
 use Rattle.row_walks.proofs.Rounding.{rounding_bits, rounding_signed, rounding_start, rounding_fits, rounding_line, rounding_found}
 use Rattle.row_walks.proofs.Rounding.{rounding_next, rounding_back, rounding_back_fits, rounding_off, rounding_in, rounding_less, rounding_on}

@@ -1,14 +1,9 @@
 -- `row_walks::paragraphs::paragraph_round` meets its contract. The invariant of its loop is `Rounding`: from the walk's row on the round leads where it was to.
 -- The measure is the rows that are left in the direction. The bits of the signed row are the row. Assumes nothing.
-use Rattle.lists.proofs.Kit.{arith, rules}
 use mir.Syntax.{w64}
 use mir.Val.{of_z}
-use Rattle.text.proofs.Parts.{count_le}
-use Rattle.text.proofs.Content.{content_near}
 use Rattle.row_walks.specs.Toward.{rows_left}
-use Rattle.row_walks.proofs.Ways.{fits_pos}
-use Rattle.row_walks.proofs.Rounding.{Rounding, rounding_start, rounding_fits, rounding_line, rounding_found}
-use Rattle.row_walks.proofs.Rounding.{rounding_next, rounding_back, rounding_back_fits, rounding_off, rounding_in, rounding_less, rounding_on}
+use Rattle.row_walks.proofs.Rounding.{Rounding}
 use Rattle.row_walks.proofs.paragraphs.paragraph_round.Given as goal
 
 abbrev pub invariant-loop-here : goal.invariant-loop-here

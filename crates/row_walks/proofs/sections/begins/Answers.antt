@@ -1,6 +1,6 @@
 -- `row_walks::sections::begins` meets its contract: the code point at the row's start tells.
 -- Assumes nothing.
-use Rattle.lists.proofs.Kit.{sym, arith, rules}
+use Rattle.lists.proofs.Kit.{sym, arith}
 use Rattle.text.proofs.At.{at_start}
 use Rattle.row_walks.proofs.Marks.{begins_end, begins_is}
 use Rattle.row_walks.proofs.sections.begins.Goals as goal

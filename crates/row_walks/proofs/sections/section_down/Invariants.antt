@@ -1,11 +1,9 @@
 -- `row_walks::sections::section_down` meets its contract. The invariant of its loop: what is left to be found from the walk's row on leads where all of
 -- it does. The measure is the rows below. Assumes nothing.
-use Rattle.lists.proofs.Kit.{ap, sym, ◌∙◌, ◌-◌, arith, rules}
+use Rattle.lists.proofs.Kit.{◌-◌}
 use Rattle.text.specs.Text.{content_rows}
-use Rattle.text.specs.declared.Line.{Line}
-use Rattle.text.proofs.Stands.{line_there}
 use Rattle.row_walks.specs.Sections.{section_down}
-use Rattle.row_walks.proofs.Marks.{Seeks, seeks_on, seeks_end, down_none, down_done, down_step, has_next}
+use Rattle.row_walks.proofs.Marks.{Seeks}
 use Rattle.row_walks.proofs.sections.section_down.Given as goal
 
 abbrev pub invariant-loop-row : goal.invariant-loop-row

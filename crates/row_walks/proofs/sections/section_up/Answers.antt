@@ -1,10 +1,9 @@
 -- `row_walks::sections::section_up` meets its contract. The invariant of its loop: what is left to be found from the walk's row on leads where all of it does.
 -- The measure is the row. Assumes nothing.
-use Rattle.lists.proofs.Kit.{ap, sym, ◌∙◌, arith, rules}
+use Rattle.lists.proofs.Kit.{ap, sym, ◌∙◌, arith}
 use Rattle.text.specs.declared.Line.{Line}
 use Rattle.text.proofs.Stands.{line_there}
-use Rattle.row_walks.specs.Sections.{section_up}
-use Rattle.row_walks.proofs.Marks.{Seeks, seeks_on, seeks_end, up_none, up_done, up_step}
+use Rattle.row_walks.proofs.Marks.{seeks_on, seeks_end, up_none, up_done, up_step}
 use Rattle.row_walks.proofs.sections.section_up.Goals as goal
 
 pub returns-then-left-eq0 : goal.returns-then-left-eq0

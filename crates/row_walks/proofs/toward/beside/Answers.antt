@@ -1,6 +1,5 @@
 -- `row_walks::toward::beside` meets its contract: the row below, or the row above.
 -- Assumes nothing.
-use borrow.Author.Rules.{rules}
 use Rattle.row_walks.proofs.toward.beside.Goals as goal
 
 pub next_line-requires : goal.next_line-requires

@@ -1,5 +1,4 @@
 -- `row_wrap::breaks::broken` meets its contract, setting by setting. Assumes nothing.
-use borrow.Author.Rules.{rules}
 use Rattle.row_wrap.proofs.breaks.broken.Goals as goal
 
 pub returns-in-Narrow : goal.returns-in-Narrow

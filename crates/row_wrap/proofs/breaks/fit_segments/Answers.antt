@@ -1,5 +1,5 @@
 -- `row_wrap::breaks::fit_segments` meets its contract: the count goes by what the segments are, and so does the room that it asks. Assumes nothing.
-use Rattle.lists.proofs.Kit.{arith, rules}
+use Rattle.lists.proofs.Kit.{arith}
 use Rattle.row_wrap.proofs.Room.{fitted_refused, fitted_count}
 use Rattle.row_wrap.proofs.breaks.fit_segments.Goals as goal
 

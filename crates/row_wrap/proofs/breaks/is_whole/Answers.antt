@@ -1,4 +1,4 @@
-use Rattle.lists.proofs.Kit.{sym, ◌∙◌, rules, eq-eqb, ne_eqb}
+use Rattle.lists.proofs.Kit.{sym, ◌∙◌, eq-eqb, ne_eqb}
 use Rattle.row_wrap.proofs.breaks.is_whole.Goals as goal
 
 pub returns-then-is_none : goal.returns-then-is_none

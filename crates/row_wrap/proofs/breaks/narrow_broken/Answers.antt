@@ -1,5 +1,5 @@
 -- `row_wrap::breaks::narrow_broken` meets its contract: the tables that it lends are those of the setting. Assumes nothing.
-use Rattle.lists.proofs.Kit.{refl, rules}
+use Rattle.lists.proofs.Kit.{refl}
 use Rattle.chars.specs.White.{whites}
 use Rattle.chars.specs.Width.{zero_widths, double_widths}
 use Rattle.widths.specs.declared.Ambiguous.TheVariants.{Narrow}

@@ -1,5 +1,5 @@
 -- `row_wrap::breaks::whole` meets its contract: two places are written where there are two. Assumes nothing.
-use Rattle.lists.proofs.Kit.{refl, ◌∙◌, rules}
+use Rattle.lists.proofs.Kit.{refl, ◌∙◌}
 use Rattle.row_wrap.proofs.Room.{fitted_refused, fitted_count, filled_pair}
 use Rattle.row_wrap.proofs.breaks.whole.Goals as goal
 

@@ -1,5 +1,5 @@
 -- `row_wrap::breaks::wide_broken` meets its contract: the tables that it lends are those of the setting. Assumes nothing.
-use Rattle.lists.proofs.Kit.{refl, rules}
+use Rattle.lists.proofs.Kit.{refl}
 use Rattle.chars.specs.White.{whites}
 use Rattle.chars.specs.Width.{zero_widths}
 use Rattle.widths.proofs.WideTable.{wide_doubles}

@@ -1,5 +1,5 @@
 -- `row_wrap::breaks::wrap_segments` meets its contract: the row's refusal first, then the one segment or those of a broken row. Assumes nothing.
-use Rattle.lists.proofs.Kit.{sym, ap, ◌∙◌, Bool, rules}
+use Rattle.lists.proofs.Kit.{sym, ap, ◌∙◌, Bool}
 use Rattle.chars.specs.White.{is_white}
 use Rattle.widths.specs.Widths.{width_as}
 use Rattle.row_check.proofs.Answers.{accepted_brief}

@@ -1,10 +1,10 @@
 -- `row_wrap::breaks::write_segments` meets its contract. The invariant of its loop: the first `at` numbers of the
 -- segments stand in the room, and the next segment begins at `start`. The measure is the row's length less `start`. Assumes nothing.
-use Rattle.lists.proofs.Kit.{List, Bool, ℕ, ◌-◌, arith, length, rules}
+use Rattle.lists.proofs.Kit.{List, Bool, ℕ, ◌-◌, length}
 use Rattle.chars.specs.White.{is_white}
 use Rattle.chars.specs.Width.{width_by}
-use Rattle.row_wrap.proofs.Room.{FilledTo, filled_start, filled_two_lem, filled_end}
-use Rattle.row_wrap.proofs.Walk.{SegmentsTo, walk_start, walk_next, walk_end}
+use Rattle.row_wrap.proofs.Room.{FilledTo}
+use Rattle.row_wrap.proofs.Walk.{SegmentsTo}
 use Rattle.row_wrap.specs.Calls.{row_segments}
 use Rattle.row_wrap.proofs.breaks.write_segments.Given as goal
 

@@ -1,4 +1,4 @@
-use Rattle.lists.proofs.Kit.{sym, ap, ◌∙◌, arith, rules}
+use Rattle.lists.proofs.Kit.{sym, ap, ◌∙◌, arith}
 use Rattle.text.proofs.Content.{content_near}
 use Rattle.screen.specs.Screen.{jumped_to}
 use Rattle.screen.proofs.Spans.{end_within, jumped_out, jumped_not}

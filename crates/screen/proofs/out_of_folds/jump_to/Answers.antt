@@ -1,4 +1,4 @@
-use Rattle.lists.proofs.Kit.{ap, ◌∙◌, min, rules}
+use Rattle.lists.proofs.Kit.{ap, ◌∙◌, min}
 use Rattle.text.proofs.Stands.{line_there, stands_own}
 use Rattle.screen.proofs.Spans.{jump_own, jump_other}
 use Rattle.screen.proofs.out_of_folds.jump_to.Goals as goal

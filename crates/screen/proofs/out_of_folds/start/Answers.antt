@@ -1,5 +1,5 @@
 -- `screen::out_of_folds::start` meets its contract: a fold is left where no offset is at hand. Assumes nothing.
-use Rattle.lists.proofs.Kit.{refl, rules}
+use Rattle.lists.proofs.Kit.{refl}
 use Rattle.screen.proofs.out_of_folds.start.Goals as goal
 
 pub returns-in-Absent : goal.returns-in-Absent

@@ -1,4 +1,3 @@
-use borrow.Author.Rules.{rules}
 use Rattle.chars.specs.Width.{width_by}
 use Rattle.screen_segments.specs.Parts.{lay_of}
 use Rattle.screen.proofs.Walking.{leads_place}

@@ -1,4 +1,4 @@
-use Rattle.lists.proofs.Kit.{ap, List, ℕ, arith, rules}
+use Rattle.lists.proofs.Kit.{ap, List, ℕ, arith}
 use Rattle.chars.specs.Width.{width_by}
 use Rattle.text.proofs.Parts.{row_fits}
 use Rattle.screen_segments.specs.Parts.{segment_count, lay_of}

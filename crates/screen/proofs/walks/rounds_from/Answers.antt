@@ -1,5 +1,5 @@
 -- `walks::rounds_from` meets its contract: a place that can move goes as its spot does. Assumes nothing.
-use Rattle.lists.proofs.Kit.{sym, ap, ◌∙◌, ℕ, arith, rules}
+use Rattle.lists.proofs.Kit.{sym, ap, ◌∙◌, ℕ, arith}
 use Rattle.chars.specs.Width.{width_by}
 use Rattle.visible_rows.specs.Visible.{toward}
 use Rattle.screen.proofs.Landing.{from_inside, from_on, from_off, from_stuck}

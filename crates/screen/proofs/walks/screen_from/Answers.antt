@@ -1,5 +1,5 @@
 -- `walks::screen_from` meets its contract: the place's seat gives the segments ahead and its own offset. Assumes nothing.
-use Rattle.lists.proofs.Kit.{arith, rules}
+use Rattle.lists.proofs.Kit.{arith}
 use Rattle.chars.specs.Width.{width_by}
 use Rattle.screen_segments.specs.Parts.{lay_of}
 use Rattle.screen.proofs.Landing.{seat_ahead, seat_near, glided_made}

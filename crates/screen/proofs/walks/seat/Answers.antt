@@ -1,4 +1,3 @@
-use borrow.Author.Rules.{rules}
 use Rattle.chars.specs.Width.{width_by}
 use Rattle.screen.proofs.Landing.{seat_inside, seat_made}
 use Rattle.screen.proofs.walks.seat.Goals as goal

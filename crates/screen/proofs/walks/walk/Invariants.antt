@@ -1,14 +1,7 @@
 -- `walks::walk` meets its contract. The invariant of its loop: the n rounds from the first spot are the `left` rounds from this one,
 -- and no fold hides the next `free` rows. The measure is `left`. Assumes nothing.
-use Rattle.lists.proofs.Kit.{◌≡◌, refl, sym, ap, ◌∙◌, List, ℕ, arith, rules}
 use Rattle.chars.specs.Width.{width_by}
-use Rattle.text.proofs.Parts.{count_le}
-use Rattle.text.proofs.Stands.{line_there, stands_own}
-use Rattle.text.specs.declared.Line.{Line}
-use Rattle.visible_rows.specs.Visible.{toward}
-use Rattle.screen_segments.specs.Parts.{segment_count, lay_of}
-use Rattle.visible_rows.proofs.Visible.{toward_within}
-use Rattle.screen.proofs.Walking.{Striding, walking_start, walking_cross, walking_edge, walking_end, walking_spot}
+use Rattle.screen.proofs.Walking.{Striding}
 use Rattle.screen.proofs.walks.walk.Given as goal
 
 abbrev pub invariant-loop-ahead : goal.invariant-loop-ahead

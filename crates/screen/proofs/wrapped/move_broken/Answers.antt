@@ -1,4 +1,4 @@
-use Rattle.lists.proofs.Kit.{refl, arith, rules}
+use Rattle.lists.proofs.Kit.{refl, arith}
 use Rattle.chars.specs.White.{whites}
 use Rattle.chars.specs.Width.{width_by}
 use Rattle.text.proofs.Parts.{row_fits}

@@ -1,5 +1,5 @@
 -- `wrapped::move_screen` meets its contract, mode by mode. Assumes nothing.
-use Rattle.lists.proofs.Kit.{ap, ◌∙◌, rules, eq-eqb, ne_eqb}
+use Rattle.lists.proofs.Kit.{ap, ◌∙◌, eq-eqb, ne_eqb}
 use Rattle.screen.specs.Keeping.{unkept}
 use Rattle.screen.proofs.wrapped.move_screen.Goals as goal
 

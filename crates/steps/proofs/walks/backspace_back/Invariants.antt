@@ -1,12 +1,10 @@
 -- `walks::backspace_back` meets its contract. The invariant of its loop: what is left of the rounds, from the place of the walk, leads where all of them
 -- do. The measure is the rounds that are left. Long by the three ways in which a step ends: each of them again, and behind it. Assumes nothing.
-use Rattle.lists.proofs.Kit.{◌≡◌, ap, sym, ◌∙◌, ℕ, ◌<◌, ◌+◌, ◌-◌, max, arith, rules}
+use Rattle.lists.proofs.Kit.{◌-◌, max}
 use Rattle.text.specs.Text.{position}
 use Rattle.text.specs.Offsets.{row_start}
-use Rattle.text.proofs.Stands.{stands_own, back_char, back_nl}
 use Rattle.steps.specs.Steps.{backspace_back}
-use Rattle.steps.proofs.Stepping.{Going, going_start, going_on_lem, going_done, going_stop, going_from}
-use Rattle.steps.proofs.Stepping.{back_first, back_on, back_end, back_void, back_wrap, up_start}
+use Rattle.steps.proofs.Stepping.{Going}
 use Rattle.steps.proofs.walks.backspace_back.Given as goal
 
 abbrev pub invariant-loop-left : goal.invariant-loop-left

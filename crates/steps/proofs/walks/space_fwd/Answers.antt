@@ -1,10 +1,10 @@
 -- `walks::space_fwd` meets its contract. The invariant of its loop: what is left of the rounds, from the place of the walk, leads where all of them do.
 -- The measure is the rounds that are left. Assumes nothing.
-use Rattle.lists.proofs.Kit.{refl, ◌∙◌, ◌+◌, ◌-◌, max, arith, rules}
+use Rattle.lists.proofs.Kit.{refl, ◌∙◌, ◌+◌, ◌-◌, max, arith}
 use Rattle.text.specs.Text.{position}
 use Rattle.text.proofs.Stands.{step_char, step_nl}
 use Rattle.steps.specs.Steps.{space_fwd}
-use Rattle.steps.proofs.Stepping.{Going, going_start, going_on_lem, going_done, going_stop, going_from}
+use Rattle.steps.proofs.Stepping.{going_start, going_on_lem, going_done, going_stop, going_from}
 use Rattle.steps.proofs.Stepping.{space_end, space_nl, space_last, space_wrap, space_on}
 use Rattle.steps.proofs.walks.space_fwd.Goals as goal
 

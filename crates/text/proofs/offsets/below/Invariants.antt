@@ -1,8 +1,7 @@
 -- `text::offsets::below` meets its contract. The invariant of its loop: i stands in row r, which lies above row `to`. The measure is the
 -- text's length less i. Assumes nothing.
-use Rattle.lists.proofs.Kit.{◌-◌, arith, length, rules}
+use Rattle.lists.proofs.Kit.{◌-◌, length}
 use Rattle.text.proofs.Stands.{Above}
-use Rattle.text.proofs.Stretches.{pass_on}
 use Rattle.text.proofs.offsets.below.Given as goal
 
 abbrev pub invariant-loop-i : goal.invariant-loop-i

@@ -1,5 +1,5 @@
 -- `text::offsets::down` meets its contract: a row is 0 rows below itself. Assumes nothing.
-use Rattle.lists.proofs.Kit.{arith, rules}
+use Rattle.lists.proofs.Kit.{arith}
 use Rattle.text.proofs.Parts.{count_le}
 use Rattle.text.proofs.Stands.{line_eq}
 use Rattle.text.proofs.offsets.down.Goals as goal

@@ -1,5 +1,5 @@
 -- `text::offsets::line_from` meets its contract, whichever way it goes. Assumes nothing.
-use Rattle.lists.proofs.Kit.{ap, ◌∙◌, arith, rules}
+use Rattle.lists.proofs.Kit.{ap, ◌∙◌, arith}
 use Rattle.text.specs.Offsets.{line_at}
 use Rattle.text.proofs.Stands.{first_line, last_stands}
 use Rattle.text.proofs.offsets.line_from.Goals as goal

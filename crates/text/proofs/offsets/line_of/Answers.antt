@@ -1,9 +1,8 @@
 -- `text::offsets::line_of` meets its contract. The invariant of its loop: i stands in row `row`. The measure is what is left up to `at`.
 -- Assumes nothing.
-use Rattle.lists.proofs.Kit.{◌≡◌, ap, sym, ◌∙◌, List, ℕ, ◌-◌, ◌≤◌, arith, length, rules}
-use Rattle.text.specs.Offsets.{Stands, row_of}
+use Rattle.lists.proofs.Kit.{◌≡◌, ap, sym, ◌∙◌, ◌-◌, arith}
+use Rattle.text.specs.Offsets.{row_of}
 use Rattle.text.proofs.Stands.{line_eq, step_char, step_nl, stands_row}
-use Rattle.text.proofs.offsets.line_of.Invariants.{Walked}
 use Rattle.text.proofs.offsets.line_of.Goals as goal
 
 pub loop-i-preserved-then-t-i-eq10 : goal.loop-i-preserved-then-t-i-eq10

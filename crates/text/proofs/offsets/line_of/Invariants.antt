@@ -1,8 +1,7 @@
 -- `text::offsets::line_of` meets its contract. The invariant of its loop: i stands in row `row`. The measure is what is left up to `at`.
 -- Assumes nothing.
-use Rattle.lists.proofs.Kit.{◌≡◌, ap, sym, ◌∙◌, List, ℕ, ◌-◌, ◌≤◌, arith, length, rules}
-use Rattle.text.specs.Offsets.{Stands, row_of}
-use Rattle.text.proofs.Stands.{line_eq, step_char, step_nl, stands_row}
+use Rattle.lists.proofs.Kit.{List, ℕ, ◌-◌, ◌≤◌, length}
+use Rattle.text.specs.Offsets.{Stands}
 use Rattle.text.proofs.offsets.line_of.Given as goal
 
 pub record Walked (t : List ℕ) (at row start i : ℕ) : Type 0 where

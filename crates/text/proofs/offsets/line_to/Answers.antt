@@ -1,5 +1,5 @@
 -- `text::offsets::line_to` meets its contract: up to the row, or down to it. Assumes nothing.
-use Rattle.lists.proofs.Kit.{ap, ◌∙◌, arith, rules}
+use Rattle.lists.proofs.Kit.{ap, ◌∙◌, arith}
 use Rattle.text.specs.Offsets.{line_at}
 use Rattle.text.proofs.offsets.line_to.Goals as goal
 

@@ -1,6 +1,6 @@
 -- `text::offsets::next_line` meets its contract: a row begins behind the separator that ends the one before it.
 -- Assumes nothing.
-use Rattle.lists.proofs.Kit.{refl, arith, rules}
+use Rattle.lists.proofs.Kit.{refl, arith}
 use Rattle.text.proofs.Parts.{next_start_lem}
 use Rattle.text.proofs.Stands.{line_eq, stands_end}
 use Rattle.text.proofs.offsets.next_line.Goals as goal

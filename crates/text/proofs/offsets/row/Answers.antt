@@ -1,6 +1,6 @@
 -- `text::offsets::row` meets its contract: a row is the part of the text from its start to its end.
 -- Assumes nothing.
-use Rattle.lists.proofs.Kit.{◌≡◌, sym, ◌-◌, arith, rules}
+use Rattle.lists.proofs.Kit.{◌≡◌, sym, ◌-◌, arith}
 use Rattle.text.specs.Text.{row_len}
 use Rattle.text.proofs.Parts.{row_part}
 use Rattle.text.proofs.Stands.{stands_end}

@@ -1,7 +1,6 @@
 -- `text::offsets::row_end` meets its contract. The invariant of its loop: the end is where the row from e on ends. The measure is the text's length less e.
 -- Assumes nothing.
-use Rattle.lists.proofs.Kit.{◌≡◌, ◌-◌, ◌≤◌, arith, length, rules}
-use Rattle.text.specs.Offsets.{end_from}
+use Rattle.lists.proofs.Kit.{◌-◌, arith}
 use Rattle.text.proofs.Rows.{rest_nl, rest_on, rest_end}
 use Rattle.text.proofs.offsets.row_end.Goals as goal
 

@@ -1,6 +1,6 @@
 -- `text::offsets::row_len` meets its contract: a row goes from its start to its end.
 -- Assumes nothing.
-use Rattle.lists.proofs.Kit.{arith, rules}
+use Rattle.lists.proofs.Kit.{arith}
 use Rattle.text.proofs.Stands.{stands_end}
 use Rattle.text.proofs.offsets.row_len.Goals as goal
 

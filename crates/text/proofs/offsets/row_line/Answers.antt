@@ -1,5 +1,4 @@
 -- `text::offsets::row_line` meets its contract: it stands on the first row. Assumes nothing.
-use borrow.Author.Rules.{rules}
 use Rattle.text.proofs.Stands.{first_line}
 use Rattle.text.proofs.offsets.row_line.Goals as goal
 

@@ -1,4 +1,4 @@
-use Rattle.lists.proofs.Kit.{arith, rules}
+use Rattle.lists.proofs.Kit.{arith}
 use Rattle.text.proofs.Parts.{count_le}
 use Rattle.text.proofs.Stretches.{pass_all}
 use Rattle.text.proofs.offsets.rows_from.Goals as goal

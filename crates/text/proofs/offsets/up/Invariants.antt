@@ -1,8 +1,7 @@
 -- `text::offsets::up` meets its contract. The invariant of its loop: i stands in row r, and `left` rows are still to go up.
 -- The measure is i. Assumes nothing.
-use Rattle.lists.proofs.Kit.{◌≡◌, ap, ◌∙◌, List, ℕ, ◌-◌, arith, rules}
-use Rattle.text.specs.Offsets.{Stands, row_start, line_at}
-use Rattle.text.proofs.Stretches.{pass_back, left_over}
+use Rattle.lists.proofs.Kit.{◌≡◌, List, ℕ, ◌-◌}
+use Rattle.text.specs.Offsets.{Stands, row_start}
 use Rattle.text.proofs.offsets.up.Given as goal
 
 pub record Walked (t : List ℕ) (row n r left i : ℕ) : Type 0 where

@@ -1,8 +1,8 @@
 -- `text::offsets::walk_down` meets its contract. The invariant of its loop: i stands in row r, which lies above row `to`. The measure is the
 -- text's length less i. Assumes nothing.
-use Rattle.lists.proofs.Kit.{◌-◌, arith, length, rules}
+use Rattle.lists.proofs.Kit.{◌-◌, arith}
 use Rattle.text.proofs.At.{on_last}
-use Rattle.text.proofs.Stands.{Above, stands_at_lem, stands_own, reached_row, reached_end, step_char, step_nl}
+use Rattle.text.proofs.Stands.{stands_at_lem, stands_own, reached_row, reached_end, step_char, step_nl}
 use Rattle.text.proofs.offsets.walk_down.Goals as goal
 
 pub returns-then-r-to : goal.returns-then-r-to

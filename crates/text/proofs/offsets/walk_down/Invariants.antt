@@ -1,8 +1,7 @@
 -- `text::offsets::walk_down` meets its contract. The invariant of its loop: i stands in row r, which lies above row `to`. The measure is the
 -- text's length less i. Assumes nothing.
-use Rattle.lists.proofs.Kit.{◌-◌, arith, length, rules}
-use Rattle.text.proofs.At.{on_last}
-use Rattle.text.proofs.Stands.{Above, stands_at_lem, stands_own, reached_row, reached_end, step_char, step_nl}
+use Rattle.lists.proofs.Kit.{◌-◌, length}
+use Rattle.text.proofs.Stands.{Above}
 use Rattle.text.proofs.offsets.walk_down.Given as goal
 
 abbrev pub invariant-loop-i : goal.invariant-loop-i

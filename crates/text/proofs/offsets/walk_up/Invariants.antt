@@ -1,10 +1,7 @@
 -- `text::offsets::walk_up` meets its contract. The invariant of its loop: i stands in row r, and `left` rows are still to go up.
 -- The measure is i. Assumes nothing.
-use Rattle.lists.proofs.Kit.{◌≡◌, sym, List, ℕ, ◌+◌, ◌≤◌, arith, rules}
+use Rattle.lists.proofs.Kit.{◌≡◌, List, ℕ, ◌+◌, ◌≤◌}
 use Rattle.text.specs.Offsets.{Stands, row_start}
-use Rattle.text.proofs.Rows.{start_zero}
-use Rattle.text.proofs.Before.{on_first_lem}
-use Rattle.text.proofs.Stands.{stands_at_lem, line_eq, back_char, back_nl}
 use Rattle.text.proofs.offsets.walk_up.Given as goal
 
 pub record Walked (t : List ℕ) (row n r left i : ℕ) : Type 0 where

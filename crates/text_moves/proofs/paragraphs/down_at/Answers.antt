@@ -1,6 +1,6 @@
 -- `paragraphs::down_at` meets its contract: the last row with content has its last column, any other column 0.
 -- Assumes nothing.
-use Rattle.lists.proofs.Kit.{ap, sym, ◌∙◌, ℕ, ◌-◌, rules, eq-eqb, ne_eqb}
+use Rattle.lists.proofs.Kit.{ap, sym, ◌∙◌, ℕ, ◌-◌, eq-eqb, ne_eqb}
 use Rattle.text.specs.Text.{content_rows, position}
 use Rattle.text_moves.proofs.paragraphs.down_at.Goals as goal
 

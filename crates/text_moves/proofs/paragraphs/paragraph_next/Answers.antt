@@ -1,6 +1,6 @@
 -- `paragraphs::paragraph_next` meets its contract: the rounds lead to a row, or nowhere.
 -- Assumes nothing.
-use Rattle.lists.proofs.Kit.{ap, ◌∙◌, true, ℕ, ◌-◌, arith, rules}
+use Rattle.lists.proofs.Kit.{ap, ◌∙◌, true, ℕ, ◌-◌, arith}
 use Rattle.text.proofs.Content.{content_near}
 use Rattle.text_moves.specs.Paragraphs.{down_at}
 use Rattle.text_moves.proofs.Led.{led}

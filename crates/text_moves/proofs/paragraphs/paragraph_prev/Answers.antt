@@ -1,6 +1,6 @@
 -- `paragraphs::paragraph_prev` meets its contract: the rounds lead to a row, or nowhere.
 -- Assumes nothing.
-use Rattle.lists.proofs.Kit.{ap, false, ℕ, ◌-◌, arith, rules}
+use Rattle.lists.proofs.Kit.{ap, false, ℕ, ◌-◌, arith}
 use Rattle.text.proofs.Content.{content_near}
 use Rattle.text_moves.specs.Paragraphs.{up_at}
 use Rattle.text_moves.proofs.Led.{led}

@@ -1,6 +1,6 @@
 -- `rows::at_line` meets its contract.
 -- Assumes nothing.
-use Rattle.lists.proofs.Kit.{ap, rules}
+use Rattle.lists.proofs.Kit.{ap}
 use Rattle.text.specs.Text.{position}
 use Rattle.text_moves.proofs.rows.at_line.Goals as goal
 

@@ -1,6 +1,6 @@
 -- `rows::bottom` meets its contract: the last row with content, or the row of that number.
 -- Assumes nothing.
-use Rattle.lists.proofs.Kit.{ap, ◌∙◌, ℕ, ◌-◌, min, arith, rules, eq-eqb, ne_eqb}
+use Rattle.lists.proofs.Kit.{ap, ◌∙◌, ℕ, ◌-◌, min, arith, eq-eqb, ne_eqb}
 use Rattle.positions.proofs.Entered.{accepted_rows}
 use Rattle.text_moves.specs.Rows.{at_row}
 use Rattle.text_moves.proofs.rows.bottom.Goals as goal

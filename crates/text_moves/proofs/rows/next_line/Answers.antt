@@ -1,6 +1,6 @@
 -- `rows::next_line` meets its contract: from the last row with content on it stays.
 -- Assumes nothing.
-use Rattle.lists.proofs.Kit.{ap, ◌∙◌, ℕ, ◌+◌, ◌-◌, min, max, arith, rules, le-leb, lt-leb}
+use Rattle.lists.proofs.Kit.{ap, ◌∙◌, ℕ, ◌+◌, ◌-◌, min, max, arith, le-leb, lt-leb}
 use Rattle.text.specs.Text.{content_rows}
 use Rattle.positions.proofs.Entered.{accepted_rows}
 use Rattle.text_moves.specs.Rows.{at_row}

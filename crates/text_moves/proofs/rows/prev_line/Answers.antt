@@ -1,6 +1,6 @@
 -- `rows::prev_line` meets its contract: from row 0 there is no row up.
 -- Assumes nothing.
-use Rattle.lists.proofs.Kit.{ap, ◌∙◌, ℕ, ◌-◌, arith, rules, eq-eqb, ne_eqb}
+use Rattle.lists.proofs.Kit.{ap, ◌∙◌, ℕ, ◌-◌, arith, eq-eqb, ne_eqb}
 use Rattle.text_moves.specs.Rows.{at_row}
 use Rattle.text_moves.proofs.rows.prev_line.Goals as goal
 

@@ -1,6 +1,6 @@
 -- `rows::this_line` meets its contract: from the last row with content on it stays, if it was to go down.
 -- Assumes nothing.
-use Rattle.lists.proofs.Kit.{◌≡◌, ap, ◌∙◌, Bool, true, false, ◌&&◌, ℕ, ◌+◌, ◌-◌, min, max, arith, ltb, leb, rules}
+use Rattle.lists.proofs.Kit.{◌≡◌, ap, ◌∙◌, Bool, true, false, ◌&&◌, ℕ, ◌+◌, ◌-◌, min, max, arith, ltb, leb}
 use Rattle.text.specs.Text.{content_rows}
 use Rattle.positions.proofs.Entered.{accepted_rows}
 use Rattle.text_moves.specs.Rows.{at_row}

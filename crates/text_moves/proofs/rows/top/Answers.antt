@@ -1,6 +1,5 @@
 -- `rows::top` meets its contract: row 0 starts at offset 0.
 -- Assumes nothing.
-use borrow.Author.Rules.{rules}
 use Rattle.text.proofs.Stands.{first_line}
 use Rattle.text_moves.proofs.rows.top.Goals as goal
 

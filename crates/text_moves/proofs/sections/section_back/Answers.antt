@@ -1,6 +1,6 @@
 -- `sections::section_back` meets its contract: column 0 of the row that the walk leads to.
 -- Assumes nothing.
-use Rattle.lists.proofs.Kit.{ap, ◌∙◌, ℕ, arith, rules}
+use Rattle.lists.proofs.Kit.{ap, ◌∙◌, ℕ, arith}
 use Rattle.text.specs.Text.{position}
 use Rattle.row_walks.specs.Sections.{section_up}
 use Rattle.text_moves.proofs.sections.section_back.Goals as goal

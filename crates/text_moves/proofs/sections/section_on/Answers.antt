@@ -1,6 +1,6 @@
 -- `sections::section_on` meets its contract: column 0 of the row that the walk leads to.
 -- Assumes nothing.
-use Rattle.lists.proofs.Kit.{ap, ◌∙◌, ℕ, ◌-◌, arith, rules}
+use Rattle.lists.proofs.Kit.{ap, ◌∙◌, ℕ, ◌-◌, arith}
 use Rattle.text.specs.Text.{content_rows, position}
 use Rattle.positions.proofs.Entered.{accepted_rows}
 use Rattle.row_walks.specs.Sections.{section_down}

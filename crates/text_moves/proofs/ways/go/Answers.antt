@@ -1,5 +1,5 @@
 -- `moves::go` meets its contract, move by move. Long by its moves: an answer for each. Assumes nothing.
-use Rattle.lists.proofs.Kit.{◌≡◌, ap, sym, ◌∙◌, List, ℕ, arith, rules}
+use Rattle.lists.proofs.Kit.{◌≡◌, ap, sym, ◌∙◌, List, ℕ, arith}
 use Rattle.text.specs.declared.Position.{Position}
 use Rattle.positions.specs.Positions.{in_row}
 use Rattle.text_moves.specs.declared.Way.{Way}

@@ -1,5 +1,5 @@
 -- `decoder::decode` meets its contract: by what the check found, and by the room. Assumes nothing.
-use Rattle.lists.proofs.Kit.{sym, ◌∙◌, rules}
+use Rattle.lists.proofs.Kit.{sym, ◌∙◌}
 use Rattle.utf8.proofs.Answers.{check_holds, check_text, check_short, check_bad}
 use Rattle.utf8.proofs.decoder.decode.Goals as goal
 

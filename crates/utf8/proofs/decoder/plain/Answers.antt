@@ -1,7 +1,6 @@
 -- `decoder::plain` meets its contract. The invariant of its loop: what was found, or will be. The measure is what is left. Assumes nothing.
-use Rattle.lists.proofs.Kit.{ap, not, ◌-◌, length, rules}
-use Rattle.lists.proofs.Any.{Finds, finds_start, finds_on, finds_end}
-use Rattle.utf8.specs.Encoding.{is_above}
+use Rattle.lists.proofs.Kit.{ap, not, ◌-◌}
+use Rattle.lists.proofs.Any.{finds_start, finds_on, finds_end}
 use Rattle.utf8.proofs.decoder.plain.Goals as goal
 
 pub loop-i-preserved : goal.loop-i-preserved

@@ -1,6 +1,6 @@
 -- `decoder::plain` meets its contract. The invariant of its loop: what was found, or will be. The measure is what is left. Assumes nothing.
-use Rattle.lists.proofs.Kit.{ap, not, ◌-◌, length, rules}
-use Rattle.lists.proofs.Any.{Finds, finds_start, finds_on, finds_end}
+use Rattle.lists.proofs.Kit.{◌-◌, length}
+use Rattle.lists.proofs.Any.{Finds}
 use Rattle.utf8.specs.Encoding.{is_above}
 use Rattle.utf8.proofs.decoder.plain.Given as goal
 

@@ -1,9 +1,7 @@
 -- `decoder::widen_on` meets its contract. The invariant of its loop: the code points before i are written, and what is left is ASCII. The measure
 -- is what is left up to `until`. Assumes nothing.
-use Rattle.lists.proofs.Kit.{◌-◌, arith, rules}
-use Rattle.utf8.proofs.Ascii.{plain_on}
-use Rattle.utf8.proofs.Starts.{begins_one}
-use Rattle.utf8.proofs.Written.{Widening, going_start, going_wrote, going_room, going_on_lem}
+use Rattle.lists.proofs.Kit.{◌-◌}
+use Rattle.utf8.proofs.Written.{Widening}
 use Rattle.utf8.proofs.decoder.widen_on.Given as goal
 
 abbrev pub invariant-loop-i : goal.invariant-loop-i

@@ -1,8 +1,7 @@
 -- `decoder::write_on` meets its contract. The invariant of its loop: the code points before i are written. The measure is what is left up to
 -- `until`. Assumes nothing.
-use Rattle.lists.proofs.Kit.{◌-◌, arith, rules}
-use Rattle.utf8.proofs.Counted.{stepped_good, stepped_bad}
-use Rattle.utf8.proofs.Written.{Going, going_start, going_wrote, going_room, going_on_lem, going_bad}
+use Rattle.lists.proofs.Kit.{◌-◌}
+use Rattle.utf8.proofs.Written.{Going}
 use Rattle.utf8.proofs.decoder.write_on.Given as goal
 
 abbrev pub invariant-loop-i : goal.invariant-loop-i

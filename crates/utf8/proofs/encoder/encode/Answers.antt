@@ -1,5 +1,5 @@
 -- `encoder::encode` meets its contract: each refusal, and the text. Assumes nothing.
-use Rattle.lists.proofs.Kit.{sym, ◌∙◌, arith, rules, not-true, not-false}
+use Rattle.lists.proofs.Kit.{sym, ◌∙◌, arith, not-true, not-false}
 use Rattle.utf8.proofs.Encodes.{encode_long, encode_wrong, encode_short, encode_text}
 use Rattle.utf8.proofs.encoder.encode.Goals as goal
 

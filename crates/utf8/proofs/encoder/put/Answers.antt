@@ -1,5 +1,5 @@
 -- `encoder::put` meets its contract, by the ranges of RFC 3629's table. Assumes nothing.
-use Rattle.lists.proofs.Kit.{arith, length-set, rules}
+use Rattle.lists.proofs.Kit.{arith, length-set}
 use Rattle.utf8.proofs.Encodings.{size_one, size_two, size_three, size_four}
 use Rattle.utf8.proofs.Puts.{put_one, put_two, put_three, put_four}
 use Rattle.utf8.proofs.encoder.put.Goals as goal

@@ -1,10 +1,9 @@
 -- `encoder::size_all` meets its contract. The invariant of its loop: the bytes counted, and those to come. The measure is the length less i.
 -- Assumes nothing.
-use Rattle.lists.proofs.Kit.{◌≡◌, ap, List, ℕ, ◌+◌, ◌*◌, ◌-◌, ◌≤◌, arith, length, get_or, drop, length-append, rules}
+use Rattle.lists.proofs.Kit.{ap, ◌+◌, ◌-◌, arith, length, get_or, drop, length-append}
 use Rattle.utf8.specs.Encoding.{encoding, utf8}
 use Rattle.utf8.proofs.Encodings.{size_most}
 use Rattle.utf8.proofs.Puts.{utf8_at, utf8_end}
-use Rattle.utf8.proofs.encoder.size_all.Invariants.{Counted}
 use Rattle.utf8.proofs.encoder.size_all.Goals as goal
 
 pub loop-i-init : goal.loop-i-init

@@ -1,7 +1,7 @@
 -- `encoder::write` meets its contract. The invariant of its loop: what is written, with what is left of the text, comes to the whole. The measure
 -- is the length less i. Assumes nothing.
-use Rattle.lists.proofs.Kit.{refl, ◌-◌, arith, length, rules}
-use Rattle.utf8.proofs.Puts.{Laying, laying_room, laying_on, laying_end}
+use Rattle.lists.proofs.Kit.{◌-◌, length}
+use Rattle.utf8.proofs.Puts.{Laying}
 use Rattle.utf8.proofs.encoder.write.Given as goal
 
 abbrev pub invariant-loop-i : goal.invariant-loop-i

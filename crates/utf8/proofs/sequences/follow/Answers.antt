@@ -1,8 +1,7 @@
 -- `sequences::follow` meets its contract. The invariant of its loop: what is read is what is read from here on, with so many bytes left. The
 -- measure is their number. Assumes nothing.
-use Rattle.lists.proofs.Kit.{refl, arith, drop, rules}
-use Rattle.utf8.specs.Decoding.{ended, reading}
-use Rattle.utf8.proofs.Steps.{Follows, bits_most, follows_cut, follows_low, follows_high, follows_on, follows_end}
+use Rattle.lists.proofs.Kit.{refl, arith}
+use Rattle.utf8.proofs.Steps.{bits_most, follows_cut, follows_low, follows_high, follows_on, follows_end}
 use Rattle.utf8.proofs.sequences.follow.Goals as goal
 
 pub loop-more-init : goal.loop-more-init

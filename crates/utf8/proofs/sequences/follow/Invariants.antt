@@ -1,8 +1,8 @@
 -- `sequences::follow` meets its contract. The invariant of its loop: what is read is what is read from here on, with so many bytes left. The
 -- measure is their number. Assumes nothing.
-use Rattle.lists.proofs.Kit.{refl, arith, drop, rules}
+use Rattle.lists.proofs.Kit.{drop}
 use Rattle.utf8.specs.Decoding.{ended, reading}
-use Rattle.utf8.proofs.Steps.{Follows, bits_most, follows_cut, follows_low, follows_high, follows_on, follows_end}
+use Rattle.utf8.proofs.Steps.{Follows}
 use Rattle.utf8.proofs.sequences.follow.Given as goal
 
 abbrev pub invariant-loop-more : goal.invariant-loop-more

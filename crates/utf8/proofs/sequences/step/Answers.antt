@@ -1,5 +1,5 @@
 -- `sequences::step` meets its contract, by the ranges of the lead. Assumes nothing.
-use Rattle.lists.proofs.Kit.{arith, rules}
+use Rattle.lists.proofs.Kit.{arith}
 use Rattle.utf8.specs.Sequences.{bits_below}
 use Rattle.utf8.proofs.Starts.{begins_one, begins_low, begins_high, begins_two, begins_three, begins_four, begun_more}
 use Rattle.utf8.proofs.sequences.step.Goals as goal

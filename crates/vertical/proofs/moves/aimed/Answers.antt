@@ -1,4 +1,4 @@
-use Rattle.lists.proofs.Kit.{◌≡◌, ap, ◌∙◌, arith, rules}
+use Rattle.lists.proofs.Kit.{◌≡◌, ap, ◌∙◌, arith}
 use Rattle.text.specs.Text.{row_at}
 use Rattle.text.specs.declared.Line.{Line}
 use Rattle.text.proofs.Stands.{line_there}

@@ -1,4 +1,4 @@
-use Rattle.lists.proofs.Kit.{ap, ◌∙◌, arith, rules}
+use Rattle.lists.proofs.Kit.{ap, ◌∙◌, arith}
 use lib.IntN.{ℤ}
 use Rattle.chars.specs.Width.{width_by}
 use Rattle.vertical.specs.Moves.{move_vertical}

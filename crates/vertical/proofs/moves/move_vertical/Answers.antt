@@ -1,6 +1,6 @@
 -- `vertical::moves::move_vertical` meets its contract: the row stays and so does the column, or the column is sought in the new row.
 -- Assumes nothing.
-use Rattle.lists.proofs.Kit.{◌∙◌, arith, rules}
+use Rattle.lists.proofs.Kit.{◌∙◌, arith}
 use mir.Facts.{to_z-of_z}
 use Rattle.chars.specs.Width.{width_by}
 use Rattle.text.proofs.Parts.{count_le}

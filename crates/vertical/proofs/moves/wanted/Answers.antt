@@ -1,4 +1,4 @@
-use Rattle.lists.proofs.Kit.{ap, sym, ◌∙◌, List, ℕ, rules}
+use Rattle.lists.proofs.Kit.{ap, sym, ◌∙◌, List, ℕ}
 use Rattle.chars.specs.Width.{width_by}
 use Rattle.row_columns.specs.Columns.{cursor_col}
 use Rattle.vertical.specs.Moves.{wanted_col}

@@ -1,5 +1,5 @@
 -- `vertical::viewport::bottom_row` meets its contract: a text has a row with content. Assumes nothing.
-use Rattle.lists.proofs.Kit.{arith, rules}
+use Rattle.lists.proofs.Kit.{arith}
 use Rattle.text.proofs.Content.{content_near}
 use Rattle.vertical.proofs.viewport.bottom_row.Goals as goal
 

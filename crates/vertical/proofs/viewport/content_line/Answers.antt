@@ -1,5 +1,5 @@
 -- `vertical::viewport::content_line` meets its contract: a text has a row with content. Assumes nothing.
-use Rattle.lists.proofs.Kit.{ap, ◌∙◌, ℕ, ◌-◌, min, arith, rules}
+use Rattle.lists.proofs.Kit.{ap, ◌∙◌, ℕ, ◌-◌, min, arith}
 use Rattle.text.specs.Offsets.{line_at}
 use Rattle.text.proofs.Content.{content_near}
 use Rattle.vertical.proofs.viewport.content_line.Goals as goal

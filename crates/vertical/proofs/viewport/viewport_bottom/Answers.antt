@@ -1,4 +1,3 @@
-use borrow.Author.Rules.{rules}
 use Rattle.vertical.proofs.viewport.viewport_bottom.Goals as goal
 
 pub returns : goal.returns

@@ -1,5 +1,5 @@
 -- `viewport::viewport_line` meets its contract, edge by edge. Assumes nothing.
-use Rattle.lists.proofs.Kit.{◌≡◌, ap, sym, ◌∙◌, List, ℕ, rules}
+use Rattle.lists.proofs.Kit.{◌≡◌, ap, sym, ◌∙◌, List, ℕ}
 use Rattle.text.specs.Offsets.{line_at}
 use Rattle.text.specs.declared.Line.{Line}
 use Rattle.vertical.specs.declared.Edge.{Edge}

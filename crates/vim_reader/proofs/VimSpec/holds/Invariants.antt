@@ -1,10 +1,8 @@
 -- `vim_reader::VimSpec::holds` meets its contract. The invariant of its loop: the tokens before i have said `is`. The measure is the table's
 -- length less i. Assumes nothing.
-use Rattle.lists.proofs.Kit.{◌≡◌, sym, ◌∙◌, List, Bool, ℕ, ◌-◌, ◌≤◌, arith, length, take, drop, rules}
+use Rattle.lists.proofs.Kit.{◌≡◌, List, Bool, ℕ, ◌-◌, ◌≤◌, take, drop}
 use Rattle.vim_grammar.specs.declared.VimToken.{VimToken}
 use Rattle.vim_grammar.specs.Tokens.{in_vim, decided}
-use Rattle.list_tokens.proofs.Lists.{places}
-use Rattle.vim_reader.proofs.TableLaws.{decided_said, decided_on, decided_end}
 use Rattle.vim_reader.proofs.VimSpec.holds.Given as goal
 
 pub record Said (tokens : List VimToken) (c n : ℕ) (is : Bool) (i : ℕ) : Type 0 where

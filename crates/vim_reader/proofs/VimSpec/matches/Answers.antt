@@ -1,5 +1,5 @@
 -- `vim_reader::VimSpec::matches` meets its contract: refusal 2, then 8, then the answer. Assumes nothing.
-use Rattle.lists.proofs.Kit.{ap, sym, ◌∙◌, rules, le-leb, lt-leb}
+use Rattle.lists.proofs.Kit.{ap, sym, ◌∙◌, le-leb, lt-leb}
 use Rattle.vim_reader.specs.declared.VimMatched.TheVariants.{Is}
 use Rattle.vim_reader.proofs.Answers.{matched_refused}
 use Rattle.vim_reader.proofs.VimSpec.matches.Goals as goal

@@ -1,5 +1,5 @@
 -- `vim_reader::VimSpec::parse` meets its contract: refusal 7, then what reading the list gives. Assumes nothing.
-use Rattle.lists.proofs.Kit.{sym, ◌∙◌, rules, ne_eqb}
+use Rattle.lists.proofs.Kit.{sym, ◌∙◌, ne_eqb}
 use Rattle.vim_reader.proofs.VimSpec.parse.Goals as goal
 
 pub returns-then-refused_list-ne0 : goal.returns-then-refused_list-ne0

@@ -1,5 +1,5 @@
 -- `machine::after_dash` meets its contract: a digit, a character from the first end on, or neither. Assumes nothing.
-use Rattle.lists.proofs.Kit.{sym, ◌∙◌, arith, rules}
+use Rattle.lists.proofs.Kit.{sym, ◌∙◌, arith}
 use Rattle.vim_reader.proofs.MachineLaws.{digit_low, dash_digit, dash_below, dash_above, dash_done}
 use Rattle.vim_reader.proofs.machine.after_dash.Goals as goal
 

@@ -1,5 +1,5 @@
 -- `machine::first` meets its contract: a digit, another character of ASCII, or neither. Assumes nothing.
-use Rattle.lists.proofs.Kit.{sym, ◌∙◌, arith, rules}
+use Rattle.lists.proofs.Kit.{sym, ◌∙◌, arith}
 use Rattle.vim_reader.proofs.MachineLaws.{digit_low, first_digit, first_sign_lem, first_dead}
 use Rattle.vim_reader.proofs.machine.first.Goals as goal
 

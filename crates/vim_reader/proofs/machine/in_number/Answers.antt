@@ -1,5 +1,5 @@
 -- `machine::in_number` meets its contract: what is no digit ends the number, and a digit goes on with it up to 255. Assumes nothing.
-use Rattle.lists.proofs.Kit.{sym, ◌∙◌, arith, rules, not-true, not-false}
+use Rattle.lists.proofs.Kit.{sym, ◌∙◌, arith}
 use Rattle.vim_reader.proofs.MachineLaws.{digit_low, digit_high, number_behind, number_on, number_dead}
 use Rattle.vim_reader.proofs.machine.in_number.Goals as goal
 

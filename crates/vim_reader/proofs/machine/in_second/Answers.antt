@@ -1,5 +1,5 @@
 -- `machine::in_second` meets its contract: a digit goes on with the number, and a comma ends it. Assumes nothing.
-use Rattle.lists.proofs.Kit.{sym, ◌∙◌, arith, rules}
+use Rattle.lists.proofs.Kit.{sym, ◌∙◌, arith}
 use Rattle.vim_reader.proofs.MachineLaws.{digit_low, digit_high, second_over, in_second_digit, in_second_other, in_second_below, in_second_comma}
 use Rattle.vim_reader.proofs.machine.in_second.Goals as goal
 

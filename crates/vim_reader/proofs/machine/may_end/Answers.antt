@@ -1,5 +1,4 @@
 -- `machine::may_end` meets its contract: state by state. Assumes nothing.
-use borrow.Author.Rules.{rules}
 use Rattle.vim_reader.specs.Machine.{ends}
 use Rattle.vim_reader.proofs.machine.may_end.Goals as goal
 

@@ -1,5 +1,4 @@
 -- `machine::phase` meets its contract: state by state. Assumes nothing.
-use borrow.Author.Rules.{rules}
 use Rattle.vim_reader.specs.Machine.{phase_of}
 use Rattle.vim_reader.proofs.machine.phase.Goals as goal
 

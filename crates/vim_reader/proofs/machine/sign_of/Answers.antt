@@ -1,5 +1,5 @@
 -- `machine::sign_of` meets its contract: `@`, or any other character. Assumes nothing.
-use Rattle.lists.proofs.Kit.{rules, eq-eqb, ne_eqb}
+use Rattle.lists.proofs.Kit.{eq-eqb, ne_eqb}
 use Rattle.vim_reader.specs.Machine.{sign_token}
 use Rattle.vim_reader.proofs.machine.sign_of.Goals as goal
 

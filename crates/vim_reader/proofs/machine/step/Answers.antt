@@ -1,5 +1,4 @@
 -- `machine::step` meets its contract: state by state. Assumes nothing.
-use borrow.Author.Rules.{rules}
 use Rattle.vim_reader.specs.Machine.{step_of}
 use Rattle.vim_reader.proofs.machine.step.Goals as goal
 

@@ -1,5 +1,4 @@
 -- `machine::token_of` meets its contract: state by state. Assumes nothing.
-use borrow.Author.Rules.{rules}
 use Rattle.vim_reader.specs.Machine.{token_of}
 use Rattle.vim_reader.proofs.machine.token_of.Goals as goal
 

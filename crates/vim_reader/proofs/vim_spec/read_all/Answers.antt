@@ -1,9 +1,9 @@
 -- `vim_spec::read_all` meets its contract. The invariant of its loop: what is read is what was read before i, and then what is read from there on.
 -- The measure is the list's length less i. Assumes nothing.
-use Rattle.lists.proofs.Kit.{ap, sym, ◌∙◌, ◌+◌, ◌-◌, arith, length, set, rules, not-true, not-false}
+use Rattle.lists.proofs.Kit.{ap, sym, ◌∙◌, ◌+◌, ◌-◌, arith, set, rules}
 use Rattle.vim_grammar.specs.declared.VimToken.{VimToken}
 use Rattle.vim_reader.specs.Table.{answered}
-use Rattle.vim_reader.proofs.RunLaws.{Run, run_start_lem, run_dead, run_on, run_part}
+use Rattle.vim_reader.proofs.RunLaws.{run_start_lem, run_dead, run_on, run_part}
 use Rattle.vim_reader.proofs.RunEnds.{run_cut, run_none, run_many, run_last}
 use Rattle.vim_reader.proofs.vim_spec.read_all.Goals as goal
 

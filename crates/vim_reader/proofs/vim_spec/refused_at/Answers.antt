@@ -1,5 +1,4 @@
 -- `vim_spec::refused_at` meets its contract: the table is the empty one. Assumes nothing.
-use borrow.Author.Rules.{rules}
 use Rattle.vim_reader.proofs.vim_spec.refused_at.Goals as goal
 
 pub returns : goal.returns

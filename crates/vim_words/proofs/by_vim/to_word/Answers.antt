@@ -1,6 +1,6 @@
 -- `vim_words::by_vim::to_word` meets its contract: the caret's spot goes in, and the spot that the walk ended on is a row and a column again.
 -- Assumes nothing.
-use Rattle.lists.proofs.Kit.{ap, ◌∙◌, ℕ, ◌-◌, arith, rules}
+use Rattle.lists.proofs.Kit.{ap, ◌∙◌, ℕ, ◌-◌, arith}
 use Rattle.text.specs.declared.Position.{Position}
 use Rattle.vim_grammar.specs.Tokens.{in_vim}
 use Rattle.vim_reader.specs.Table.{kept}

@@ -1,5 +1,5 @@
 -- `vim_words::by_vim::word_by_vim` meets its contract: each refusal in its turn, and else the motion by the list's table. Assumes nothing.
-use Rattle.lists.proofs.Kit.{ap, sym, ◌∙◌, List, ℕ, take, rules}
+use Rattle.lists.proofs.Kit.{ap, sym, ◌∙◌, List, ℕ, take}
 use Rattle.vim_grammar.specs.Tokens.{in_vim}
 use Rattle.vim_reader.specs.declared.VimRead.{VimRead}
 use Rattle.vim_reader.specs.Table.{kept}

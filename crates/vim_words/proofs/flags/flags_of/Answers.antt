@@ -2,7 +2,7 @@
 -- less i. Assumes nothing.
 use Rattle.lists.proofs.Kit.{◌≡◌, refl, ◌-◌, arith, length, take, rules}
 use Rattle.list_tokens.proofs.Lists.{places}
-use Rattle.vim_words.proofs.Telling.{SpokenTo, spoken_start, spoken_next, spoken_end}
+use Rattle.vim_words.proofs.Telling.{spoken_start, spoken_next, spoken_end}
 use Rattle.vim_words.proofs.flags.flags_of.Goals as goal
 
 pub loop-i-init : goal.loop-i-init

@@ -1,8 +1,7 @@
 -- `vim_words::flags::flags_of` meets its contract. The invariant of its loop: the tokens before i have been told. The measure is the table's length
 -- less i. Assumes nothing.
-use Rattle.lists.proofs.Kit.{◌≡◌, refl, ◌-◌, arith, length, take, rules}
-use Rattle.list_tokens.proofs.Lists.{places}
-use Rattle.vim_words.proofs.Telling.{SpokenTo, spoken_start, spoken_next, spoken_end}
+use Rattle.lists.proofs.Kit.{◌-◌, take}
+use Rattle.vim_words.proofs.Telling.{SpokenTo}
 use Rattle.vim_words.proofs.flags.flags_of.Given as goal
 
 abbrev pub invariant-loop-i : goal.invariant-loop-i

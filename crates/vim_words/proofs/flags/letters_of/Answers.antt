@@ -1,8 +1,8 @@
 -- `vim_words::flags::letters_of` meets its contract. The invariant of its loop: the tokens before i have said `is` of the letters. The measure is the
 -- table's length less i. Assumes nothing.
-use Rattle.lists.proofs.Kit.{◌≡◌, refl, sym, ◌∙◌, ◌-◌, arith, length, take, rules, eq-eqb, ne_eqb}
+use Rattle.lists.proofs.Kit.{◌≡◌, refl, sym, ◌∙◌, ◌-◌, arith, length, rules, eq-eqb, ne_eqb}
 use Rattle.list_tokens.proofs.Lists.{places}
-use Rattle.vim_words.proofs.Telling.{LettersTo, letters_said, letters_on, letters_end}
+use Rattle.vim_words.proofs.Telling.{letters_said, letters_on, letters_end}
 use Rattle.vim_words.proofs.flags.letters_of.Goals as goal
 
 pub loop-i-init : goal.loop-i-init

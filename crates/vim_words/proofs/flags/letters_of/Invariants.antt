@@ -1,8 +1,7 @@
 -- `vim_words::flags::letters_of` meets its contract. The invariant of its loop: the tokens before i have said `is` of the letters. The measure is the
 -- table's length less i. Assumes nothing.
-use Rattle.lists.proofs.Kit.{◌≡◌, refl, sym, ◌∙◌, ◌-◌, arith, length, take, rules, eq-eqb, ne_eqb}
-use Rattle.list_tokens.proofs.Lists.{places}
-use Rattle.vim_words.proofs.Telling.{LettersTo, letters_said, letters_on, letters_end}
+use Rattle.lists.proofs.Kit.{◌-◌, take}
+use Rattle.vim_words.proofs.Telling.{LettersTo}
 use Rattle.vim_words.proofs.flags.letters_of.Given as goal
 
 abbrev pub invariant-loop-i : goal.invariant-loop-i

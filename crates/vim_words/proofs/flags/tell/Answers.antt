@@ -1,7 +1,7 @@
 -- `vim_words::flags::tell` meets its contract. The invariant of its loop: the token has been told of the codes below c. The measure is 256 less c.
 -- Assumes nothing.
-use Rattle.lists.proofs.Kit.{sym, ◌∙◌, ◌-◌, arith, length-set, rules}
-use Rattle.vim_words.proofs.Telling.{TellingTo, telling_start, telling_said, telling_kept, telling_end}
+use Rattle.lists.proofs.Kit.{sym, ◌∙◌, ◌-◌, arith, length-set}
+use Rattle.vim_words.proofs.Telling.{telling_start, telling_said, telling_kept, telling_end}
 use Rattle.vim_words.proofs.flags.tell.Goals as goal
 
 pub loop-c-init : goal.loop-c-init

@@ -1,5 +1,5 @@
 -- `vim_words::once::prepare_vim` meets its contract: the flags and the letters above hold what the table's tokens hold. Assumes nothing.
-use Rattle.lists.proofs.Kit.{refl, sym, ◌∙◌, arith, rules}
+use Rattle.lists.proofs.Kit.{refl, sym, ◌∙◌, arith}
 use Rattle.vim_reader.specs.Table.{kept}
 use Rattle.words.proofs.Letters.{no_letters}
 use Rattle.vim_words.proofs.Above.{kinds_flagged}

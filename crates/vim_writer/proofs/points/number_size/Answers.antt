@@ -1,5 +1,5 @@
 -- `points::number_size` meets its contract: ten places are enough for a number, and writing it tells how many it takes. Assumes nothing.
-use Rattle.lists.proofs.Kit.{arith, rules}
+use Rattle.lists.proofs.Kit.{arith}
 use Rattle.print.proofs.Laws.{length_decimal}
 use Rattle.vim_writer.proofs.points.number_size.Goals as goal
 

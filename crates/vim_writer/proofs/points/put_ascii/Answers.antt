@@ -1,10 +1,8 @@
 -- `points::put_ascii` meets its contract. The invariant of its loop: the first i characters are written. The measure is the length less i.
 -- Assumes nothing.
-use Rattle.lists.proofs.Kit.{◌≡◌, ap, List, ℕ, ◌+◌, ◌-◌, ◌≤◌, add-zero, arith, take, rules}
-use Rattle.print.specs.Print.{Wrote}
+use Rattle.lists.proofs.Kit.{◌≡◌, ap, ℕ, ◌-◌, add-zero, arith, take, rules}
 use Rattle.print.proofs.Laws.{wrote_none, wrote_byte}
 use Rattle.vim_writer.proofs.RoomLaws.{wrote_as}
-use Rattle.vim_writer.proofs.points.put_ascii.Invariants.{Put}
 use Rattle.vim_writer.proofs.points.put_ascii.Goals as goal
 
 pub overflow_cast-out : goal.overflow_cast-out

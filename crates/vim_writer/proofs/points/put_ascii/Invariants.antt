@@ -1,9 +1,7 @@
 -- `points::put_ascii` meets its contract. The invariant of its loop: the first i characters are written. The measure is the length less i.
 -- Assumes nothing.
-use Rattle.lists.proofs.Kit.{◌≡◌, ap, List, ℕ, ◌+◌, ◌-◌, ◌≤◌, add-zero, arith, take, rules}
+use Rattle.lists.proofs.Kit.{List, ℕ, ◌+◌, ◌-◌, ◌≤◌, take}
 use Rattle.print.specs.Print.{Wrote}
-use Rattle.print.proofs.Laws.{wrote_none, wrote_byte}
-use Rattle.vim_writer.proofs.RoomLaws.{wrote_as}
 use Rattle.vim_writer.proofs.points.put_ascii.Given as goal
 
 pub record Put (out₀ : List ℕ) (at : ℕ) (s : List ℕ) (n : ℕ) (out : List ℕ) (i : ℕ) : Type 0 where

@@ -1,13 +1,11 @@
 -- `writer::list_size` meets its contract. The invariant of its loop: n is the length of the first i tokens' list. The measure is the table's length
 -- less i. Assumes nothing.
-use Rattle.lists.proofs.Kit.{◌≡◌, refl, ap, sym, ◌∙◌, List, ℕ, ◌-◌, ◌≤◌, arith, length, take, get_or, rules}
+use Rattle.lists.proofs.Kit.{◌≡◌, refl, ap, sym, ◌∙◌, ◌-◌, arith, length, get_or, rules}
 use Rattle.list_tokens.proofs.Lists.{places}
-use Rattle.vim_grammar.specs.declared.VimToken.{VimToken}
 use Rattle.vim_grammar.specs.Tokens.{no_token}
 use Rattle.vim_writer.specs.Written.{written}
 use Rattle.vim_writer.proofs.TokenLaws.{token_most}
 use Rattle.vim_writer.proofs.WrittenLaws.{take_most, written_first, next_length}
-use Rattle.vim_writer.proofs.writer.list_size.Invariants.{Sized}
 use Rattle.vim_writer.proofs.writer.list_size.Goals as goal
 
 pub loop-i-init : goal.loop-i-init

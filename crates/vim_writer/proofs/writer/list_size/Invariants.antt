@@ -1,12 +1,8 @@
 -- `writer::list_size` meets its contract. The invariant of its loop: n is the length of the first i tokens' list. The measure is the table's length
 -- less i. Assumes nothing.
-use Rattle.lists.proofs.Kit.{◌≡◌, refl, ap, sym, ◌∙◌, List, ℕ, ◌-◌, ◌≤◌, arith, length, take, get_or, rules}
-use Rattle.list_tokens.proofs.Lists.{places}
+use Rattle.lists.proofs.Kit.{◌≡◌, List, ℕ, ◌-◌, ◌≤◌, length, take}
 use Rattle.vim_grammar.specs.declared.VimToken.{VimToken}
-use Rattle.vim_grammar.specs.Tokens.{no_token}
 use Rattle.vim_writer.specs.Written.{written}
-use Rattle.vim_writer.proofs.TokenLaws.{token_most}
-use Rattle.vim_writer.proofs.WrittenLaws.{take_most, written_first, next_length}
 use Rattle.vim_writer.proofs.writer.list_size.Given as goal
 
 pub record Sized (tokens : List VimToken) (len n i : ℕ) : Type 0 where

@@ -1,13 +1,10 @@
 -- `writer::put_list` meets its contract. The invariant of its loop: the list of the first i tokens is written. The measure is the table's length
 -- less i. Assumes nothing.
-use Rattle.lists.proofs.Kit.{◌≡◌, List, ℕ, ◌-◌, ◌≤◌, arith, length, take, rules}
-use Rattle.print.specs.Print.{Wrote}
+use Rattle.lists.proofs.Kit.{◌≡◌, ◌-◌, arith, length, rules}
 use Rattle.print.proofs.Laws.{wrote_none}
 use Rattle.list_tokens.proofs.Lists.{places}
-use Rattle.vim_grammar.specs.declared.VimToken.{VimToken}
 use Rattle.vim_writer.specs.Written.{written}
 use Rattle.vim_writer.proofs.RoomLaws.{put_first, put_next, room_first, room_next}
-use Rattle.vim_writer.proofs.writer.put_list.Invariants.{Put}
 use Rattle.vim_writer.proofs.writer.put_list.Goals as goal
 
 pub loop-i-init : goal.loop-i-init

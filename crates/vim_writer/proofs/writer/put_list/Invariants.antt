@@ -1,12 +1,9 @@
 -- `writer::put_list` meets its contract. The invariant of its loop: the list of the first i tokens is written. The measure is the table's length
 -- less i. Assumes nothing.
-use Rattle.lists.proofs.Kit.{◌≡◌, List, ℕ, ◌-◌, ◌≤◌, arith, length, take, rules}
+use Rattle.lists.proofs.Kit.{List, ℕ, ◌-◌, ◌≤◌, take}
 use Rattle.print.specs.Print.{Wrote}
-use Rattle.print.proofs.Laws.{wrote_none}
-use Rattle.list_tokens.proofs.Lists.{places}
 use Rattle.vim_grammar.specs.declared.VimToken.{VimToken}
 use Rattle.vim_writer.specs.Written.{written}
-use Rattle.vim_writer.proofs.RoomLaws.{put_first, put_next, room_first, room_next}
 use Rattle.vim_writer.proofs.writer.put_list.Given as goal
 
 pub record Put (tokens : List VimToken) (len : ℕ) (room₀ room : List ℕ) (at i : ℕ) : Type 0 where

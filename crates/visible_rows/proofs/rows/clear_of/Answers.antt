@@ -1,6 +1,6 @@
 -- `visible_rows::rows::clear_of` meets its contract: a fold that is open or lies behind hides nothing, one ahead nothing before its first hidden row.
 -- Assumes nothing.
-use Rattle.lists.proofs.Kit.{arith, rules}
+use Rattle.lists.proofs.Kit.{arith}
 use Rattle.visible_rows.proofs.Free.{clear_open, clear_behind, clear_ahead, clear_behind_up, clear_ahead_up}
 use Rattle.visible_rows.proofs.rows.clear_of.Goals as goal
 

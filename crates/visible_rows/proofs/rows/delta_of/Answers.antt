@@ -1,5 +1,5 @@
 -- `visible_rows::rows::delta_of` meets its contract: the count, and its negative for the way up. Assumes nothing.
-use Rattle.lists.proofs.Kit.{◌∙◌, ap, arith, rules}
+use Rattle.lists.proofs.Kit.{◌∙◌, ap, arith}
 use lib.IntN.{pos, neg_ℤ}
 use Rattle.visible_rows.proofs.Signed.{read_pos, neg_asked, read_neg}
 use Rattle.visible_rows.proofs.rows.delta_of.Goals as goal

@@ -1,7 +1,7 @@
 -- `visible_rows::rows::free_rows` meets its contract. The invariant of its loop: the folds before i hide none of the next `free` rows.
 -- The measure is the folds' length less i. Assumes nothing.
-use Rattle.lists.proofs.Kit.{refl, ◌+◌, ◌-◌, arith, length, rules}
-use Rattle.visible_rows.proofs.Free.{FreeTo, free_step, free_end}
+use Rattle.lists.proofs.Kit.{refl, ◌-◌, arith}
+use Rattle.visible_rows.proofs.Free.{free_step, free_end}
 use Rattle.visible_rows.proofs.rows.free_rows.Goals as goal
 
 pub loop-i-init : goal.loop-i-init

@@ -1,4 +1,4 @@
-use Rattle.lists.proofs.Kit.{sym, ◌∙◌, rules}
+use Rattle.lists.proofs.Kit.{sym, ◌∙◌}
 use Rattle.visible_rows.proofs.Visible.{toward_within, hop_free, hop_past, hop_none}
 use Rattle.visible_rows.proofs.rows.hop.Goals as goal
 

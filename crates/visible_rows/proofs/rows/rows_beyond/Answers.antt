@@ -1,4 +1,3 @@
-use borrow.Author.Rules.{rules}
 use Rattle.visible_rows.proofs.rows.rows_beyond.Goals as goal
 
 pub returns-then-down : goal.returns-then-down

@@ -1,10 +1,9 @@
 -- `visible_rows::rows::rows_on` meets its contract. The invariant of its loop: the n rounds from the first row are the `left` rounds from r.
 -- The measure is `left`. Assumes nothing.
-use Rattle.lists.proofs.Kit.{refl, sym, ap, ◌∙◌, arith, rules}
-use Rattle.lists.specs.Rounds.{rounds}
-use Rattle.visible_rows.specs.Visible.{step_row, toward}
+use Rattle.lists.proofs.Kit.{refl, sym, ap, ◌∙◌, arith}
+use Rattle.visible_rows.specs.Visible.{toward}
 use Rattle.lists.proofs.Rounds.{rounds_none}
-use Rattle.visible_rows.proofs.Visible.{Owes, toward_within, shift_within, shift_small, free_rounds, free_hop, free_edge}
+use Rattle.visible_rows.proofs.Visible.{toward_within, shift_within, shift_small, free_rounds, free_hop, free_edge}
 use Rattle.visible_rows.proofs.rows.rows_on.Goals as goal
 
 pub loop-left-init : goal.loop-left-init

@@ -1,10 +1,8 @@
 -- `visible_rows::rows::rows_on` meets its contract. The invariant of its loop: the n rounds from the first row are the `left` rounds from r.
 -- The measure is `left`. Assumes nothing.
-use Rattle.lists.proofs.Kit.{refl, sym, ap, ◌∙◌, arith, rules}
 use Rattle.lists.specs.Rounds.{rounds}
-use Rattle.visible_rows.specs.Visible.{step_row, toward}
-use Rattle.lists.proofs.Rounds.{rounds_none}
-use Rattle.visible_rows.proofs.Visible.{Owes, toward_within, shift_within, shift_small, free_rounds, free_hop, free_edge}
+use Rattle.visible_rows.specs.Visible.{step_row}
+use Rattle.visible_rows.proofs.Visible.{Owes}
 use Rattle.visible_rows.proofs.rows.rows_on.Given as goal
 
 abbrev pub invariant-loop-left : goal.invariant-loop-left

@@ -1,4 +1,4 @@
-use Rattle.lists.proofs.Kit.{refl, sym, ap, ◌∙◌, false, rules, not-true, not-false}
+use Rattle.lists.proofs.Kit.{refl, sym, ap, ◌∙◌, false}
 use Rattle.visible_rows.specs.Visible.{row_or}
 use Rattle.visible_rows.proofs.Visible.{toward_within}
 use Rattle.visible_rows.proofs.rows.shown_row.Goals as goal

@@ -1,4 +1,4 @@
-use Rattle.lists.proofs.Kit.{arith, rules}
+use Rattle.lists.proofs.Kit.{arith}
 use mir.Syntax.{w64}
 use mir.Facts.{to_z_pos}
 use Rattle.visible_rows.proofs.rows.signed.Goals as goal

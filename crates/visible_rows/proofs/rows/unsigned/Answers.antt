@@ -1,4 +1,3 @@
-use borrow.Author.Rules.{rules}
 use Rattle.visible_rows.proofs.Signed.{unsigned_fits}
 use Rattle.visible_rows.proofs.rows.unsigned.Goals as goal
 

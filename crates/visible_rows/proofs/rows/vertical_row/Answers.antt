@@ -1,5 +1,5 @@
 -- `visible_rows::rows::vertical_row` meets its contract: a step below 0 goes up from the row that shows, any other down. Assumes nothing.
-use Rattle.lists.proofs.Kit.{ap, ◌∙◌, false, rules}
+use Rattle.lists.proofs.Kit.{ap, ◌∙◌, false}
 use Rattle.lists.specs.Rounds.{rounds}
 use Rattle.visible_rows.specs.Visible.{step_row}
 use Rattle.visible_rows.proofs.Signed.{goes_down, counts_up, goes_up}

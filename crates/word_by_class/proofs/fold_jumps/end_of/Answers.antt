@@ -1,5 +1,5 @@
 -- `word_by_class::fold_jumps::end_of` meets its contract: from a row behind it by the row's first place. Assumes nothing.
-use Rattle.lists.proofs.Kit.{arith, rules}
+use Rattle.lists.proofs.Kit.{arith}
 use Rattle.word_class_rows.proofs.Counting.{start_stands}
 use Rattle.word_by_class.proofs.fold_jumps.end_of.Goals as goal
 

@@ -1,5 +1,5 @@
 -- `word_by_class::fold_jumps::jump_back` meets its contract, by the fold at the spot's row. Assumes nothing.
-use Rattle.lists.proofs.Kit.{ap, sym, ◌∙◌, rules}
+use Rattle.lists.proofs.Kit.{ap, sym, ◌∙◌}
 use Rattle.word_by_class.specs.Rounds.{to_first}
 use Rattle.word_by_class.proofs.Asks.{ready_row, span_at, span_rows}
 use Rattle.word_by_class.proofs.fold_jumps.jump_back.Goals as goal

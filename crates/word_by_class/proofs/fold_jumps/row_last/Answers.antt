@@ -1,5 +1,5 @@
 -- `word_by_class::fold_jumps::row_last` meets its contract: the end of a row that is not empty has a place before it. Assumes nothing.
-use Rattle.lists.proofs.Kit.{◌≡◌, true, false, arith, rules, eq-eqb, ne_eqb}
+use Rattle.lists.proofs.Kit.{◌≡◌, true, false, arith, eq-eqb, ne_eqb}
 use Rattle.word_places.specs.Places.{is_empty}
 use Rattle.word_class_rows.specs.Rows.{end_of}
 use Rattle.word_by_class.proofs.Asks.{last_there}

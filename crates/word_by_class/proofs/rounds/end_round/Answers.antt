@@ -1,5 +1,5 @@
 -- `word_by_class::rounds::end_round` meets its contract, held or not. Assumes nothing.
-use Rattle.lists.proofs.Kit.{sym, ◌∙◌, rules}
+use Rattle.lists.proofs.Kit.{sym, ◌∙◌}
 use Rattle.word_by_class.proofs.rounds.end_round.Goals as goal
 
 pub returns-then-at_end : goal.returns-then-at_end

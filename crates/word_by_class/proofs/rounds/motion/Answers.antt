@@ -1,5 +1,5 @@
 -- `word_by_class::rounds::motion` meets its contract: the first round, and the rest of the count from where it ended. Assumes nothing.
-use Rattle.lists.proofs.Kit.{ap, sym, ◌∙◌, false, arith, rules}
+use Rattle.lists.proofs.Kit.{ap, sym, ◌∙◌, false, arith}
 use Rattle.word_by_class.specs.Rounds.{round_of, counted}
 use Rattle.word_by_class.proofs.Counts.{motion_on, motion_off}
 use Rattle.word_by_class.proofs.Fits.{on_in}

@@ -1,7 +1,6 @@
 -- `word_by_class::rounds::round` meets its contract, motion by motion. Assumes nothing.
 use Rattle.word_by_class.specs.Rounds.{round_of}
 use Rattle.word_by_class.proofs.Fits.{fwd_in, back_in}
-use borrow.Author.Rules.{rules}
 use Rattle.word_by_class.proofs.rounds.round.Goals as goal
 
 pub prev_start-requires : goal.prev_start-requires

@@ -1,5 +1,5 @@
 -- `word_by_class::rounds::round_near` meets its contract: in the stretch a round without folds is the same. Assumes nothing.
-use Rattle.lists.proofs.Kit.{◌∙◌, false, rules}
+use Rattle.lists.proofs.Kit.{◌∙◌, false}
 use Rattle.word_by_class.proofs.Bare.{round_bare, ready_bare}
 use Rattle.word_by_class.proofs.rounds.round_near.Goals as goal
 

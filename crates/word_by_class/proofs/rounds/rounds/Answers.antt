@@ -1,8 +1,7 @@
 -- `word_by_class::rounds::rounds` meets its contract. The invariant of its loop: the rounds left from `cur` on come to where all of
 -- them come, and there is no closed fold at the rows of the stretch. The measure is how many are left. Assumes nothing.
-use Rattle.lists.proofs.Kit.{refl, sym, ◌∙◌, false, arith, rules}
-use Rattle.word_by_class.specs.Rounds.{round_of}
-use Rattle.word_by_class.proofs.Counting.{Counting, counting_none, counting_on, counting_still, counting_off}
+use Rattle.lists.proofs.Kit.{refl, sym, ◌∙◌, arith}
+use Rattle.word_by_class.proofs.Counting.{counting_none, counting_on, counting_still, counting_off}
 use Rattle.word_by_class.proofs.Fits.{on_in}
 use Rattle.word_by_class.proofs.rounds.rounds.Goals as goal
 

@@ -1,9 +1,8 @@
 -- `word_by_class::rounds::rounds` meets its contract. The invariant of its loop: the rounds left from `cur` on come to where all of
 -- them come, and there is no closed fold at the rows of the stretch. The measure is how many are left. Assumes nothing.
-use Rattle.lists.proofs.Kit.{refl, sym, ◌∙◌, false, arith, rules}
+use Rattle.lists.proofs.Kit.{false}
 use Rattle.word_by_class.specs.Rounds.{round_of}
-use Rattle.word_by_class.proofs.Counting.{Counting, counting_none, counting_on, counting_still, counting_off}
-use Rattle.word_by_class.proofs.Fits.{on_in}
+use Rattle.word_by_class.proofs.Counting.{Counting}
 use Rattle.word_by_class.proofs.rounds.rounds.Given as goal
 
 abbrev pub invariant-loop-left : goal.invariant-loop-left

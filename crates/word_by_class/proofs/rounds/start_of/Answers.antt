@@ -1,5 +1,5 @@
 -- `word_by_class::rounds::start_of` meets its contract: behind the end of the row before. Assumes nothing.
-use Rattle.lists.proofs.Kit.{ap, sym, ◌∙◌, ℕ, ◌+◌, ◌-◌, arith, rules}
+use Rattle.lists.proofs.Kit.{ap, sym, ◌∙◌, ℕ, ◌+◌, ◌-◌, arith}
 use Rattle.word_class_rows.proofs.Counting.{row_first, end_there, start_next}
 use Rattle.word_by_class.proofs.rounds.start_of.Goals as goal
 

@@ -1,4 +1,3 @@
-use borrow.Author.Rules.{rules}
 use Rattle.word_by_class.proofs.rounds.turned.Goals as goal
 
 pub returns-in-To : goal.returns-in-To

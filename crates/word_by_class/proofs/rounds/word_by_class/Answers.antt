@@ -1,6 +1,6 @@
 -- `word_by_class::rounds::word_by_class` meets its contract: the place of the row and the column, the motion, and the row and the column of its place.
 -- Assumes nothing.
-use Rattle.lists.proofs.Kit.{ap, ◌∙◌, ℕ, ◌+◌, arith, rules}
+use Rattle.lists.proofs.Kit.{ap, ◌∙◌, ℕ, ◌+◌, arith}
 use Rattle.word_class_rows.specs.Rows.{row_of, start_of}
 use Rattle.word_class_rows.proofs.Counting.{row_first}
 use Rattle.word_by_class.specs.Rounds.{motion}

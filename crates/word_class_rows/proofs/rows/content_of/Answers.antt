@@ -1,4 +1,4 @@
-use Rattle.lists.proofs.Kit.{ap, sym, ◌∙◌, ℕ, ◌-◌, rules}
+use Rattle.lists.proofs.Kit.{ap, sym, ◌∙◌, ℕ, ◌-◌}
 use Rattle.word_class_rows.proofs.rows.content_of.Goals as goal
 
 pub returns-then-last_empty : goal.returns-then-last_empty

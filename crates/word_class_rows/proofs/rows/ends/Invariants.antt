@@ -1,8 +1,6 @@
 -- `word_class_rows::rows::ends` meets its contract. The invariant of its loop: the ends from a up to i are counted. The measure is b less i.
 -- Assumes nothing.
-use Rattle.lists.proofs.Kit.{ap, sym, ◌∙◌, ◌-◌, arith, rules}
-use Rattle.word_class_rows.specs.Rows.{row_of}
-use Rattle.word_class_rows.proofs.Counting.{row_end_next, row_char_next}
+use Rattle.lists.proofs.Kit.{◌-◌}
 use Rattle.word_class_rows.proofs.Loops.{Counted}
 use Rattle.word_class_rows.proofs.rows.ends.Given as goal
 

@@ -1,5 +1,5 @@
 -- `word_class_rows::rows::moved` meets its contract: the row goes up or down by the ends between. Assumes nothing.
-use Rattle.lists.proofs.Kit.{arith, rules}
+use Rattle.lists.proofs.Kit.{arith}
 use Rattle.word_class_rows.proofs.Counting.{row_below}
 use Rattle.word_class_rows.proofs.rows.moved.Goals as goal
 

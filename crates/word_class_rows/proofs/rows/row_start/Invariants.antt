@@ -1,7 +1,6 @@
 -- `word_class_rows::rows::row_start` meets its contract. The invariant of its loop: r is the row of i, and not before the row sought. The measure is i.
 -- Assumes nothing.
-use Rattle.lists.proofs.Kit.{sym, ◌∙◌, arith, rules}
-use Rattle.word_class_rows.proofs.Loops.{Behind, behind_row, behind_char, behind_start, behind_first}
+use Rattle.word_class_rows.proofs.Loops.{Behind}
 use Rattle.word_class_rows.proofs.rows.row_start.Given as goal
 
 abbrev pub invariant-loop-i : goal.invariant-loop-i

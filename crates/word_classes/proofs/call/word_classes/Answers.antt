@@ -1,5 +1,5 @@
 -- `word_classes::call::word_classes` meets its contract: each refusal in its turn, and else the classes are written. Assumes nothing.
-use Rattle.lists.proofs.Kit.{ap, sym, ◌∙◌, List, rules}
+use Rattle.lists.proofs.Kit.{ap, sym, ◌∙◌, List}
 use Rattle.list_tokens.specs.declared.Token.{Token}
 use Rattle.list_tokens.specs.Tokens.{any_token}
 use Rattle.keywords.specs.declared.Parsed.{Parsed}
@@ -52,5 +52,8 @@ returns c =
     let places_refusal_is = c.places_refusal-g.ensures ∙ by_places given.t.now given.list.now given.classes.now
     (sym c.text_refusal-f.ensures ∙ c.if-f-ne0.false) (sym same_refusal ∙ c.if-p-ne0.false) in
     let kept_is = parse_kept given.list.now c.parse-p.result c.parse-p.ensures c.if-p-ne0.false in
-    record { answer = count_made places_refusal_is _ c.if-g-ne0.false; left = slice_written places_refusal_is given.t.now given.list.now given.classes.now _ c.if-g-ne0.false
-          (c.write_classes.ensures ∙ ap (λ (ts : List Token). holding (classes_of (any_token ts) given.t.now) given.classes.now) kept_is) }
+    record {
+      answer = count_made places_refusal_is _ c.if-g-ne0.false;
+      left = slice_written places_refusal_is given.t.now given.list.now given.classes.now _ c.if-g-ne0.false
+          (c.write_classes.ensures ∙ ap (λ (ts : List Token). holding (classes_of (any_token ts) given.t.now) given.classes.now) kept_is);
+    }

@@ -1,5 +1,5 @@
 -- `word_classes::classes::char_class` meets its contract: the tests stand in the definition's order. Assumes nothing.
-use Rattle.lists.proofs.Kit.{sym, ◌∙◌, rules}
+use Rattle.lists.proofs.Kit.{sym, ◌∙◌}
 use Rattle.word_classes.specs.Classes.{char_class}
 use Rattle.word_classes.proofs.classes.char_class.Goals as goal
 

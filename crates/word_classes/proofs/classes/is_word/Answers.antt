@@ -1,5 +1,5 @@
 -- `word_classes::classes::is_word` meets its contract: a scalar value and a table of at most 128 tokens are not refused. Assumes nothing.
-use Rattle.lists.proofs.Kit.{◌≡◌, sym, ◌∙◌, ℕ, arith, rules, le-leb}
+use Rattle.lists.proofs.Kit.{◌≡◌, sym, ◌∙◌, ℕ, arith, le-leb}
 use Rattle.list_tokens.specs.Tokens.{any_token}
 use Rattle.keywords.specs.declared.KeywordSpec.{KeywordSpec}
 use Rattle.keywords.specs.declared.Matched.TheVariants.{Is}

@@ -1,9 +1,7 @@
 -- `word_classes::classes::write_classes` meets its contract. The invariant of its loop: the places before i are written. The measure is the text's
 -- length less i. Assumes nothing.
-use Rattle.lists.proofs.Kit.{◌-◌, arith, length, rules}
-use Rattle.list_tokens.specs.Tokens.{any_token}
-use Rattle.keywords.specs.Table.{kept}
-use Rattle.word_classes.proofs.Writing.{Writing, writing_start, writing_end, writing_char, written, scalar_there}
+use Rattle.lists.proofs.Kit.{◌-◌, arith}
+use Rattle.word_classes.proofs.Writing.{writing_start, writing_end, writing_char, written, scalar_there}
 use Rattle.word_classes.proofs.classes.write_classes.Goals as goal
 
 pub loop-i-init : goal.loop-i-init

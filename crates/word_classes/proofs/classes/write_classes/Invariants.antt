@@ -1,9 +1,9 @@
 -- `word_classes::classes::write_classes` meets its contract. The invariant of its loop: the places before i are written. The measure is the text's
 -- length less i. Assumes nothing.
-use Rattle.lists.proofs.Kit.{◌-◌, arith, length, rules}
+use Rattle.lists.proofs.Kit.{◌-◌, length}
 use Rattle.list_tokens.specs.Tokens.{any_token}
 use Rattle.keywords.specs.Table.{kept}
-use Rattle.word_classes.proofs.Writing.{Writing, writing_start, writing_end, writing_char, written, scalar_there}
+use Rattle.word_classes.proofs.Writing.{Writing}
 use Rattle.word_classes.proofs.classes.write_classes.Given as goal
 
 abbrev pub invariant-loop-i : goal.invariant-loop-i

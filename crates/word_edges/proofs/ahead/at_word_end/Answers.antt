@@ -1,5 +1,5 @@
 -- `word_edges::ahead::at_word_end` meets its contract: a place with a class is on a character, so that the next place is in its row. Assumes nothing.
-use Rattle.lists.proofs.Kit.{◌∙◌, rules, eq-eqb, ne_eqb}
+use Rattle.lists.proofs.Kit.{◌∙◌, eq-eqb, ne_eqb}
 use Rattle.word_edges.specs.Words.{at_word_end}
 use Rattle.word_kinds.proofs.Ahead.{class_there, char_spot, char_col_lem}
 use Rattle.word_edges.proofs.ahead.at_word_end.Goals as goal

@@ -1,4 +1,4 @@
-use Rattle.lists.proofs.Kit.{rules, not-true, not-false}
+use Rattle.lists.proofs.Kit.{not-true, not-false}
 use Rattle.word_kinds.proofs.Telling.{tells_as, tells_too}
 use Rattle.word_edges.proofs.Starts.{ready_at}
 use Rattle.word_edges.proofs.ahead.from_end.Goals as goal

@@ -1,7 +1,6 @@
 use Rattle.word_edges.specs.Words.{next_word_end}
 use Rattle.word_kinds.proofs.Telling.{tells_as, tells_too}
 use Rattle.word_edges.proofs.Starts.{ready_at}
-use borrow.Author.Rules.{rules}
 use Rattle.word_edges.proofs.ahead.next_word_end.Goals as goal
 
 pub run_from-requires : goal.run_from-requires

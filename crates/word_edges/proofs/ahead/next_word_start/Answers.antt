@@ -1,5 +1,5 @@
 -- `word_edges::ahead::next_word_start` meets its contract: off the row's end, or off the word, and then over white space. Assumes nothing.
-use Rattle.lists.proofs.Kit.{rules, eq-eqb, ne_eqb}
+use Rattle.lists.proofs.Kit.{eq-eqb, ne_eqb}
 use Rattle.word_edges.specs.Words.{next_word_start}
 use Rattle.word_kinds.proofs.Telling.{tells_as, tells_too, lands_reaches}
 use Rattle.word_edges.proofs.Starts.{ready_at}

@@ -1,5 +1,4 @@
 use Rattle.word_kinds.proofs.Telling.{tells_as, tells_too, lands_reaches}
-use borrow.Author.Rules.{rules}
 use Rattle.word_edges.proofs.ahead.over_space.Goals as goal
 
 pub returns-in-Onto : goal.returns-in-Onto

@@ -1,5 +1,4 @@
 use Rattle.word_kinds.proofs.Telling.{tells_as}
-use borrow.Author.Rules.{rules}
 use Rattle.word_edges.proofs.ahead.run_end.Goals as goal
 
 pub returns-in-Onto : goal.returns-in-Onto

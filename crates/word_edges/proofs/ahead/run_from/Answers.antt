@@ -1,6 +1,5 @@
 use Rattle.word_kinds.proofs.Telling.{tells_as, tells_too}
 use Rattle.word_edges.proofs.Starts.{ready_at}
-use borrow.Author.Rules.{rules}
 use Rattle.word_edges.proofs.ahead.run_from.Goals as goal
 
 pub run_end-requires : goal.run_end-requires

@@ -1,6 +1,5 @@
 -- `word_edges::behind::back_over_space` meets its contract: where the walk ended. Assumes nothing.
 use Rattle.word_kinds.proofs.Telling.{tells_as}
-use borrow.Author.Rules.{rules}
 use Rattle.word_edges.proofs.behind.back_over_space.Goals as goal
 
 pub returns-in-Onto : goal.returns-in-Onto

@@ -1,6 +1,5 @@
 use Rattle.word_kinds.proofs.Telling.{tells_as, tells_too}
 use Rattle.word_edges.proofs.Starts.{ready_at}
-use borrow.Author.Rules.{rules}
 use Rattle.word_edges.proofs.behind.end_from.Goals as goal
 
 pub back_over_space-requires : goal.back_over_space-requires

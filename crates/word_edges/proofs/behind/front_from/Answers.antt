@@ -1,5 +1,5 @@
 -- `word_edges::behind::front_from` meets its contract: an empty row is a word of its own. Assumes nothing.
-use Rattle.lists.proofs.Kit.{sym, ◌∙◌, rules}
+use Rattle.lists.proofs.Kit.{sym, ◌∙◌}
 use Rattle.word_kinds.proofs.Telling.{tells_as, tells_too}
 use Rattle.word_edges.proofs.Starts.{ready_at}
 use Rattle.word_edges.proofs.behind.front_from.Goals as goal

@@ -1,6 +1,5 @@
 -- `word_edges::behind::front_of_lem` meets its contract: back over the class, and one on. Assumes nothing.
 use Rattle.word_kinds.proofs.Telling.{tells_as}
-use borrow.Author.Rules.{rules}
 use Rattle.word_edges.proofs.behind.front_of.Goals as goal
 
 pub inc-requires : goal.inc-requires

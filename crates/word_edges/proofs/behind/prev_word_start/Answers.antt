@@ -1,7 +1,6 @@
 use Rattle.word_edges.specs.Words.{prev_word_start}
 use Rattle.word_kinds.proofs.Telling.{tells_as, tells_too}
 use Rattle.word_edges.proofs.Starts.{ready_at}
-use borrow.Author.Rules.{rules}
 use Rattle.word_edges.proofs.behind.prev_word_start.Goals as goal
 
 pub front_from-requires : goal.front_from-requires

@@ -1,5 +1,5 @@
 -- `word_hops::back::back_from` meets its contract, by where the walk ended. Assumes nothing.
-use Rattle.lists.proofs.Kit.{ap, sym, ◌∙◌, rules}
+use Rattle.lists.proofs.Kit.{ap, sym, ◌∙◌}
 use Rattle.word_hops.specs.Hops.{back_from}
 use Rattle.word_hops.proofs.back.back_from.Goals as goal
 

@@ -1,5 +1,5 @@
 -- `word_hops::back::back_over_space` meets its contract, by where the walk ended. Assumes nothing.
-use Rattle.lists.proofs.Kit.{ap, sym, ◌∙◌, rules}
+use Rattle.lists.proofs.Kit.{ap, sym, ◌∙◌}
 use Rattle.word_hops.specs.Hops.{landed}
 use Rattle.word_hops.proofs.back.back_over_space.Goals as goal
 

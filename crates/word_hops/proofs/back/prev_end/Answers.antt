@@ -1,5 +1,5 @@
 -- `word_hops::back::prev_end` meets its contract, in the order of its tests. Assumes nothing.
-use Rattle.lists.proofs.Kit.{rules, eq-eqb, ne_eqb}
+use Rattle.lists.proofs.Kit.{eq-eqb, ne_eqb}
 use Rattle.word_places.proofs.Walking.{backward_none, backward_on}
 use Rattle.word_hops.specs.Hops.{prev_end}
 use Rattle.word_hops.proofs.back.prev_end.Goals as goal

@@ -1,6 +1,5 @@
 use Rattle.word_places.proofs.Walking.{backward_none, backward_on}
 use Rattle.word_hops.specs.Hops.{prev_start}
-use borrow.Author.Rules.{rules}
 use Rattle.word_hops.proofs.back.prev_start.Goals as goal
 
 pub returns-then-i-eq0 : goal.returns-then-i-eq0

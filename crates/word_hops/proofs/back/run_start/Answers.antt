@@ -1,5 +1,5 @@
 -- `word_hops::back::run_start` meets its contract: a walk back ends at or before its start. Assumes nothing.
-use Rattle.lists.proofs.Kit.{ap, sym, ◌∙◌, arith, rules}
+use Rattle.lists.proofs.Kit.{ap, sym, ◌∙◌, arith}
 use Rattle.word_hops.specs.Hops.{behind}
 use Rattle.word_hops.proofs.Hopping.{back_below, onto_below}
 use Rattle.word_hops.proofs.back.run_start.Goals as goal

@@ -1,5 +1,5 @@
 -- `word_hops::back::start_from` meets its contract, by where the walk ended. Assumes nothing.
-use Rattle.lists.proofs.Kit.{◌≡◌, ap, sym, ◌∙◌, true, false, arith, rules, eq-eqb, ne_eqb}
+use Rattle.lists.proofs.Kit.{◌≡◌, ap, sym, ◌∙◌, true, false, arith, eq-eqb, ne_eqb}
 use Rattle.word_places.specs.declared.Step.TheVariants.{To}
 use Rattle.word_places.specs.Places.{is_empty}
 use Rattle.word_hops.proofs.Hopping.{back_below, onto_below}

@@ -1,5 +1,5 @@
 -- `word_hops::on::at_end` meets its contract, in the order of its tests. Assumes nothing.
-use Rattle.lists.proofs.Kit.{rules, eq-eqb, ne_eqb}
+use Rattle.lists.proofs.Kit.{eq-eqb, ne_eqb}
 use Rattle.word_hops.specs.Hops.{at_end}
 use Rattle.word_hops.proofs.on.at_end.Goals as goal
 

@@ -1,5 +1,5 @@
 -- `word_hops::on::content_end` meets its contract: the row before an empty last one ends one place before it. Assumes nothing.
-use Rattle.lists.proofs.Kit.{sym, ◌∙◌, arith, rules}
+use Rattle.lists.proofs.Kit.{sym, ◌∙◌, arith}
 use Rattle.word_hops.specs.Hops.{content_end}
 use Rattle.word_hops.proofs.Hopping.{last_there}
 use Rattle.word_hops.proofs.on.content_end.Goals as goal

@@ -1,5 +1,5 @@
 -- `word_hops::on::end_from` meets its contract, by where the walk ended. Assumes nothing.
-use Rattle.lists.proofs.Kit.{ap, sym, ◌∙◌, rules}
+use Rattle.lists.proofs.Kit.{ap, sym, ◌∙◌}
 use Rattle.word_places.specs.declared.Step.TheVariants.{To}
 use Rattle.word_hops.specs.Hops.{end_from}
 use Rattle.word_hops.proofs.on.end_from.Goals as goal

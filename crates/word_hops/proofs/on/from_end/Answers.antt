@@ -1,5 +1,5 @@
 -- `word_hops::on::from_end_lem` meets its contract: small words go on at once, big ones over the row ends first. Assumes nothing.
-use Rattle.lists.proofs.Kit.{ap, sym, ◌∙◌, rules, not-true, not-false}
+use Rattle.lists.proofs.Kit.{ap, sym, ◌∙◌}
 use Rattle.word_hops.specs.Hops.{then_space}
 use Rattle.word_hops.proofs.Hopping.{from_small, from_big}
 use Rattle.word_hops.proofs.on.from_end.Goals as goal

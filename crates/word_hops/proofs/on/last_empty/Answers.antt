@@ -1,4 +1,4 @@
-use Rattle.lists.proofs.Kit.{arith, rules, lt-ltb, le-ltb}
+use Rattle.lists.proofs.Kit.{arith, lt-ltb, le-ltb}
 use Rattle.word_hops.proofs.on.last_empty.Goals as goal
 
 pub returns-then-end-eq0 : goal.returns-then-end-eq0

@@ -1,4 +1,4 @@
-use Rattle.lists.proofs.Kit.{sym, ◌∙◌, rules}
+use Rattle.lists.proofs.Kit.{sym, ◌∙◌}
 use Rattle.word_hops.specs.Hops.{next_end}
 use Rattle.word_hops.proofs.on.next_end.Goals as goal
 

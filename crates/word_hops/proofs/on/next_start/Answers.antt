@@ -1,5 +1,5 @@
 -- `word_hops::on::next_start_lem` meets its contract, from a row's end and from a character. Assumes nothing.
-use Rattle.lists.proofs.Kit.{ap, sym, ◌∙◌, rules}
+use Rattle.lists.proofs.Kit.{ap, sym, ◌∙◌}
 use Rattle.word_places.specs.declared.Step.TheVariants.{To}
 use Rattle.word_hops.specs.Hops.{next_start}
 use Rattle.word_hops.proofs.on.next_start.Goals as goal

@@ -1,5 +1,5 @@
 -- `word_hops::on::over_space` meets its contract, by where the walk ended. Assumes nothing.
-use Rattle.lists.proofs.Kit.{ap, sym, ◌∙◌, rules}
+use Rattle.lists.proofs.Kit.{ap, sym, ◌∙◌}
 use Rattle.word_places.specs.declared.Step.TheVariants.{To}
 use Rattle.word_hops.specs.Hops.{or_end}
 use Rattle.word_hops.proofs.on.over_space.Goals as goal

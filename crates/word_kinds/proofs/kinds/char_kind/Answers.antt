@@ -1,5 +1,5 @@
 -- `word_kinds::kinds::char_kind` meets its contract: the tests stand in the definition's order. Assumes nothing.
-use Rattle.lists.proofs.Kit.{sym, ◌∙◌, rules}
+use Rattle.lists.proofs.Kit.{sym, ◌∙◌}
 use Rattle.word_kinds.specs.Places.{kind_of}
 use Rattle.word_kinds.proofs.kinds.char_kind.Goals as goal
 

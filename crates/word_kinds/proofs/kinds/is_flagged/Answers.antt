@@ -1,5 +1,5 @@
 -- `word_kinds::kinds::is_flagged` meets its contract: the flag of a code up to 255, and above it the letters, where they count. Assumes nothing.
-use Rattle.lists.proofs.Kit.{rules, not-true, not-false, lt-ltb, le-ltb, le-leb}
+use Rattle.lists.proofs.Kit.{not-true, not-false, lt-ltb, le-ltb, le-leb}
 use Rattle.word_kinds.specs.Lent.{flagged}
 use Rattle.word_kinds.proofs.kinds.is_flagged.Goals as goal
 

@@ -1,5 +1,5 @@
 -- `word_kinds::kinds::is_word` meets its contract: by flags, or else the letters first, where they count, and then the bounds. Assumes nothing.
-use Rattle.lists.proofs.Kit.{sym, ◌∙◌, rules, not-true, not-false, le-leb}
+use Rattle.lists.proofs.Kit.{sym, ◌∙◌, not-true, not-false, le-leb}
 use Rattle.word_kinds.proofs.kinds.is_word.Goals as goal
 
 pub returns-then-s : goal.returns-then-s

@@ -1,4 +1,4 @@
-use Rattle.lists.proofs.Kit.{sym, ◌∙◌, rules, ne_eqb}
+use Rattle.lists.proofs.Kit.{sym, ◌∙◌, ne_eqb}
 use Rattle.word_kinds.proofs.near.cls.Goals as goal
 
 pub returns-then-k-eq-END : goal.returns-then-k-eq-END

@@ -1,5 +1,5 @@
 -- `word_kinds::near::dec` meets its contract, by the code point before the place. Assumes nothing.
-use Rattle.lists.proofs.Kit.{arith, rules}
+use Rattle.lists.proofs.Kit.{arith}
 use Rattle.word_kinds.proofs.Back.{back_none, back_below, back_row, back_char}
 use Rattle.word_kinds.proofs.Telling.{steps_to, steps_nowhere}
 use Rattle.word_kinds.proofs.near.dec.Goals as goal

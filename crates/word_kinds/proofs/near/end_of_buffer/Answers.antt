@@ -1,5 +1,5 @@
 -- `word_kinds::near::end_of_buffer` meets its contract, by the last code point. Assumes nothing.
-use Rattle.lists.proofs.Kit.{arith, rules}
+use Rattle.lists.proofs.Kit.{arith}
 use Rattle.text.proofs.Content.{content_near}
 use Rattle.word_kinds.proofs.Back.{end_nl, end_char}
 use Rattle.word_kinds.proofs.near.end_of_buffer.Goals as goal

@@ -1,5 +1,5 @@
 -- `word_kinds::near::inc` meets its contract, by the code point at the place. Assumes nothing.
-use Rattle.lists.proofs.Kit.{arith, rules}
+use Rattle.lists.proofs.Kit.{arith}
 use Rattle.word_kinds.proofs.Ahead.{end_inc, nl_inc, char_inc}
 use Rattle.word_kinds.proofs.Telling.{tells_too, steps_to, steps_nowhere}
 use Rattle.word_kinds.proofs.near.inc.Goals as goal

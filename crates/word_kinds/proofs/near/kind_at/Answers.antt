@@ -1,5 +1,5 @@
 -- `word_kinds::near::kind_at` meets its contract: at the end of the text, on a separator, on a character. Assumes nothing.
-use Rattle.lists.proofs.Kit.{◌∙◌, arith, rules}
+use Rattle.lists.proofs.Kit.{◌∙◌, arith}
 use Rattle.word_kinds.specs.Lent.{is_high}
 use Rattle.lists.proofs.Any.{any_there}
 use Rattle.word_kinds.proofs.Ahead.{end_kind, nl_kind, char_kind}

@@ -1,5 +1,5 @@
 -- `word_kinds::near::on_empty_row` meets its contract: the place is the first of its row, and then its last too. Assumes nothing.
-use Rattle.lists.proofs.Kit.{refl, sym, ◌∙◌, arith, rules, not-true, not-false, eqb-true}
+use Rattle.lists.proofs.Kit.{refl, sym, ◌∙◌, arith, eqb-true}
 use Rattle.word_kinds.specs.Places.{on_empty_row}
 use Rattle.word_kinds.proofs.Ahead.{end_empty, empty_row}
 use Rattle.word_kinds.proofs.near.on_empty_row.Goals as goal

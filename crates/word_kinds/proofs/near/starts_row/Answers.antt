@@ -1,5 +1,5 @@
 -- `word_kinds::near::starts_row` meets its contract, by the code point before the place. Assumes nothing.
-use Rattle.lists.proofs.Kit.{refl, arith, rules}
+use Rattle.lists.proofs.Kit.{refl, arith}
 use Rattle.word_kinds.proofs.Back.{starts_first, starts_by}
 use Rattle.word_kinds.proofs.near.starts_row.Goals as goal
 

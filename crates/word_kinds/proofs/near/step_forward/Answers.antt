@@ -1,5 +1,5 @@
 -- `word_kinds::near::step_forward` meets its contract, by the code point at the place and the one after it. Assumes nothing.
-use Rattle.lists.proofs.Kit.{arith, rules}
+use Rattle.lists.proofs.Kit.{arith}
 use Rattle.word_kinds.proofs.Ahead.{end_forward, nl_forward, last_forward, row_forward, char_forward, char_spot}
 use Rattle.word_kinds.proofs.Telling.{tells_too, steps_to, steps_nowhere, steps_low}
 use Rattle.word_kinds.proofs.near.step_forward.Goals as goal

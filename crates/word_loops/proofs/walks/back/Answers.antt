@@ -1,10 +1,6 @@
 -- `word_loops::walks::back` meets its contract. The invariant of its loop: the walk stands at `cur`, with turns enough for the places before it.
 -- The measure is the offset. Assumes nothing.
-use Rattle.lists.proofs.Kit.{rules, not-true, not-false}
-use Rattle.word_kinds.specs.Places.{dec}
-use Rattle.word_kinds.specs.Lent.{kind_by}
-use Rattle.word_loops.specs.Walks.{of_class}
-use Rattle.word_loops.proofs.Walking.{Walking, walking_start, walking_on, walking_off, walking_stuck, less_behind}
+use Rattle.word_loops.proofs.Walking.{walking_start, walking_on, walking_off, walking_stuck, less_behind}
 use Rattle.word_loops.proofs.walks.back.Goals as goal
 
 pub loop-s-init : goal.loop-s-init

@@ -1,10 +1,10 @@
 -- `word_loops::walks::leave` meets its contract. The invariant of its loop: the walk stands at `cur`, with turns enough for the places ahead.
 -- The measure is the text's length less the offset. Assumes nothing.
-use Rattle.lists.proofs.Kit.{◌-◌, arith, length, rules, not-true, not-false}
+use Rattle.lists.proofs.Kit.{◌-◌, length}
 use Rattle.word_kinds.specs.Places.{step_forward}
 use Rattle.word_kinds.specs.Lent.{kind_by}
 use Rattle.word_loops.specs.Walks.{in_row}
-use Rattle.word_loops.proofs.Walking.{Walking, walking_start, walking_on, walking_off, walking_stuck, less_ahead}
+use Rattle.word_loops.proofs.Walking.{Walking}
 use Rattle.word_loops.proofs.walks.leave.Given as goal
 
 abbrev pub invariant-loop-cur : goal.invariant-loop-cur

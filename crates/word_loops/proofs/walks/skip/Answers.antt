@@ -1,10 +1,7 @@
 -- `word_loops::walks::skip` meets its contract. The invariant of its loop: the walk stands at `cur`, with turns enough for the places ahead.
 -- The measure is the text's length less the offset. Assumes nothing.
-use Rattle.lists.proofs.Kit.{◌-◌, arith, length, rules, not-true, not-false}
-use Rattle.word_kinds.specs.Places.{step_forward}
-use Rattle.word_kinds.specs.Lent.{kind_by}
-use Rattle.word_loops.specs.Walks.{of_kinds}
-use Rattle.word_loops.proofs.Walking.{Walking, walking_start, walking_on, walking_off, walking_stuck, less_ahead}
+use Rattle.lists.proofs.Kit.{◌-◌, arith}
+use Rattle.word_loops.proofs.Walking.{walking_start, walking_on, walking_off, walking_stuck, less_ahead}
 use Rattle.word_loops.proofs.walks.skip.Goals as goal
 
 pub loop-s-init : goal.loop-s-init

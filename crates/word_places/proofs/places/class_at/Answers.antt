@@ -1,5 +1,5 @@
 -- `word_places::places::class_at` meets its contract: within the slice it does not matter what is read behind it. Assumes nothing.
-use Rattle.lists.proofs.Kit.{sym, arith, get_or-eq_default, rules}
+use Rattle.lists.proofs.Kit.{sym, arith, get_or-eq_default}
 use Rattle.word_places.proofs.Walking.{read_any}
 use Rattle.word_places.proofs.places.class_at.Goals as goal
 

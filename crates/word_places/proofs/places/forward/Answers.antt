@@ -1,5 +1,5 @@
 -- `word_places::places::forward` meets its contract, by whether the step goes over a row's end. Assumes nothing.
-use Rattle.lists.proofs.Kit.{sym, ◌∙◌, arith, rules}
+use Rattle.lists.proofs.Kit.{sym, ◌∙◌, arith}
 use Rattle.word_places.proofs.Walking.{forward_none, forward_over, forward_next}
 use Rattle.word_places.proofs.places.forward.Goals as goal
 

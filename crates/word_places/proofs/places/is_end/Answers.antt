@@ -1,4 +1,4 @@
-use Rattle.lists.proofs.Kit.{ap, leb, rules}
+use Rattle.lists.proofs.Kit.{ap, leb}
 use Rattle.word_places.proofs.places.is_end.Goals as goal
 
 pub returns : goal.returns

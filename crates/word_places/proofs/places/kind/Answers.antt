@@ -1,5 +1,5 @@
 -- `word_places::places::kind` meets its contract: the tests stand in the definition's order. Assumes nothing.
-use Rattle.lists.proofs.Kit.{rules, eq-eqb, ne_eqb}
+use Rattle.lists.proofs.Kit.{eq-eqb, ne_eqb}
 use Rattle.word_places.specs.Places.{kind_for}
 use Rattle.word_places.proofs.places.kind.Goals as goal
 

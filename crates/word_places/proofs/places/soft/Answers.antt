@@ -1,4 +1,4 @@
-use Rattle.lists.proofs.Kit.{rules, eq-eqb, ne_eqb}
+use Rattle.lists.proofs.Kit.{eq-eqb, ne_eqb}
 use Rattle.word_places.proofs.places.soft.Goals as goal
 
 pub returns-then-k-eq-ROW_END : goal.returns-then-k-eq-ROW_END

@@ -1,8 +1,7 @@
 -- `word_places::walks::back` meets its contract. The invariant of its loop: the walk stands at `cur`, with turns enough for the places behind.
 -- The measure is the place. Assumes nothing.
-use Rattle.lists.proofs.Kit.{sym, ◌&&◌, not, ◌+◌, arith, eqb, rules, not-true, not-false}
-use Rattle.word_places.specs.Places.{is_empty, soft, backward}
-use Rattle.word_places.proofs.Walking.{Walking, walking_start, walking_on, walking_off, walking_stuck, backward_none, backward_on}
+use Rattle.lists.proofs.Kit.{sym, arith}
+use Rattle.word_places.proofs.Walking.{walking_start, walking_on, walking_off, walking_stuck, backward_none, backward_on}
 use Rattle.word_places.proofs.walks.back.Goals as goal
 
 pub loop-big-init : goal.loop-big-init

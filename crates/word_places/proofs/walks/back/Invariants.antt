@@ -1,8 +1,8 @@
 -- `word_places::walks::back` meets its contract. The invariant of its loop: the walk stands at `cur`, with turns enough for the places behind.
 -- The measure is the place. Assumes nothing.
-use Rattle.lists.proofs.Kit.{sym, ◌&&◌, not, ◌+◌, arith, eqb, rules, not-true, not-false}
+use Rattle.lists.proofs.Kit.{◌&&◌, not, ◌+◌, eqb}
 use Rattle.word_places.specs.Places.{is_empty, soft, backward}
-use Rattle.word_places.proofs.Walking.{Walking, walking_start, walking_on, walking_off, walking_stuck, backward_none, backward_on}
+use Rattle.word_places.proofs.Walking.{Walking}
 use Rattle.word_places.proofs.walks.back.Given as goal
 
 abbrev pub invariant-loop-big : goal.invariant-loop-big

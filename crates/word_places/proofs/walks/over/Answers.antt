@@ -1,8 +1,7 @@
 -- `word_places::walks::over` meets its contract. The invariant of its loop: the walk stands at `cur`, with turns enough for the places ahead.
 -- The measure is the length of the slice less the place. Assumes nothing.
-use Rattle.lists.proofs.Kit.{sym, ◌∙◌, ◌||◌, ◌+◌, ◌-◌, arith, length, eqb, rules, not-true, not-false}
-use Rattle.word_places.specs.Places.{kind, forward}
-use Rattle.word_places.proofs.Walking.{Walking, walking_start, walking_on, walking_off, walking_stuck, forward_on}
+use Rattle.lists.proofs.Kit.{sym, ◌∙◌, ◌-◌, arith}
+use Rattle.word_places.proofs.Walking.{walking_start, walking_on, walking_off, walking_stuck, forward_on}
 use Rattle.word_places.proofs.walks.over.Goals as goal
 
 pub loop-big-init : goal.loop-big-init

@@ -1,8 +1,8 @@
 -- `word_places::walks::over` meets its contract. The invariant of its loop: the walk stands at `cur`, with turns enough for the places ahead.
 -- The measure is the length of the slice less the place. Assumes nothing.
-use Rattle.lists.proofs.Kit.{sym, ◌∙◌, ◌||◌, ◌+◌, ◌-◌, arith, length, eqb, rules, not-true, not-false}
+use Rattle.lists.proofs.Kit.{◌||◌, ◌+◌, ◌-◌, length, eqb}
 use Rattle.word_places.specs.Places.{kind, forward}
-use Rattle.word_places.proofs.Walking.{Walking, walking_start, walking_on, walking_off, walking_stuck, forward_on}
+use Rattle.word_places.proofs.Walking.{Walking}
 use Rattle.word_places.proofs.walks.over.Given as goal
 
 abbrev pub invariant-loop-big : goal.invariant-loop-big

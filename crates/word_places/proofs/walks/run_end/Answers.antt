@@ -1,10 +1,8 @@
 -- `word_places::walks::run_end` meets its contract. The invariant of its loop: the walk stands at `cur`, with turns enough for the places ahead.
 -- The measure is the length of the slice less the place. Assumes nothing.
-use Rattle.lists.proofs.Kit.{refl, ap, sym, ◌+◌, ◌-◌, arith, length, rules, eq-eqb, ne_eqb, lt-ltb, le-ltb}
-use Rattle.word_places.specs.declared.Step.TheVariants.{To}
-use Rattle.word_places.specs.Places.{kind}
-use Rattle.word_places.specs.Walks.{runs, place}
-use Rattle.word_places.proofs.Walking.{Walking, walking_start, walking_on, walking_off}
+use Rattle.lists.proofs.Kit.{refl, ap, sym, ◌-◌, arith, eq-eqb, ne_eqb, lt-ltb, le-ltb}
+use Rattle.word_places.specs.Walks.{place}
+use Rattle.word_places.proofs.Walking.{walking_start, walking_on, walking_off}
 use Rattle.word_places.proofs.walks.run_end.Goals as goal
 
 pub loop-cur-init : goal.loop-cur-init

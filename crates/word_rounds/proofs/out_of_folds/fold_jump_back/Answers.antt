@@ -3,7 +3,6 @@ use Rattle.word_rounds.specs.Rounds.{to_first}
 use Rattle.word_kinds.specs.Spots.{place_of}
 use Rattle.word_kinds.proofs.Telling.{lands_here}
 use Rattle.word_rounds.proofs.Folding.{fold_asked, span_rows, jump_lands}
-use borrow.Author.Rules.{rules}
 use Rattle.word_rounds.proofs.out_of_folds.fold_jump_back.Goals as goal
 
 pub row_first-requires : goal.row_first-requires

@@ -1,4 +1,4 @@
-use Rattle.lists.proofs.Kit.{arith, rules}
+use Rattle.lists.proofs.Kit.{arith}
 use Rattle.word_rounds.proofs.Folding.{row_place}
 use Rattle.word_rounds.proofs.out_of_folds.row_first.Goals as goal
 

@@ -1,4 +1,4 @@
-use Rattle.lists.proofs.Kit.{◌-◌, arith, rules}
+use Rattle.lists.proofs.Kit.{◌-◌, arith}
 use Rattle.text.specs.Text.{row_len}
 use Rattle.text.proofs.Stands.{line_there}
 use Rattle.word_rounds.proofs.Folding.{row_place, line_length, line_fits}

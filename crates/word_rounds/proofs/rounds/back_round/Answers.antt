@@ -2,7 +2,6 @@ use Rattle.word_edges.specs.Words.{prev_word_start}
 use Rattle.word_rounds.specs.Rounds.{round_of}
 use Rattle.word_kinds.specs.Lent.{kind_by}
 use Rattle.word_rounds.proofs.Turning.{round_from_lem, set_ready}
-use borrow.Author.Rules.{rules}
 use Rattle.word_rounds.proofs.rounds.back_round.Goals as goal
 
 pub prev_word_start-prev-requires : goal.prev_word_start-prev-requires

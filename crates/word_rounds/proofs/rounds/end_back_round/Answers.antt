@@ -3,7 +3,6 @@ use Rattle.word_rounds.specs.Rounds.{round_of}
 use Rattle.word_kinds.specs.Lent.{kind_by}
 use Rattle.word_kinds.proofs.Telling.{lands_here}
 use Rattle.word_rounds.proofs.Turning.{round_from_lem, set_ready}
-use borrow.Author.Rules.{rules}
 use Rattle.word_rounds.proofs.rounds.end_back_round.Goals as goal
 
 pub prev_word_end-end-requires : goal.prev_word_end-end-requires

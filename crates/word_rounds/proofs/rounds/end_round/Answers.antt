@@ -1,5 +1,5 @@
 -- `word_rounds::rounds::end_round` meets its contract: held at the end of a word, or on to the next end. Assumes nothing.
-use Rattle.lists.proofs.Kit.{sym, ◌∙◌, rules}
+use Rattle.lists.proofs.Kit.{sym, ◌∙◌}
 use Rattle.word_rounds.specs.Rounds.{round_of}
 use Rattle.word_kinds.specs.Lent.{kind_by}
 use Rattle.word_rounds.proofs.Turning.{end_held, end_moved, set_ready}

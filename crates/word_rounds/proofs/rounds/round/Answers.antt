@@ -1,6 +1,5 @@
 -- `word_rounds::rounds::round` meets its contract, motion by motion. Assumes nothing.
 use Rattle.word_rounds.specs.Rounds.{round_of}
-use borrow.Author.Rules.{rules}
 use Rattle.word_rounds.proofs.rounds.round.Goals as goal
 
 pub returns-in-Fwd : goal.returns-in-Fwd

@@ -1,5 +1,5 @@
 -- `words::entry::walk` meets its contract: the first round, and the rest. Assumes nothing.
-use Rattle.lists.proofs.Kit.{sym, rules}
+use Rattle.lists.proofs.Kit.{sym}
 use Rattle.word_kinds.specs.Spots.{place_of}
 use Rattle.word_kinds.specs.Lent.{kind_by}
 use Rattle.word_kinds.proofs.Telling.{tells_as, tells_too, lands_here}

@@ -1,5 +1,5 @@
 -- `words::entry::walk_made` meets its contract: a text with no high code point needs no ranges of the letters. Assumes nothing.
-use Rattle.lists.proofs.Kit.{◌≡◌, sym, ◌∙◌, ℕ, arith, rules}
+use Rattle.lists.proofs.Kit.{◌≡◌, sym, ◌∙◌, ℕ, arith}
 use Rattle.words.proofs.entry.walk_made.Goals as goal
 
 pub walk_with_letters-requires : goal.walk_with_letters-requires

@@ -1,5 +1,5 @@
 -- `words::entry::walk_with_letters` meets its contract: the consts are the starts and the lengths of the letters' ranges. Assumes nothing.
-use Rattle.lists.proofs.Kit.{refl, rules}
+use Rattle.lists.proofs.Kit.{refl}
 use Rattle.letters.specs.Letters.{letters}
 use Rattle.words.proofs.entry.walk_with_letters.Goals as goal
 

@@ -2,7 +2,6 @@
 use Rattle.word_kinds.specs.Spots.{place_of}
 use Rattle.word_kinds.proofs.Telling.{tells_too}
 use Rattle.words.proofs.Made.{made_ready, made_motion}
-use borrow.Author.Rules.{rules}
 use Rattle.words.proofs.entry.word_motion.Goals as goal
 
 pub walk_made-requires : goal.walk_made-requires

@@ -1,8 +1,6 @@
 -- `words::once::has_high` meets its contract. The invariant of its loop: what was found, or will be. The measure is what is left.
 -- Assumes nothing.
-use Rattle.lists.proofs.Kit.{refl, sym, ◌-◌, length, rules}
-use Rattle.lists.proofs.Any.{any_on, any_end}
-use Rattle.word_kinds.specs.Lent.{is_high}
+use Rattle.lists.proofs.Kit.{◌-◌, length}
 use Rattle.words.proofs.Letters.{Looked}
 use Rattle.words.proofs.once.has_high.Given as goal
 

@@ -1,5 +1,5 @@
 -- `words::once::needs_letters` meets its contract: a long text, or one that was looked through. Assumes nothing.
-use Rattle.lists.proofs.Kit.{◌∙◌, rules, lt-ltb, le-ltb}
+use Rattle.lists.proofs.Kit.{◌∙◌, lt-ltb, le-ltb}
 use Rattle.words.specs.Prepared.{needs_letters}
 use Rattle.words.proofs.once.needs_letters.Goals as goal
 

@@ -1,5 +1,5 @@
 -- `words::rounds::round_near` meets its contract: in the stretch a round without folds is the same. Assumes nothing.
-use Rattle.lists.proofs.Kit.{false, rules}
+use Rattle.lists.proofs.Kit.{false}
 use Rattle.word_kinds.specs.Spots.{place_of}
 use Rattle.word_kinds.specs.Lent.{kind_by}
 use Rattle.word_kinds.proofs.Telling.{tells_too}

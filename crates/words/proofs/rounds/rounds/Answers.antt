@@ -1,5 +1,4 @@
 -- `words::rounds::rounds` meets its contract: the stretch around the row is one without closed folds. Assumes nothing.
-use borrow.Author.Rules.{rules}
 use Rattle.words.proofs.rounds.rounds.Goals as goal
 
 pub rounds_from-r-requires : goal.rounds_from-r-requires

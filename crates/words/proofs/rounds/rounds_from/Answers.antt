@@ -1,10 +1,8 @@
 -- `words::rounds::rounds_from` meets its contract. The invariant of its loop: the rounds left from `cur` on come to where all of them come, and
 -- there is no closed fold at the rows of the stretch. The measure is how many are left. Assumes nothing.
-use Rattle.lists.proofs.Kit.{false, arith, rules}
-use Rattle.word_rounds.specs.Rounds.{round_of}
-use Rattle.word_kinds.specs.Lent.{kind_by}
+use Rattle.lists.proofs.Kit.{arith}
 use Rattle.word_rounds.proofs.Turning.{set_at}
-use Rattle.words.proofs.Counting.{Counting, counting_start, counting_none, counting_on, counting_still, counting_off}
+use Rattle.words.proofs.Counting.{counting_start, counting_none, counting_on, counting_still, counting_off}
 use Rattle.words.proofs.rounds.rounds_from.Goals as goal
 
 pub loop-left-init : goal.loop-left-init

@@ -1,10 +1,9 @@
 -- `words::rounds::rounds_from` meets its contract. The invariant of its loop: the rounds left from `cur` on come to where all of them come, and
 -- there is no closed fold at the rows of the stretch. The measure is how many are left. Assumes nothing.
-use Rattle.lists.proofs.Kit.{false, arith, rules}
+use Rattle.lists.proofs.Kit.{false}
 use Rattle.word_rounds.specs.Rounds.{round_of}
 use Rattle.word_kinds.specs.Lent.{kind_by}
-use Rattle.word_rounds.proofs.Turning.{set_at}
-use Rattle.words.proofs.Counting.{Counting, counting_start, counting_none, counting_on, counting_still, counting_off}
+use Rattle.words.proofs.Counting.{Counting}
 use Rattle.words.proofs.rounds.rounds_from.Given as goal
 
 abbrev pub invariant-loop-left : goal.invariant-loop-left
