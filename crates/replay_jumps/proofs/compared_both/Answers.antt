@@ -1,5 +1,5 @@
 -- `compared_both` meets its contract: the pieces, one after another, are compared. Assumes nothing.
-use Rattle.lists.proofs.Kit.{sym, arith, length-take-le, rules}
+use Rattle.lists.proofs.Kit.{sym, arith, length-take-le}
 use Rattle.print.proofs.Laws.{wrote_then}
 use Rattle.replay_edits.proofs.Comparing.{written_front}
 use Rattle.replay_jumps.proofs.compared_both.Goals as goal

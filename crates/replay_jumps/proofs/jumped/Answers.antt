@@ -1,5 +1,5 @@
 -- `jumped` meets its contract: the tests of the definition, and the parts that it names. Assumes nothing.
-use Rattle.lists.proofs.Kit.{arith, rules, le-leb, lt-leb}
+use Rattle.lists.proofs.Kit.{arith, le-leb, lt-leb}
 use Rattle.replay_jumps.specs.Jumps.{jump_verdict}
 use Rattle.replay_jumps.proofs.jumped.Goals as goal
 

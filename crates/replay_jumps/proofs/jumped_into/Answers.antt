@@ -1,5 +1,4 @@
 -- `jumped_into` meets its contract: what the call answers, and leaves in both lent slices, is compared. Assumes nothing.
-use borrow.Author.Rules.{rules}
 use Rattle.replay_jumps.specs.Jumps.{jumped_into}
 use Rattle.replay_jumps.proofs.Leaving.{jumped_compared}
 use Rattle.replay_jumps.proofs.jumped_into.Goals as goal

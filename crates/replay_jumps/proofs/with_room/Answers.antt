@@ -1,5 +1,5 @@
 -- `with_room` meets its contract: the test of the definition, and the places that are lent. Assumes nothing.
-use Rattle.lists.proofs.Kit.{sym, replicate, length-take-le, rules, le-leb, lt-leb}
+use Rattle.lists.proofs.Kit.{sym, replicate, length-take-le, le-leb, lt-leb}
 use Rattle.replay_verdicts.specs.Answers.{filler}
 use Rattle.replay_verdicts.proofs.Comparing.{take_replicate}
 use Rattle.replay_jumps.specs.Jumps.{room_verdict}

@@ -1,5 +1,5 @@
 -- `tsivareza_word_classes` meets its contract: the room is filled, and the call on code points answers. Assumes nothing.
-use Rattle.lists.proofs.Kit.{refl, List, ℕ, rules}
+use Rattle.lists.proofs.Kit.{refl, List, ℕ}
 use Rattle.call_classes.specs.Classed.{classing, classes_in}
 use Rattle.call_bytes.proofs.Twos.{joined_two}
 use Rattle.exports.proofs.Parts.{parts, two_left}

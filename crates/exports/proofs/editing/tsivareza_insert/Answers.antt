@@ -1,5 +1,4 @@
 -- `tsivareza_insert` meets its contract: the room is filled, and the call on code points edits. Assumes nothing.
-use Rattle.lists.proofs.Kit.{rules}
 use Rattle.call_edits.proofs.Filling.{filled_unfit, filled_edits}
 use Rattle.exports.proofs.Parts.{parts}
 use Rattle.exports.proofs.editing.tsivareza_insert.Goals as goal

@@ -1,5 +1,5 @@
 -- `tsivareza_utf8_encode` meets its contract: the room is filled, and the call on code points answers. Assumes nothing.
-use Rattle.lists.proofs.Kit.{List, ℕ, rules}
+use Rattle.lists.proofs.Kit.{List, ℕ}
 use Rattle.call_utf8.specs.Utf8.{encodes}
 use Rattle.utf8.specs.Calls.{encoded_in}
 use Rattle.call_bytes.proofs.Replies.{answered_one, left_fit}

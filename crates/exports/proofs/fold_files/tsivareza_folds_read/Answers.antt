@@ -1,5 +1,5 @@
 -- `tsivareza_folds_read` meets its contract: the room is filled, and the call on code points answers. Assumes nothing.
-use Rattle.lists.proofs.Kit.{List, ℕ, rules}
+use Rattle.lists.proofs.Kit.{List, ℕ}
 use Rattle.fold_reader.specs.Reading.{loaded_in}
 use Rattle.call_fold_file.specs.FoldFiles.{reads}
 use Rattle.call_bytes.proofs.Replies.{answered_one, left_fit}

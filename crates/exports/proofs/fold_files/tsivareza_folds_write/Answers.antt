@@ -1,5 +1,5 @@
 -- `tsivareza_folds_write` meets its contract: the room is filled, and the call on code points answers. Assumes nothing.
-use Rattle.lists.proofs.Kit.{refl, List, ℕ, rules}
+use Rattle.lists.proofs.Kit.{refl, List, ℕ}
 use Rattle.fold_writer.specs.Writing.{written_in}
 use Rattle.call_fold_file.specs.FoldFiles.{writes}
 use Rattle.call_bytes.proofs.Twos.{joined_two}

@@ -1,5 +1,5 @@
 -- `tsivareza_vertical_rows` meets its contract: the room is filled, and the call on code points answers. Assumes nothing.
-use Rattle.lists.proofs.Kit.{refl, List, ℕ, rules}
+use Rattle.lists.proofs.Kit.{refl, List, ℕ}
 use Rattle.call_texts.specs.Carets.{caret_of}
 use Rattle.call_folds.specs.Upright.{verticals}
 use Rattle.call_motion_rows.specs.Asks.{by_table}

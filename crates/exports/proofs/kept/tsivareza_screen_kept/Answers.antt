@@ -1,5 +1,5 @@
 -- `tsivareza_screen_kept` meets its contract: the room is filled, and the call on code points answers. Assumes nothing.
-use Rattle.lists.proofs.Kit.{refl, rules}
+use Rattle.lists.proofs.Kit.{refl}
 use Rattle.call_texts.specs.Carets.{caret_six}
 use Rattle.call_folds.specs.Kept.{screens_kept}
 use Rattle.call_bytes.proofs.Twos.{joined_two}

@@ -1,5 +1,4 @@
 -- `tsivareza_motion` meets its contract: the room is filled, and the call on code points answers. Assumes nothing.
-use Rattle.lists.proofs.Kit.{rules}
 use Rattle.call_texts.specs.Carets.{caret_of}
 use Rattle.call_texts.specs.Moves.{motions}
 use Rattle.call_bytes.proofs.Replies.{answered_one}

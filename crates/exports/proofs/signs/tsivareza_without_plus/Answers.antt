@@ -1,5 +1,5 @@
 -- `tsivareza_without_plus` meets its contract: the room is filled, and the call on code points answers. Assumes nothing.
-use Rattle.lists.proofs.Kit.{List, ℕ, rules}
+use Rattle.lists.proofs.Kit.{List, ℕ}
 use Rattle.call_bytes.specs.Reply.{told}
 use Rattle.list_signs.specs.Plain.{plain_in}
 use Rattle.call_signs.specs.Plain.{plain_told}

@@ -1,5 +1,4 @@
 -- `tsivareza_insert_rows` meets its contract: the room is filled, and the call on code points edits. Assumes nothing.
-use Rattle.lists.proofs.Kit.{rules}
 use Rattle.call_row_table.proofs.Filling.{keeps_unfit, keeps_done}
 use Rattle.exports.proofs.Parts.{parts}
 use Rattle.exports.proofs.tables.tsivareza_insert_rows.Goals as goal

@@ -1,5 +1,4 @@
 -- `tsivareza_row_starts` meets its contract: the room is filled, and the call on code points fills the table. Assumes nothing.
-use Rattle.lists.proofs.Kit.{rules}
 use Rattle.call_row_table.proofs.Filling.{fills_unfit, fills_done}
 use Rattle.exports.proofs.Parts.{parts}
 use Rattle.exports.proofs.tables.tsivareza_row_starts.Goals as goal

@@ -1,5 +1,4 @@
 -- `tsivareza_columns` meets its contract: the room is filled, and the call on code points answers. Assumes nothing.
-use Rattle.lists.proofs.Kit.{rules}
 use Rattle.call_rows.specs.Tabs.{tab_columns}
 use Rattle.call_bytes.proofs.Replies.{answered_one}
 use Rattle.exports.proofs.Parts.{parts}

@@ -1,5 +1,5 @@
 -- `tsivareza_vertical` meets its contract: the room is filled, and the call on code points answers. Assumes nothing.
-use Rattle.lists.proofs.Kit.{refl, rules}
+use Rattle.lists.proofs.Kit.{refl}
 use Rattle.call_texts.specs.Carets.{caret_of}
 use Rattle.call_folds.specs.Upright.{verticals}
 use Rattle.call_bytes.proofs.Twos.{joined_two}

@@ -1,5 +1,5 @@
 -- `tsivareza_vim_list` meets its contract: the room is filled, and the call on code points answers. Assumes nothing.
-use Rattle.lists.proofs.Kit.{List, ℕ, rules}
+use Rattle.lists.proofs.Kit.{List, ℕ}
 use Rattle.call_signs.specs.Entry.{placed_reply}
 use Rattle.call_vim.specs.Vim.{vim_by}
 use Rattle.call_bytes.proofs.Replies.{answered_one}

@@ -1,5 +1,5 @@
 -- `tsivareza_word_vim` meets its contract: the room is filled, and the call on code points answers. Assumes nothing.
-use Rattle.lists.proofs.Kit.{refl, rules}
+use Rattle.lists.proofs.Kit.{refl}
 use Rattle.call_texts.specs.Carets.{caret_of}
 use Rattle.call_folds.specs.Terms.{is_big}
 use Rattle.call_vim_words.specs.ByTerm.{words_vim}

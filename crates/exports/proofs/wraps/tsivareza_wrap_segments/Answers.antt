@@ -1,5 +1,5 @@
 -- `tsivareza_wrap_segments` meets its contract: the room is filled, and the call on code points answers. Assumes nothing.
-use Rattle.lists.proofs.Kit.{List, ℕ, rules}
+use Rattle.lists.proofs.Kit.{List, ℕ}
 use Rattle.call_bytes.specs.Reply.{told}
 use Rattle.call_rows.specs.Wraps.{segmented, segments_left}
 use Rattle.call_bytes.proofs.Replies.{answered_one, left_fit}
@@ -12,8 +12,11 @@ returns c =
     let given = c.args in
     let fill_told = c.fill-f.ensures in
     let wrap_segments_told = c.wrap_segments.ensures in
-    record { answered = answered_one fill_told (λ (t : List ℕ). told (segmented given.mode given.width given.segments.now t)) c.if-f-ne0.false
-          wrap_segments_told.replied; segments_after = left_fit fill_told (segments_left given.mode given.width given.segments.now) c.if-f-ne0.false _ wrap_segments_told.segments_after }
+    record {
+      answered = answered_one fill_told (λ (t : List ℕ). told (segmented given.mode given.width given.segments.now t)) c.if-f-ne0.false
+          wrap_segments_told.replied;
+      segments_after = left_fit fill_told (segments_left given.mode given.width given.segments.now) c.if-f-ne0.false _ wrap_segments_told.segments_after;
+    }
 
 pub returns-then-f-ne0 : goal.returns-then-f-ne0
 returns-then-f-ne0 c = search parts

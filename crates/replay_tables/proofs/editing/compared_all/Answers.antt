@@ -1,5 +1,5 @@
 -- `editing::compared_all` meets its contract: the pieces, one after another, are compared. Assumes nothing.
-use Rattle.lists.proofs.Kit.{sym, arith, length-take-le, rules}
+use Rattle.lists.proofs.Kit.{sym, arith, length-take-le}
 use Rattle.print.proofs.Laws.{wrote_then}
 use Rattle.replay_edits.proofs.Comparing.{written_front}
 use Rattle.replay_tables.proofs.editing.compared_all.Goals as goal

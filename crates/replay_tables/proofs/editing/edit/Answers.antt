@@ -1,5 +1,5 @@
 -- `editing::edit` meets its contract: the tests of the definition, and the buffers and the table that are lent. Assumes nothing.
-use Rattle.lists.proofs.Kit.{sym, arith, length-take-le, rules, le-leb, lt-leb}
+use Rattle.lists.proofs.Kit.{sym, arith, length-take-le, le-leb, lt-leb}
 use Rattle.replay_edits.proofs.Comparing.{lent_front}
 use Rattle.replay_tables.specs.Edits.{edit_verdict}
 use Rattle.replay_tables.proofs.editing.edit.Goals as goal

@@ -1,5 +1,4 @@
 -- `editing::edit_into` meets its contract: what the call answers, and leaves in all that it is lent, is compared. Assumes nothing.
-use borrow.Author.Rules.{rules}
 use Rattle.replay_tables.proofs.Keeping.{kept_compared}
 use Rattle.replay_tables.proofs.editing.edit_into.Goals as goal
 

@@ -1,5 +1,4 @@
 -- `editing::edited` meets its contract: it is the call of the operation. Assumes nothing.
-use borrow.Author.Rules.{rules}
 use Rattle.replay_tables.proofs.Keeping.{to_insert, put_insert, to_delete, put_delete}
 use Rattle.replay_tables.proofs.editing.edited.Goals as goal
 

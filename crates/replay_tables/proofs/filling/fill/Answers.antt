@@ -1,5 +1,5 @@
 -- `filling::fill` meets its contract: the test of the definition, and the table that is lent. Assumes nothing.
-use Rattle.lists.proofs.Kit.{sym, arith, length-take-le, rules, le-leb, lt-leb}
+use Rattle.lists.proofs.Kit.{sym, arith, length-take-le, le-leb, lt-leb}
 use Rattle.replay_edits.proofs.Comparing.{lent_front}
 use Rattle.replay_tables.specs.Tables.{fill_verdict}
 use Rattle.replay_tables.proofs.filling.fill.Goals as goal

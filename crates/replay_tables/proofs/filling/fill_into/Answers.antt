@@ -1,5 +1,4 @@
 -- `filling::fill_into` meets its contract: what the call answers, and leaves in its place and in the table, is compared. Assumes nothing.
-use borrow.Author.Rules.{rules}
 use Rattle.call_texts.specs.Rows.{told_rows}
 use Rattle.call_row_table.specs.Tables.{fill_of}
 use Rattle.replay_verdicts.proofs.Comparing.{wrapped_compared}

@@ -1,5 +1,5 @@
 -- `moving::kept` meets its contract: what the call answers and leaves is compared. Assumes nothing.
-use Rattle.lists.proofs.Kit.{rules, le-leb, lt-leb, eq-eqb, ne_eqb}
+use Rattle.lists.proofs.Kit.{le-leb, lt-leb, eq-eqb, ne_eqb}
 use Rattle.replay_verdicts.proofs.Comparing.{replied_compared, places_count}
 use Rattle.replay_tables.specs.Motions.{kept_verdict}
 use Rattle.replay_tables.proofs.Sizes.{six_sized}

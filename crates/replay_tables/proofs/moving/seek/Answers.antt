@@ -1,5 +1,4 @@
 -- `moving::seek` meets its contract: what the call answers and leaves is compared. Assumes nothing.
-use borrow.Author.Rules.{rules}
 use Rattle.replay_verdicts.proofs.Comparing.{replied_compared, places_count}
 use Rattle.replay_tables.specs.Motions.{seek_of}
 use Rattle.replay_tables.proofs.Sizes.{sought_sized}

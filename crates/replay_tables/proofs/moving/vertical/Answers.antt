@@ -1,5 +1,5 @@
 -- `moving::vertical` meets its contract: what the call answers and leaves is compared. Assumes nothing.
-use Rattle.lists.proofs.Kit.{rules, le-leb, lt-leb}
+use Rattle.lists.proofs.Kit.{le-leb, lt-leb}
 use Rattle.replay_verdicts.proofs.Comparing.{replied_compared, places_count}
 use Rattle.replay_tables.specs.Motions.{vertical_verdict}
 use Rattle.replay_tables.proofs.Sizes.{moved_sized}

@@ -1,5 +1,5 @@
 -- `tables::by_parts` meets its contract: by the operation. Assumes nothing.
-use Rattle.lists.proofs.Kit.{rules, lt-ltb, le-ltb}
+use Rattle.lists.proofs.Kit.{lt-ltb, le-ltb}
 use Rattle.replay_tables.specs.Verdicts.{parts_verdict}
 use Rattle.replay_tables.proofs.tables.by_parts.Goals as goal
 

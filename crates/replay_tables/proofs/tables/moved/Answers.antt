@@ -1,5 +1,5 @@
 -- `tables::moved` meets its contract: the tests of the definition in their order. Assumes nothing.
-use Rattle.lists.proofs.Kit.{rules, lt-ltb, le-ltb}
+use Rattle.lists.proofs.Kit.{lt-ltb, le-ltb}
 use Rattle.replay_tables.specs.Verdicts.{moved_verdict}
 use Rattle.replay_tables.proofs.tables.moved.Goals as goal
 

@@ -1,5 +1,5 @@
 -- `tables::tabled` meets its contract: the tests of the definition, and the parts that it names. Assumes nothing.
-use Rattle.lists.proofs.Kit.{arith, rules, eq-eqb, ne_eqb, le-leb, lt-leb}
+use Rattle.lists.proofs.Kit.{arith, eq-eqb, ne_eqb, le-leb, lt-leb}
 use Rattle.replay_tables.specs.Verdicts.{tabled_verdict}
 use Rattle.replay_tables.proofs.tables.tabled.Goals as goal
 

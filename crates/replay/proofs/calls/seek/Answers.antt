@@ -1,0 +1,12 @@
+-- `calls::seek` meets its contract: what the call answers and leaves is compared. Assumes nothing.
+use Rattle.replay.specs.Calls.{seek_of}
+use Rattle.replay_verdicts.proofs.Comparing.{replied_compared, places_count}
+use Rattle.replay.proofs.Sizes.{sought_sized}
+use Rattle.replay.proofs.calls.seek.Goals as goal
+
+pub slice_bounds-compared-end : goal.slice_bounds-compared-end
+slice_bounds-compared-end c = places_count 5 c.seek-n.ensures (sought_sized _)
+
+pub returns : goal.returns
+unfolding seek_of
+returns c = replied_compared 5 _ c.seek-n.ensures c.compared.ensures
