@@ -1,5 +1,5 @@
 -- What the contracts of `src/marks.rt` cite: the marks of a list by their places, as the code sets them. That they are those of `signs` is
--- `part_signs_lem` in `proofs/PartMarks.antt` and, part by part, `Marking-step` in `proofs/Marking.antt`. Definitions only. Assumes nothing.
+-- `part_signs_lem` in `proofs/PartMarks.antt` and, part by part, `marking_step` in `proofs/Marking.antt`. Definitions only. Assumes nothing.
 use Rattle.std.specs.Prelude.{ℕ, ◌+◌, List, Bool, true, cond, ◌&&◌, ◌||◌, eqb, get_or, set}
 use Rattle.lists.specs.Lists.{up_to}
 use Rattle.list_parts.specs.Numbers.{number_of}

@@ -1,4 +1,4 @@
--- What each move answers, by the definitions of the motions. Cited by `Caret::go` and `Caret::moved_by_lem`.
+-- What each move answers, by the definitions of the motions. Cited by `Caret::go` and `Caret::moved_by`.
 -- Definitions only; the laws are in `proofs/Going.antt`. Assumes nothing.
 use Rattle.std.specs.Prelude.{ℕ, List, Bool}
 use Rattle.text.specs.Text.{row_at}

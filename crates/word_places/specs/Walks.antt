@@ -8,7 +8,7 @@ use Rattle.word_places.specs.declared.Halt.{Halt}
 use Rattle.word_places.specs.declared.Halt.TheVariants.{Onto, Stuck}
 
 -- step by step while the test holds: done at the first place that fails it, or standing at one that passes and has no step. The counter is never used up:
--- every walk below has more turns than there are places ahead (`Walking-start`)
+-- every walk below has more turns than there are places ahead (`walking_start`)
 unfoldable pub walk : (ℕ → Bool) → (ℕ → Step) → ℕ → ℕ → Halt
 walk test step zero i = Stuck i
 walk test step (suc n) i = cond (test i) (further (step i) (walk test step n) (Stuck i)) (Onto i)

@@ -1,4 +1,4 @@
--- `row_starts_lem` meets its contract: what the fill answers is shown. Assumes nothing.
+-- `row_starts` meets its contract: what the fill answers is shown. Assumes nothing.
 use Rattle.call_row_table.proofs.Shown.{host_fills}
 use Rattle.call_row_table.proofs.row_starts.Goals as goal
 

@@ -1,4 +1,4 @@
--- `stands_at_lem` meets its contract: past the text nothing stands. Assumes nothing.
+-- `stands_at` meets its contract: past the text nothing stands. Assumes nothing.
 use Rattle.lists.proofs.Kit.{lt-ltb, le-ltb}
 use Rattle.bracket_inner.proofs.around.stands_at.Goals as goal
 

@@ -1,4 +1,4 @@
--- `list_parts::parts::trim_start_lem` meets its contract. The invariant of its loop: what stands before i is white space. The measure is the part's
+-- `list_parts::parts::trim_start` meets its contract. The invariant of its loop: what stands before i is white space. The measure is the part's
 -- length less i. Assumes nothing.
 use Rattle.lists.proofs.Kit.{sym, ◌∙◌, ◌-◌, arith}
 use Rattle.list_parts.proofs.TrimLaws.{trims_on, trims_stop, trim_start_on, trim_start_stop, trim_start_end}

@@ -1,4 +1,4 @@
--- `Caret::moved_by_lem` meets its contract: the caret that the answer of `go` leaves. Assumes nothing.
+-- `Caret::moved_by` meets its contract: the caret that the answer of `go` leaves. Assumes nothing.
 use Rattle.lists.proofs.Kit.{ap, ◌∙◌}
 use Rattle.motions.specs.Going.{landed}
 use Rattle.motions.proofs.Every.{landed_goes}

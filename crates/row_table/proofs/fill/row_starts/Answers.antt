@@ -1,4 +1,4 @@
--- `fill::row_starts_lem` meets its contract: by the text, by the places, and filled. An accepted text is short, so that its rows fit a u32.
+-- `fill::row_starts` meets its contract: by the text, by the places, and filled. An accepted text is short, so that its rows fit a u32.
 -- Assumes nothing.
 use Rattle.lists.proofs.Kit.{sym, ◌∙◌, arith}
 use Rattle.text_check.proofs.Accepted.{accepted_short}

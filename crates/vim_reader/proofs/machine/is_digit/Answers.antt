@@ -1,4 +1,4 @@
--- `machine::is_digit_lem` meets its contract: by the branches. Assumes nothing.
+-- `machine::is_digit` meets its contract: by the branches. Assumes nothing.
 use Rattle.lists.proofs.Kit.{rules, le-leb, lt-leb}
 use Rattle.vim_reader.proofs.machine.is_digit.Goals as goal
 

@@ -1,4 +1,4 @@
--- `word_edges::behind::front_of_lem` meets its contract: back over the class, and one on. Assumes nothing.
+-- `word_edges::behind::front_of` meets its contract: back over the class, and one on. Assumes nothing.
 use Rattle.word_kinds.proofs.Telling.{tells_as}
 use Rattle.word_edges.proofs.behind.front_of.Goals as goal
 

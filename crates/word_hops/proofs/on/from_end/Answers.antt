@@ -1,4 +1,4 @@
--- `word_hops::on::from_end_lem` meets its contract: small words go on at once, big ones over the row ends first. Assumes nothing.
+-- `word_hops::on::from_end` meets its contract: small words go on at once, big ones over the row ends first. Assumes nothing.
 use Rattle.lists.proofs.Kit.{ap, sym, ◌∙◌}
 use Rattle.word_hops.specs.Hops.{then_space}
 use Rattle.word_hops.proofs.Hopping.{from_small, from_big}

@@ -1,4 +1,4 @@
--- `word_hops::on::next_start_lem` meets its contract, from a row's end and from a character. Assumes nothing.
+-- `word_hops::on::next_start` meets its contract, from a row's end and from a character. Assumes nothing.
 use Rattle.lists.proofs.Kit.{ap, sym, ◌∙◌}
 use Rattle.word_places.specs.declared.Step.TheVariants.{To}
 use Rattle.word_hops.specs.Hops.{next_start}

@@ -1,4 +1,4 @@
--- `word_kinds::near::next_row_lem` meets its contract: the next row has content exactly if it starts before the end of the text. Assumes nothing.
+-- `word_kinds::near::next_row` meets its contract: the next row has content exactly if it starts before the end of the text. Assumes nothing.
 use Rattle.lists.proofs.Kit.{arith}
 use Rattle.word_kinds.proofs.Onto.{next_yes, next_no}
 use Rattle.word_kinds.proofs.Telling.{steps_to, steps_nowhere}
