@@ -9,12 +9,10 @@ use row_search::Found;
 pub fn first_bracket(row: &[u32], col: usize) -> Found
     ensures { result ≡ first_bracket row.now col }
 {
-    let mut j = col;
-    while j < row.len() {
+    for j in col..row.len() {
         if kinds::is_key_bracket(row[j]) {
             return Found::At(j);
         }
-        j += 1;
     }
     Found::Nothing
 }

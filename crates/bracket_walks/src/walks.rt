@@ -25,24 +25,18 @@ pub fn match_forward(
     let mut depth = deep;
     let mut row = l.row;
     let mut start = l.start;
-    let mut j = at;
-    while j < t.len() {
+    for j in at..t.len() {
         let x = t[j];
         if x == closing {
             depth -= 1;
             if depth == 0 {
                 return place(row, start, j);
             }
-            j += 1;
         } else if x == opening {
             depth += 1;
-            j += 1;
         } else if x == 10 {
             row += 1;
-            j += 1;
-            start = j;
-        } else {
-            j += 1;
+            start = j + 1;
         }
     }
     Partner::None
@@ -64,9 +58,7 @@ pub fn match_backward(
 {
     let mut depth = deep;
     let mut row = l.row;
-    let mut i = at;
-    while i > 0 {
-        let b = i - 1;
+    for b in (0..at).rev() {
         let x = t[b];
         if x == opening {
             depth -= 1;
@@ -74,15 +66,10 @@ pub fn match_backward(
                 let l = text::offsets::up(t, row, b, 0);
                 return place(row, l.start, b);
             }
-            i = b;
         } else if x == closing {
             depth += 1;
-            i = b;
         } else if x == 10 {
             row -= 1;
-            i = b;
-        } else {
-            i = b;
         }
     }
     Partner::None
@@ -94,7 +81,7 @@ fn place(row: usize, start: usize, at: usize) -> Partner
     ensures { result ≡ Partner.There (record { row = row; col = at - start }) }
 {
     let col = at - start;
-    Partner::There(Position { row: row, col: col })
+    Partner::There(Position { row, col })
 }
 
 // The partner of what stands at an offset of the row `l`, or none.

@@ -18,9 +18,8 @@ fn offset_of(t: &[u32], row: usize, start: usize, col: usize) -> Found
     requires { Stands t.now row start start }
     ensures { result ≡ column_of t.now row col }
 {
-    let mut i = start;
     let mut left = col;
-    while i < t.len() {
+    for i in start..t.len() {
         if t[i] == 10 {
             return Found::Nothing;
         }
@@ -28,7 +27,6 @@ fn offset_of(t: &[u32], row: usize, start: usize, col: usize) -> Found
             return Found::At(i);
         }
         left -= 1;
-        i += 1;
     }
     Found::Nothing
 }

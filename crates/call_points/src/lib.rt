@@ -19,15 +19,13 @@ pub fn decode(bytes: &[u8], room: &mut [u32]) -> usize
     ensures { Decoded bytes.now room.old result room.new }
 {
     let n = bytes.len() / 4;
-    let mut i: usize = 0;
-    while i < n {
+    for i in 0..n {
         room[i] = word(
             bytes[4 * i],
             bytes[4 * i + 1],
             bytes[4 * i + 2],
             bytes[4 * i + 3],
         );
-        i += 1;
     }
     n
 }

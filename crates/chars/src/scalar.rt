@@ -22,11 +22,8 @@ pub fn all_scalar(l: &[u32]) -> bool
     ensures { result ≡ not (any not_scalar l.now) }
 {
     let mut wrong = false;
-    let mut i: usize = 0;
-    while i < l.len() {
-        let x = l[i];
-        wrong = wrong | !((x <= 0x10ffff) & ((x < 0xd800) | (x > 0xdfff)));
-        i += 1;
+    for x in l {
+        wrong |= !((*x <= 0x10ffff) & ((*x < 0xd800) | (*x > 0xdfff)));
     }
     !wrong
 }

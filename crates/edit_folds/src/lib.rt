@@ -50,19 +50,15 @@ fn keep_folds(folds: &mut [u32], n: usize, r1: u32, r2: u32, k: u32) -> usize
     ensures { FoldsKept (mapped_row r1 r2 k) folds.old n result folds.new }
 {
     let mut w: usize = 0;
-    let mut i: usize = 0;
-    while i < n {
+    for i in 0..n {
         let s = folds[3 * i];
         let e = folds[3 * i + 1];
         let closed = folds[3 * i + 2];
         let x = map_row(s, r1, r2, k);
         let y = map_row(e, r1, r2, k);
-        if is_lost(s, e, x, y) {
-            i += 1;
-        } else {
+        if !is_lost(s, e, x, y) {
             put_fold(folds, 3 * w, x, y, closed);
             w += 1;
-            i += 1;
         }
     }
     w

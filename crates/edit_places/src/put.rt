@@ -7,11 +7,7 @@ pub fn put_at(buf: &mut [u32], at: usize, points: &[u32])
     requires { at + length points.now ≤ length buf.old }
     ensures { Over buf.old at points.now buf.new }
 {
-    let mut k: usize = 0;
-    while k < points.len() {
-        buf[at + k] = points[k];
-        k += 1;
-    }
+    buf[at..at + points.len()].copy_from_slice(points);
 }
 
 // Writes n zeros over the places from `at` on.
@@ -19,9 +15,5 @@ pub fn put_zeros(buf: &mut [u32], at: usize, n: usize)
     requires { at + n ≤ length buf.old }
     ensures { Over buf.old at (zeros n) buf.new }
 {
-    let mut k: usize = 0;
-    while k < n {
-        buf[at + k] = 0;
-        k += 1;
-    }
+    buf[at..at + n].fill(0);
 }

@@ -1,18 +1,58 @@
 -- Starts that move, and give way in their table. On plain lists. Assumes nothing.
-use Rattle.lists.proofs.Kit.{◌≡◌, refl, ap, sym, ◌∙◌, List, [], ◌∷◌, ◌++◌, map, ℕ, zero, suc, ◌+◌, ◌-◌, ◌≤◌, ◌<◌, max, arith, length, get_or, take, drop}
+use Rattle.lists.proofs.Kit.{◌≡◌, refl, ap, sym, ◌∙◌, List, ◌++◌, map, ℕ, ◌+◌, ◌-◌, ◌≤◌, ◌<◌, max, arith, length, get_or, take, drop}
+use Rattle.lists.proofs.Kit.{append-nil, drop_of_length-le, take_all, get_or-append-add, get_or-drop, get_or-take, rules}
 use Rattle.lists.proofs.Kit.{length-map, length-append, length-take-le, take-take, drop-drop, take_at, drop_at, take-append-le, length-slice}
+use Rattle.std.proofs.lemmas.Slice.{between_is, put_mid-paste}
+use borrow.Rule.Slice.PartMut.{put_mid}
 use Rattle.row_table.specs.Table.{starts_from}
 use Rattle.edit_places.specs.Replaced.{replaced, refilled, Refilled, Over}
+use Rattle.edit_places.proofs.Parts.{replaced_length}
 use Rattle.edit_starts.specs.Moved.{moved_start, kept_starts}
 
--- a place of a list through which a function goes
-pub map_read : (f : ℕ → ℕ) (l : List ℕ) (k : ℕ) → k < length l → get_or (map f l) k 0 ≡ f (get_or l k 0)
-map_read f [] k h = absurd (omega arith)
-map_read f (x ∷ l) zero h = refl
-map_read f (x ∷ l) (suc k) h = map_read f l k (omega arith)
-
+-- a list through which a function goes
 pub map_size : (f : ℕ → ℕ) (l : List ℕ) → length (map f l) ≡ length l
 map_size f l = length-map l f
+
+-- a loop that writes f x over each place x of xs has come to place i, whose x is as it was
+reached : (f : ℕ → ℕ) (xs : List ℕ) (i : ℕ) → i ≤ length xs → get_or (map f (take i xs) ++ drop i xs) i 0 ≡ get_or xs i 0
+reached f xs i h =
+    let size_is : length (map f (take i xs)) ≡ i = map_size f (take i xs) ∙ length-take-le i xs h in
+    let at : i ≡ length (map f (take i xs)) + 0 = omega arith in
+    let here : i + 0 ≡ i = omega arith in
+    ap (λ (k : ℕ). get_or (map f (take i xs) ++ drop i xs) k 0) at ∙ get_or-append-add (map f (take i xs)) (drop i xs) 0 0
+    ∙ get_or-drop i xs 0 0 ∙ ap (λ (k : ℕ). get_or xs k 0) here
+
+-- and it has come to the end of the part of e that it goes over
+module _ (f : ℕ → ℕ) (e : List ℕ) (from to k : ℕ) (order : from ≤ to) (within : to ≤ length e) where
+  abbrev mapped : List ℕ
+  mapped = map f (drop from (take to e))
+
+  inner : take (to - from) (drop from e) ≡ drop from (take to e)
+  inner = search (rules, between_is)
+
+  inner_length : length (take (to - from) (drop from e)) ≡ to - from
+  inner_length = ap length inner ∙ length-slice from to e within
+
+  pub mapped_read : {ys : List ℕ} → k < length (take (to - from) (drop from e)) →
+      ys ≡ map f (take k (take (to - from) (drop from e))) ++ drop k (take (to - from) (drop from e)) →
+      (from + k < to) × (get_or ys k 0 ≡ get_or e (from + k) 0)
+  mapped_read h ys_is =
+      let by_inner_length = inner_length in (
+        omega arith,
+        ap (λ (l : List ℕ). get_or l k 0) ys_is ∙ reached f (take (to - from) (drop from e)) k (omega arith)
+            ∙ get_or-take (to - from) (drop from e) k 0 (omega arith) ∙ get_or-drop from e k 0,
+      )
+
+  pub mapped_over : {ys : List ℕ} → length (take (to - from) (drop from e)) ≤ k →
+      ys ≡ map f (take k (take (to - from) (drop from e))) ++ drop k (take (to - from) (drop from e)) → Over e from mapped (put_mid from (to - from) e ys)
+  unfolding replaced
+  mapped_over {ys} end ys_is =
+      let xs = take (to - from) (drop from e) in
+      let whole : ys ≡ mapped = ys_is ∙ rw (take_all k xs end, drop_of_length-le xs {i = k} end) (append-nil (map f xs)) ∙ ap (map f) inner in
+      let size_is : length mapped ≡ to - from = map_size f (drop from (take to e)) ∙ length-slice from to e within in
+      let put : put_mid from (to - from) e ys ≡ replaced e from (from + length mapped) mapped =
+      put_mid-paste from (to - from) e ys mapped (length mapped) whole size_is refl ∙ rw (take_all (length mapped) mapped (omega arith)) in
+      record { left = put; size = ap length put ∙ replaced_length e from (from + length mapped) mapped (omega arith) ∙ omega arith }
 
 -- the last places of the first n written over by s
 module _ {e buf : List ℕ} {at n : ℕ} {s : List ℕ} (o : Over e at s buf) (end : at + length s ≡ n) (fits : n ≤ length e) where

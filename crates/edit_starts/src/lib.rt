@@ -17,12 +17,8 @@ fn move_starts(starts: &mut [u32], from: usize, to: usize, less: u32, more: u32)
         (map (moved_start less more) (drop from (take to starts.old)))
         starts.new }
 {
-    let n = to - from;
-    let mut k: usize = 0;
-    while k < n {
-        let i = from + k;
-        starts[i] = starts[i] - less + more;
-        k += 1;
+    for s in starts[from..to].iter_mut() {
+        *s = *s - less + more;
     }
 }
 

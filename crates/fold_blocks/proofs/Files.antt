@@ -1,7 +1,6 @@
 -- Lengths of a fold file's parts, and the blocks one after another. Assumes nothing.
 use Rattle.lists.proofs.Kit.{◌≡◌, refl, ◌∙◌, List, [], ◌∷◌, ◌++◌, ℕ, zero, suc, ◌+◌, ◌*◌, ◌/◌, ◌≤◌, ◌<◌, arith, length, take, drop, get_or, length-append}
-use Rattle.lists.proofs.Kit.{length-replicate, length-take, length-drop, eq-eqb, ne_eqb}
-use Rattle.lists.proofs.Lists.{drop_at}
+use Rattle.lists.proofs.Kit.{length-replicate, length-take, eq-eqb, ne_eqb}
 use Rattle.fold_blocks.specs.Bytes.{four, one, entries}
 use Rattle.fold_blocks.specs.Files.{count_in, blocks_for, body, block, blocks, file_of}
 
@@ -12,24 +11,26 @@ length_entries (s ∷ []) = refl
 length_entries (s ∷ e ∷ []) = refl
 length_entries (s ∷ e ∷ c ∷ folds) = omega (arith, length_entries folds)
 
--- three numbers at an index
-pub entries_at : (l : List ℕ) (i : ℕ) → i + 2 < length l →
-    entries (drop i l) ≡ (four (get_or l i 0) ++ four (get_or l (i + 1) 0) ++ one (get_or l (i + 2) 0)) ++ entries (drop (i + 3) l)
-unfolding entries
-entries_at l i h =
-    let two_on : i + 1 + 1 ≡ i + 2 = omega arith in
-    let three_on : i + 2 + 1 ≡ i + 3 = omega arith in
-    rw (drop_at l i (omega arith), drop_at l (i + 1) (omega arith), two_on, drop_at l (i + 2) h, three_on)
-
-entries_few : (l : List ℕ) → length l ≤ 2 → entries l ≡ []
+-- fewer than three numbers are no fold
+pub entries_few : (l : List ℕ) → length l ≤ 2 → entries l ≡ []
 unfolding entries
 entries_few [] h = refl
 entries_few (s ∷ []) h = refl
 entries_few (s ∷ e ∷ []) h = refl
 entries_few (s ∷ e ∷ k ∷ l) h = absurd (omega arith)
 
-pub entries_end : (l : List ℕ) (i : ℕ) → length l ≤ i + 2 → entries (drop i l) ≡ []
-entries_end l i h = entries_few (drop i l) (omega (arith, length-drop i l))
+-- the next three numbers of what is left
+pub entries_next : (l x rest : List ℕ) → l ≡ x ++ rest → length x ≡ 3 →
+    entries l ≡ (four (get_or x 0 0) ++ four (get_or x 1 0) ++ one (get_or x 2 0)) ++ entries rest
+unfolding entries
+entries_next l x rest next three = rw next (go x three)
+  where
+    go : (x : List ℕ) → length x ≡ 3 → entries (x ++ rest) ≡ (four (get_or x 0 0) ++ four (get_or x 1 0) ++ one (get_or x 2 0)) ++ entries rest
+    go [] h = absurd (omega arith)
+    go (s ∷ []) h = absurd (omega arith)
+    go (s ∷ e ∷ []) h = absurd (omega arith)
+    go (s ∷ e ∷ k ∷ []) h = refl
+    go (s ∷ e ∷ k ∷ y ∷ x) h = absurd (omega arith)
 
 -- a block is 512 bytes
 module _ (n k : ℕ) (folds : List ℕ) (h : length folds ≤ 168) where

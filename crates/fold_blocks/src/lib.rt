@@ -59,10 +59,8 @@ pub fn sum(bytes: &[u8]) -> usize
     ensures { result ≡ sum_of bytes.now }
 {
     let mut total: usize = 0;
-    let mut i: usize = 0;
-    while i < bytes.len() {
-        total += wide(bytes[i]);
-        i += 1;
+    for x in bytes {
+        total += wide(*x);
     }
     total
 }

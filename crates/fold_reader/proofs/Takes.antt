@@ -2,19 +2,16 @@
 use Rattle.lists.proofs.Kit.{◌≡◌, refl, ap, sym, subst, ◌∙◌, List, [], ◌∷◌, ◌++◌, false, ℕ, suc, ◌+◌, ◌*◌, ◌-◌, ◌/◌, ◌≤◌, ◌<◌, arith, length, get_or, drop}
 use Rattle.lists.proofs.Kit.{drop-drop, get_or-drop}
 use Rattle.print.specs.Print.{Wrote}
-use Rattle.fold_blocks.specs.Bytes.{two_at, four_at, entry_at, entries_in}
-use Rattle.fold_blocks.specs.Listed.{blocks_of, folds_in, listed, count_all}
-use Rattle.fold_blocks.specs.Layout.{broken, is_broken}
-use Rattle.fold_blocks.proofs.Cuts.{block_at, cut_from, cut_start, broken_start, cut_on, count_at, listed_on, listed_end}
-use Rattle.fold_blocks.proofs.Rules.{Keeps, broken_first, length_entries_in}
-use Rattle.fold_blocks.proofs.Toward.{Toward, toward_start, toward_room, toward_on, toward_end}
+use Rattle.fold_blocks.specs.Bytes.{four_at, entry_at, entries_in}
+use Rattle.fold_blocks.specs.Listed.{blocks_of, folds_in, count_of, listed, count_all}
+use Rattle.fold_blocks.specs.Layout.{broken}
+use Rattle.fold_blocks.proofs.Cuts.{broken_next, listed_next, listed_end}
+use Rattle.fold_blocks.proofs.Rules.{Keeps, keeps, or_parts, length_entries_in}
+use Rattle.fold_blocks.proofs.Toward.{Toward, toward_room, toward_on, toward_end}
 
 -- the folds of a block from entry i on, of so many
 abbrev pub entries_from : List ℕ → ℕ → ℕ → List ℕ
 entries_from b count i = entries_in (count - i) (drop (4 + 9 * i) b)
-
-pub taking_start : (b : List ℕ) (count : ℕ) (out : List ℕ) (at : ℕ) → Toward out at (entries_in count (drop 4 b)) out at (entries_from b count 0)
-taking_start b count out at = let all : count - 0 ≡ count = omega arith in rw all (toward_start out at (entries_in count (drop 4 b)))
 
 entry_at_lem : (b : List ℕ) (i : ℕ) → entry_at (drop i b) 0 ≡ entry_at b i
 entry_at_lem b i = entry_by_lem b i (i + 4) (i + 8) refl refl
@@ -55,48 +52,43 @@ module _ (b : List ℕ) (count i : ℕ) where
   unfolding entries_in
   entries_done h = let none : count - i ≡ 0 = omega arith in rw none
 
--- block by block: how far the taking has come
-pub record Taking (f room out : List ℕ) (next k : ℕ) : Type 0 where
-  pub most : k ≤ length f / 512
-  pub laid : broken (length f / 512) (count_all (blocks_of f)) k (cut_from f (length f / 512) k) ≡ false
-  pub toward : Toward room 0 (folds_in f) out next (listed (cut_from f (length f / 512) k))
+-- block by block: how far the taking has come. `number` is that of the next block
+pub record Taking (f room out : List ℕ) (next size : ℕ) (left : List ℕ) : Type 0 where
+  pub full : size ≡ 512
+  pub number : ℕ
+  pub laid : broken (length f / 512) (count_all (blocks_of f)) number (blocks_of left) ≡ false
+  pub toward : Toward room 0 (folds_in f) out next (listed (blocks_of left))
 
-pub taking_begun : (f room : List ℕ) → is_broken f ≡ false → Taking f room room 0 0
-taking_begun f room e =
-    record {
-      most = omega arith;
-      laid = sym (broken_start f (count_all (blocks_of f)) refl) ∙ e;
-      toward = rw (cut_start f) (toward_start room 0 (folds_in f));
-    }
+module _ {f room out : List ℕ} {next size : ℕ} {left : List ℕ} (w : Taking f room out next size left) where
+  module _ (x rest : List ℕ) (cut_off : left ≡ x ++ rest) (long : length x ≡ size) where
+    first : Keeps (length f / 512) (count_all (blocks_of f)) w.number x ×
+        (broken (length f / 512) (count_all (blocks_of f)) (w.number + 1) (blocks_of rest) ≡ false)
+    first =
+        let parts = or_parts _ _ (sym (broken_next left x rest cut_off (long ∙ w.full) (length f / 512) (count_all (blocks_of f)) w.number) ∙ w.laid) in
+        (keeps (length f / 512) (count_all (blocks_of f)) w.number x parts.0, parts.1)
 
-module _ {f room out : List ℕ} {next k : ℕ} (w : Taking f room out next k) (h : k < length f / 512) where
-  first : Keeps (length f / 512) (count_all (blocks_of f)) k (block_at f (512 * k)) ×
-      (broken (length f / 512) (count_all (blocks_of f)) (k + 1) (cut_from f (length f / 512) (k + 1)) ≡ false)
-  first = broken_first (length f / 512) (count_all (blocks_of f)) k (block_at f (512 * k)) (cut_from f (length f / 512) (k + 1))
-      (rw (cut_on f (length f / 512) k h) at w.laid)
+    pub taking_few : count_of x ≤ 56
+    taking_few = first.0.few
 
-  pub taking_few : two_at f (512 * k + 2) ≤ 56
-  taking_few = rw (← count_at f (512 * k)) first.0.few
+    pub taking_room : length (folds_in f) ≤ length room → next + 3 * count_of x ≤ length out
+    taking_room r =
+        let piece = entries_in (count_of x) (drop 4 x) in
+        omega (
+          arith,
+          toward_room piece (listed (blocks_of rest)) w.toward (listed_next left x rest cut_off (long ∙ w.full)),
+          length_entries_in (count_of x) (drop 4 x),
+        )
 
-  pub taking_room : length (folds_in f) ≤ length room → next + 3 * two_at f (512 * k + 2) ≤ length out
-  taking_room r =
-      let piece = entries_in (two_at f (512 * k + 2)) (drop 4 (block_at f (512 * k))) in
-      omega (
-        arith,
-        toward_room piece (listed (cut_from f (length f / 512) (k + 1))) w.toward (listed_on f (length f / 512) k h),
-        length_entries_in (two_at f (512 * k + 2)) (drop 4 (block_at f (512 * k))),
-      )
+    pub taking_on : {size' : ℕ} → size' ≡ size → (count : ℕ) → count ≡ count_of x → {c : ℕ} {p : List ℕ} →
+        Wrote out next (entries_in count (drop 4 x)) c p → Taking f room p c size' rest
+    taking_on same count e {c} {p} v =
+        record {
+          full = same ∙ w.full;
+          number = w.number + 1;
+          laid = first.1;
+          toward = toward_on (entries_in (count_of x) (drop 4 x)) (listed (blocks_of rest)) w.toward (listed_next left x rest cut_off (long ∙ w.full))
+              (subst (λ (m : ℕ). Wrote out next (entries_in m (drop 4 x)) c p) e v);
+        }
 
-  pub taking_on : (count : ℕ) → count ≡ two_at f (512 * k + 2) → {c : ℕ} {p : List ℕ} → Wrote out next (entries_in count (drop 4 (block_at f (512 * k)))) c p →
-      Taking f room p c (k + 1)
-  taking_on count e {c} {p} v =
-      let part = drop 4 (block_at f (512 * k)) in
-      record {
-        most = omega arith;
-        laid = first.1;
-        toward = toward_on (entries_in (two_at f (512 * k + 2)) part) (listed (cut_from f (length f / 512) (k + 1))) w.toward (listed_on f (length f / 512) k h)
-            (subst (λ (m : ℕ). Wrote out next (entries_in m part) c p) e v);
-      }
-
-pub taking_end : {f room out : List ℕ} {next k : ℕ} → Taking f room out next k → length f / 512 ≤ k → Wrote room 0 (folds_in f) next out
-taking_end {f} {room} {out} {next} {k} w h = toward_end w.toward (listed_end f (length f / 512) k h)
+  pub taking_end : length left < size → Wrote room 0 (folds_in f) next out
+  taking_end h = toward_end w.toward (listed_end left (omega (arith, w.full)))

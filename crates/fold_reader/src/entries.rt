@@ -35,10 +35,8 @@ fn take_entries(block: &[u8], count: usize, out: &mut [u32], at: usize) -> usize
         out.new }
 {
     let mut next = at;
-    let mut i: usize = 0;
-    while i < count {
+    for i in 0..count {
         next = take_entry(block, 4 + 9 * i, out, next);
-        i += 1;
     }
     next
 }
@@ -49,15 +47,10 @@ pub fn take_all(file: &[u8], out: &mut [u32]) -> usize
     ensures { Wrote out.old 0 (folds_in file.now) result
         out.new }
 {
-    let many = file.len() / 512;
     let mut next: usize = 0;
-    let mut k: usize = 0;
-    while k < many {
-        let at = 512 * k;
-        let end = at + 512;
-        let count = fold_blocks::two_at(file, at + 2);
-        next = take_entries(&file[at..end], count, out, next);
-        k += 1;
+    for block in file.chunks_exact(512) {
+        let count = fold_blocks::two_at(block, 2);
+        next = take_entries(block, count, out, next);
     }
     next
 }

@@ -25,15 +25,10 @@ fn torn(block: &[u8]) -> bool
 fn any_torn(file: &[u8]) -> bool
     ensures { result ≡ any is_torn (blocks_of file.now) }
 {
-    let many = file.len() / 512;
-    let mut k: usize = 0;
-    while k < many {
-        let at = 512 * k;
-        let end = at + 512;
-        if torn(&file[at..end]) {
+    for block in file.chunks_exact(512) {
+        if torn(block) {
             return true;
         }
-        k += 1;
     }
     false
 }
@@ -43,10 +38,8 @@ fn used(bytes: &[u8]) -> bool
     ensures { result ≡ any is_used bytes.now }
 {
     let mut found = false;
-    let mut i: usize = 0;
-    while i < bytes.len() {
-        found = found | (bytes[i] != 0);
-        i += 1;
+    for x in bytes {
+        found |= *x != 0;
     }
     found
 }
@@ -82,12 +75,9 @@ fn count_all(file: &[u8]) -> usize
     requires { length file.now ≤ 2560 }
     ensures { result ≡ count_all (blocks_of file.now) }
 {
-    let many = file.len() / 512;
     let mut n: usize = 0;
-    let mut k: usize = 0;
-    while k < many {
-        n += fold_blocks::two_at(file, 512 * k + 2);
-        k += 1;
+    for block in file.chunks_exact(512) {
+        n += fold_blocks::two_at(block, 2);
     }
     n
 }
@@ -99,14 +89,10 @@ fn broken(file: &[u8]) -> bool
 {
     let many = file.len() / 512;
     let n = count_all(file);
-    let mut k: usize = 0;
-    while k < many {
-        let at = 512 * k;
-        let end = at + 512;
-        if breaks(&file[at..end], many, n, k) {
+    for (k, block) in file.chunks_exact(512).enumerate() {
+        if breaks(block, many, n, k) {
             return true;
         }
-        k += 1;
     }
     false
 }

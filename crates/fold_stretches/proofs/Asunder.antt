@@ -1,8 +1,8 @@
 -- Stretches of rows at which there is no closed fold: how one is found. Assumes nothing.
-use Rattle.lists.proofs.Kit.{◌≡◌, refl, ◌∙◌, List, Bool, true, false, and-false, ℕ, ◌+◌, ◌≤◌, ◌<◌, arith, length, get_or, drop, eqb, ltb, ne_eqb, le-ltb, lt-leb}
+use Rattle.lists.proofs.Kit.{◌≡◌, refl, ◌∙◌, List, ◌++◌, Bool, true, false, and-false, ℕ, ◌≤◌, ◌<◌, arith, length, get_or, eqb, ltb, ne_eqb, le-ltb, lt-leb}
 use Rattle.lists.proofs.Kit.{ltb-true}
 use Rattle.folds.specs.Folds.{any_fold, fold_hides, hidden}
-use Rattle.folds.proofs.Hiding.{any_fold_on, any_fold_end}
+use Rattle.folds.proofs.Hiding.{any_fold_next, any_fold_few}
 use Rattle.fold_stretches.specs.declared.Stretch.{Stretch}
 use Rattle.fold_stretches.specs.Stretches.{Apart, NoFold}
 
@@ -35,18 +35,21 @@ module _ {w : Stretch} {s e closed : ℕ} where
   pub apart_high : {r : Stretch} → w.lo ≤ r.lo → r.hi ≤ w.hi → r.hi ≤ s → Apart w s e closed r
   apart_high l h k = record { low = l; high = h; shown = λ x p q. hides_low x s e closed (omega arith) }
 
--- the folds before i hide no row of the stretch
-pub record NoFoldTo (folds : List ℕ) (w : Stretch) (i : ℕ) : Type 0 where
-  pub inside : i ≤ length folds + 2
-  pub shown : (row : ℕ) → w.lo ≤ row → row ≤ w.hi → hidden folds row ≡ any_fold (fold_hides row) (drop i folds)
+-- the folds before those that are left hide no row of the stretch
+pub record NoFoldTo (folds : List ℕ) (w : Stretch) (size : ℕ) (left : List ℕ) : Type 0 where
+  pub three : size ≡ 3
+  pub shown : (row : ℕ) → w.lo ≤ row → row ≤ w.hi → hidden folds row ≡ any_fold (fold_hides row) left
 
-module _ {folds : List ℕ} {w : Stretch} {i : ℕ} (so_far : NoFoldTo folds w i) where
-  pub no_fold_step : {r : Stretch} → i + 2 < length folds → Apart w (get_or folds i 0) (get_or folds (i + 1) 0) (get_or folds (i + 2) 0) r → NoFoldTo folds r (i + 3)
-  no_fold_step h a =
+module _ {folds : List ℕ} {w : Stretch} {size : ℕ} {left : List ℕ} (so_far : NoFoldTo folds w size left) where
+  pub no_fold_step : (x rest : List ℕ) {r : Stretch} {size' : ℕ} → size' ≡ size → left ≡ x ++ rest → length x ≡ size →
+      Apart w (get_or x 0 0) (get_or x 1 0) (get_or x 2 0) r → NoFoldTo folds r size' rest
+  no_fold_step x rest same next full a =
       record {
-        inside = omega arith;
-        shown = λ row p q. so_far.shown row (omega (arith, a.low)) (omega (arith, a.high)) ∙ any_fold_on folds i h (fold_hides row) ∙ rw (a.shown row p q);
+        three = same ∙ so_far.three;
+        shown = λ row p q. so_far.shown row (omega (arith, a.low)) (omega (arith, a.high))
+            ∙ any_fold_next left x rest next (full ∙ so_far.three) (fold_hides row) ∙ rw (a.shown row p q);
       }
 
-  pub no_fold_end : length folds ≤ i + 2 → NoFold folds w
-  no_fold_end h = record { shown = λ row p q. so_far.shown row p q ∙ any_fold_end folds i h (fold_hides row) }
+  pub no_fold_end : length left < size → NoFold folds w
+  no_fold_end h =
+      record { shown = λ row p q. so_far.shown row p q ∙ any_fold_few (fold_hides row) left (omega (arith, so_far.three)) }

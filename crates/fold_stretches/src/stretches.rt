@@ -39,10 +39,8 @@ pub fn around(folds: &[u32], rows: usize, row: usize) -> Stretch
     ensures { NoFold folds.now result }
 {
     let mut w = Stretch { lo: 0, hi: rows };
-    let mut i: usize = 0;
-    while i + 2 < folds.len() {
-        w = apart(w, row, folds[i], folds[i + 1], folds[i + 2]);
-        i += 3;
+    for fold in folds.chunks_exact(3) {
+        w = apart(w, row, fold[0], fold[1], fold[2]);
     }
     w
 }

@@ -38,11 +38,9 @@ fn put_folds(out: &mut [u8], folds: &[u32]) -> usize
         out.new }
 {
     let mut at = put(out, 0, b'w');
-    let mut i: usize = 0;
-    while i < folds.len() {
+    for x in folds {
         let next = put(out, at, b' ');
-        at = put_decimal(out, next, folds[i]);
-        i += 1;
+        at = put_decimal(out, next, *x);
     }
     put(out, at, b'\n')
 }

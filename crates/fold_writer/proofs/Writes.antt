@@ -1,26 +1,28 @@
 -- Laws of what the writer lays down: zeros, the bytes that a sum is taken of, and the folds of a block. Assumes nothing.
-use Rattle.lists.proofs.Kit.{◌≡◌, refl, sym, subst, ◌∙◌, List, [], ◌∷◌, ◌++◌, append_assoc, ℕ, ◌+◌, ◌*◌, ◌-◌, ◌%◌, ◌≤◌, ◌<◌, dec_lt, arith, length, take, drop}
-use Rattle.lists.proofs.Kit.{set, replicate, length-replicate, replicate-append-replicate, length-set, length-drop, drop_of_length-le, sets-eq, take_at}
+use Rattle.lists.proofs.Kit.{◌≡◌, refl, sym, subst, ◌∙◌, List, ◌++◌, append_assoc, ℕ, ◌+◌, ◌*◌, ◌-◌, ◌%◌, ◌≤◌, ◌<◌, dec_lt, arith, length, take, drop}
+use Rattle.lists.proofs.Kit.{replicate, length-replicate, length-drop, drop_of_length-le, sets-eq, take_at}
 use Rattle.lists.proofs.Kit.{drop_at, take_all, drop-drop, length-take-le}
+use borrow.Rule.Slice.PartMut.{put_mid, same_len_mid}
 use Rattle.print.specs.Print.{Wrote}
 use Rattle.print.proofs.Laws.{wrote_then}
 use Rattle.fold_blocks.specs.Bytes.{two, sum}
 use Rattle.fold_blocks.specs.Files.{count_in, body, block}
 use Rattle.fold_writer.specs.Writing.{Ends}
 
--- a zero more
-pub wrote_zero :
-    {out o : List ℕ} {at : ℕ} (i : ℕ) → Wrote out at (replicate i 0) (at + i) o → Wrote out at (replicate (i + 1) 0) (at + (i + 1)) (set o (at + i) 0)
-wrote_zero {out} {o} {at} i w =
-    let value : ℕ = 0 in
-    let wrote : Wrote o (at + i) (value ∷ []) (at + (i + 1)) (set o (at + i) 0) =
-    record { next = omega arith; left = refl; size = length-set o (at + i) 0 } in
-    rw (replicate-append-replicate {A = ℕ} i 1 0) at (wrote_then w wrote)
-
-pub wrote_zeros : {out o : List ℕ} {at : ℕ} (i n : ℕ) → i ≤ n → n ≤ i → Wrote out at (replicate i 0) (at + i) o → Wrote out at (replicate n 0) (at + i) o
-wrote_zeros {out} {o} {at} i n h k w =
-    let i_is : i ≡ n = omega arith in
-    subst (λ (m : ℕ). Wrote out at (replicate m 0) (at + i) o) i_is w
+-- zeros filled in
+pub wrote_fill : (out : List ℕ) (at n k m : ℕ) {x : List ℕ} → at + n ≤ length out → k ≡ n → m ≡ n → x ≡ replicate m 0 →
+    Wrote out at (replicate n 0) (at + n) (put_mid at k out x)
+wrote_fill out at n k m h few many e =
+    let zeros : List ℕ = replicate n 0 in
+    let size : length zeros ≡ n = length-replicate n 0 in
+    let part : length (take n (drop at out)) ≡ n = length-take-le n (drop at out) (omega (arith, length-drop at out)) in
+    rw (e, many, few) (
+    record {
+      next = omega (arith, size);
+      left = rw (drop-drop n at out, sets-eq zeros out at (omega (arith, size)), size, append_assoc (take at out) zeros (drop (at + n) out));
+      size = same_len_mid at n out zeros (size ∙ sym part);
+    }
+    )
 
 -- what was written stands there
 pub wrote_part : {out o s : List ℕ} {at r : ℕ} → Wrote out at s r o → at + length s ≤ length out → take (r - at) (drop at o) ≡ s

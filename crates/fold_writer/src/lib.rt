@@ -23,10 +23,8 @@ fn put_entries(out: &mut [u8], at: usize, folds: &[u32]) -> usize
         out.new }
 {
     let mut next = at;
-    let mut i: usize = 0;
-    while i + 2 < folds.len() {
-        next = fold_blocks::put_entry(out, next, folds[i], folds[i + 1], folds[i + 2]);
-        i += 3;
+    for fold in folds.chunks_exact(3) {
+        next = fold_blocks::put_entry(out, next, fold[0], fold[1], fold[2]);
     }
     next
 }
@@ -36,12 +34,9 @@ fn put_zeros(out: &mut [u8], at: usize, n: usize) -> usize
     requires { at + n ≤ length out.old }
     ensures { Wrote out.old at (replicate n 0) result out.new }
 {
-    let mut i: usize = 0;
-    while i < n {
-        out[at + i] = 0;
-        i += 1;
-    }
-    at + i
+    let end = at + n;
+    out[at..end].fill(0);
+    end
 }
 
 // Writes the first 510 bytes of block k of a file of n folds, with these folds in it.
@@ -101,12 +96,10 @@ fn put_blocks(out: &mut [u8], folds: &[u32]) -> usize
     let many = blocks_for(n);
     let mut at: usize = 0;
     let mut from: usize = 0;
-    let mut k: usize = 0;
-    while k < many {
+    for k in 0..many {
         let to = end_of(from, folds.len());
         at = put_block(out, at, n, k, &folds[from..to]);
         from = to;
-        k += 1;
     }
     at
 }

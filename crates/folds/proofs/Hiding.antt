@@ -1,53 +1,53 @@
 -- Laws of folds: a loop over them three numbers at a time, and what the first fold that hides a row says.
 -- Assumes nothing.
-use Rattle.lists.proofs.Kit.{◌≡◌, refl, List, [], ◌∷◌, Bool, true, false, cond, ◌&&◌, ◌||◌, or-true, ℕ, ◌+◌, ◌≤◌, ◌<◌, arith, length, get_or, drop, length-drop}
+use Rattle.lists.proofs.Kit.{◌≡◌, refl, List, [], ◌∷◌, ◌++◌, Bool, true, false, cond, ◌&&◌, ◌||◌, or-true, ℕ, ◌≤◌, ◌<◌, arith, length, get_or}
 use Rattle.lists.proofs.Kit.{eqb, ltb, leb, ltb-true, leb-true, leb-false, lt-ltb, le-leb}
 use Rattle.folds.specs.Folds.{any_fold, bad_fold, fold_hides, hidden}
 use Rattle.folds.specs.Cover.{cover_of}
 use Rattle.folds.specs.declared.Span.{Span}
 use Rattle.folds.specs.declared.Span.TheVariants.{Of, NoSpan}
 use Rattle.lists.proofs.Both.{both}
-use Rattle.lists.proofs.Lists.{drop_at}
-
--- three numbers at an index
-module _ (l : List ℕ) (i : ℕ) (h : i + 2 < length l) where
-  drop_three : drop i l ≡ get_or l i 0 ∷ get_or l (i + 1) 0 ∷ get_or l (i + 2) 0 ∷ drop (i + 3) l
-  drop_three =
-      let two : i + 1 + 1 ≡ i + 2 = omega arith in
-      let three : i + 2 + 1 ≡ i + 3 = omega arith in
-      rw (drop_at l i (omega arith), drop_at l (i + 1) (omega arith), two, drop_at l (i + 2) h, three)
-
-  pub any_fold_on : (p : ℕ → ℕ → ℕ → Bool) → any_fold p (drop i l) ≡ (p (get_or l i 0) (get_or l (i + 1) 0) (get_or l (i + 2) 0) || any_fold p (drop (i + 3) l))
-  unfolding any_fold
-  any_fold_on p = rw drop_three
-
-  pub cover_on : (row : ℕ) →
-      cover_of (drop i l) row ≡ cond (fold_hides row (get_or l i 0) (get_or l (i + 1) 0) (get_or l (i + 2) 0)) (Of (get_or l i 0) (get_or l (i + 1) 0))
-      (cover_of (drop (i + 3) l) row)
-  unfolding cover_of
-  cover_on row = rw drop_three
 
 -- fewer than three numbers are no fold
-any_fold_few : (p : ℕ → ℕ → ℕ → Bool) (l : List ℕ) → length l ≤ 2 → any_fold p l ≡ false
+pub any_fold_few : (p : ℕ → ℕ → ℕ → Bool) (l : List ℕ) → length l ≤ 2 → any_fold p l ≡ false
 unfolding any_fold
 any_fold_few p [] h = refl
 any_fold_few p (s ∷ []) h = refl
 any_fold_few p (s ∷ e ∷ []) h = refl
 any_fold_few p (s ∷ e ∷ k ∷ l) h = absurd (omega arith)
 
-cover_few : (l : List ℕ) (row : ℕ) → length l ≤ 2 → cover_of l row ≡ NoSpan
+pub cover_few : (l : List ℕ) (row : ℕ) → length l ≤ 2 → cover_of l row ≡ NoSpan
 unfolding cover_of
 cover_few [] row h = refl
 cover_few (s ∷ []) row h = refl
 cover_few (s ∷ e ∷ []) row h = refl
 cover_few (s ∷ e ∷ k ∷ l) row h = absurd (omega arith)
 
-module _ (l : List ℕ) (i : ℕ) (h : length l ≤ i + 2) where
-  pub any_fold_end : (p : ℕ → ℕ → ℕ → Bool) → any_fold p (drop i l) ≡ false
-  any_fold_end p = any_fold_few p (drop i l) (omega (arith, length-drop i l))
+-- the next three numbers of what is left
+module _ (l x rest : List ℕ) (next : l ≡ x ++ rest) (three : length x ≡ 3) where
+  pub any_fold_next : (p : ℕ → ℕ → ℕ → Bool) → any_fold p l ≡ (p (get_or x 0 0) (get_or x 1 0) (get_or x 2 0) || any_fold p rest)
+  unfolding any_fold
+  any_fold_next p = rw next (go x three)
+    where
+      go : (x : List ℕ) → length x ≡ 3 → any_fold p (x ++ rest) ≡ (p (get_or x 0 0) (get_or x 1 0) (get_or x 2 0) || any_fold p rest)
+      go [] h = absurd (omega arith)
+      go (s ∷ []) h = absurd (omega arith)
+      go (s ∷ e ∷ []) h = absurd (omega arith)
+      go (s ∷ e ∷ k ∷ []) h = refl
+      go (s ∷ e ∷ k ∷ y ∷ x) h = absurd (omega arith)
 
-  pub cover_end : (row : ℕ) → cover_of (drop i l) row ≡ NoSpan
-  cover_end row = cover_few (drop i l) row (omega (arith, length-drop i l))
+  pub cover_next : (row : ℕ) →
+      cover_of l row ≡ cond (fold_hides row (get_or x 0 0) (get_or x 1 0) (get_or x 2 0)) (Of (get_or x 0 0) (get_or x 1 0)) (cover_of rest row)
+  unfolding cover_of
+  cover_next row = rw next (go x three)
+    where
+      go : (x : List ℕ) → length x ≡ 3 →
+          cover_of (x ++ rest) row ≡ cond (fold_hides row (get_or x 0 0) (get_or x 1 0) (get_or x 2 0)) (Of (get_or x 0 0) (get_or x 1 0)) (cover_of rest row)
+      go [] h = absurd (omega arith)
+      go (s ∷ []) h = absurd (omega arith)
+      go (s ∷ e ∷ []) h = absurd (omega arith)
+      go (s ∷ e ∷ k ∷ []) h = refl
+      go (s ∷ e ∷ k ∷ y ∷ x) h = absurd (omega arith)
 
 -- what the answer of `cover_of` says: no fold hides the row, or all rows of that fold are hidden, and it ends inside the rows
 abbrev pub Covers : List ℕ → ℕ → Span → Type 0

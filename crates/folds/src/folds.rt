@@ -26,12 +26,10 @@ pub fn fold_refusal(folds: &[u32], rows: usize) -> u32
     if folds.len() / 3 > 256 {
         return 5;
     }
-    let mut i: usize = 0;
-    while i + 2 < folds.len() {
-        if bad_fold(rows, folds[i], folds[i + 1], folds[i + 2]) {
+    for fold in folds.chunks_exact(3) {
+        if bad_fold(rows, fold[0], fold[1], fold[2]) {
             return 5;
         }
-        i += 3;
     }
     0
 }
@@ -47,14 +45,12 @@ fn fold_hides(row: usize, s: u32, e: u32, closed: u32) -> bool
 fn cover(folds: &[u32], row: usize) -> Span
     ensures { result ≡ cover_of folds.now row }
 {
-    let mut i: usize = 0;
-    while i + 2 < folds.len() {
-        let s = folds[i];
-        let e = folds[i + 1];
-        if fold_hides(row, s, e, folds[i + 2]) {
+    for fold in folds.chunks_exact(3) {
+        let s = fold[0];
+        let e = fold[1];
+        if fold_hides(row, s, e, fold[2]) {
             return Span::Of(s as usize, e as usize);
         }
-        i += 3;
     }
     Span::NoSpan
 }
@@ -71,7 +67,7 @@ pub fn is_row_hidden(folds: &[u32], row: usize) -> bool
 
 // The first row after `row` that no fold hides. From a hidden row it goes on behind the end of a
 // fold that hides it, so that each fold is passed at most once: a pass over the folds for each
-// fold, not for each row.
+// fold, not for each row. A `while`: the step differs from turn to turn.
 pub fn next_visible_row(folds: &[u32], rows: usize, row: usize) -> Visible
     requires { (fold_refusal folds.now rows ≡ 0) × (row < rows) }
     ensures { result ≡ next_visible folds.now rows row }
@@ -91,7 +87,7 @@ pub fn next_visible_row(folds: &[u32], rows: usize, row: usize) -> Visible
 }
 
 // The last row before `row` that no fold hides. From a hidden row it goes on at the start of a fold
-// that hides it.
+// that hides it. A `while`: the step differs from turn to turn.
 pub fn prev_visible_row(folds: &[u32], row: usize) -> Visible
     ensures { result ≡ prev_visible folds.now row }
 {

@@ -23,15 +23,13 @@ fn kind_refusal(jumps: &[u32]) -> u32
     ensures { result ≡ kind_refusal jumps.now }
 {
     let n = jumps.len();
-    let mut i: usize = 0;
-    while i < n {
+    for i in (0..n).step_by(2) {
         if i + 1 == n {
             return 22;
         }
         if jumps[i] > 3 {
             return 22;
         }
-        i += 2;
     }
     0
 }

@@ -76,17 +76,14 @@ fn run(
         jumps.now answers.old (place_of t.now p) result
         answers.new }
 {
-    let n = jumps.len();
     let mut cur = p;
     let mut w = fold_stretches::around(folds, s.rows, p.row);
-    let mut i: usize = 0;
-    while i < n {
+    for i in (0..jumps.len()).step_by(2) {
         let r = jump(
             t, table, folds, bounds, starts, lengths, s, jumps, i, answers, w, cur,
         );
         cur = r.spot;
         w = r.stretch;
-        i += 2;
     }
     cur
 }

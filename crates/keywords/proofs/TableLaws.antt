@@ -1,6 +1,8 @@
--- Laws of the table: a token pushed on it, and the reading of a list into it. Assumes nothing.
+-- Laws of the table: a token pushed on it, a test of its tokens, and the reading of a list into it. Assumes nothing.
 use Rattle.lists.proofs.Kit.{◌≡◌, ap, sym, ◌∙◌, List, [], ◌∷◌, ◌++◌, append-nil, append_assoc, ℕ, ◌+◌, ◌-◌, ◌≤◌, ◌<◌, arith, length, length-append, replicate}
-use Rattle.lists.proofs.Kit.{take-append_seam}
+use Rattle.lists.proofs.Kit.{Bool, false, ◌||◌, get_or, drop, drop_of_length-le, take-append_seam}
+use Rattle.lists.specs.Lists.{any}
+use Rattle.lists.proofs.Lists.{drop_at_of as drop_at}
 use Rattle.list_tokens.specs.declared.Token.{Token}
 use Rattle.list_tokens.specs.declared.tokens.Step.{Step}
 use Rattle.keywords.specs.declared.KeywordSpec.{KeywordSpec}
@@ -16,6 +18,16 @@ table_push ts t h = λ i. record { tokens = fill_push 128 no_token ts t h i; len
 
 pub table_kept : (ts : List Token) → kept (table ts) ≡ ts
 table_kept ts = take-append_seam ts (replicate (128 - length ts) no_token)
+
+-- a test of some token, at a place of a table's tokens and behind the last one
+module _ (f : Token → Bool) (ts : List Token) (i : ℕ) where
+  pub any_here : i < length ts → any f (drop i ts) ≡ (f (get_or ts i no_token) || any f (drop (i + 1) ts))
+  unfolding any
+  any_here h = rw (drop_at ts i no_token h)
+
+  pub any_past : length ts ≤ i → any f (drop i ts) ≡ false
+  unfolding any
+  any_past h = rw (drop_of_length-le ts h)
 
 -- reading so far: the table holds ts, and the parts from an index on have the rest of the list's tokens
 pub record Reading (l : List ℕ) (spec : KeywordSpec) (i : ℕ) : Type 0 where

@@ -14,13 +14,9 @@ pub fn bounds_of(spec: KeywordSpec) -> [u32; 256]
     ensures { result ≡ padded (flat (kept spec)) }
 {
     let mut bounds = [0u32; 256];
-    let n = spec.len;
-    let mut i: usize = 0;
-    while i < n {
-        let t = spec.tokens[i];
+    for (i, t) in spec.tokens[..spec.len].iter().enumerate() {
         bounds[i + i] = t.low();
         bounds[i + i + 1] = t.high();
-        i += 1;
     }
     bounds
 }
@@ -30,14 +26,10 @@ pub fn letters_of(spec: KeywordSpec) -> bool
     requires { spec.len ≤ 128 }
     ensures { result ≡ any_alpha (kept spec) }
 {
-    let n = spec.len;
-    let mut i: usize = 0;
-    while i < n {
-        let t = spec.tokens[i];
+    for t in &spec.tokens[..spec.len] {
         if t.kind == 1 {
             return true;
         }
-        i += 1;
     }
     false
 }
@@ -47,14 +39,12 @@ pub fn in_bounds(bounds: &[u32], n: usize, c: u32) -> bool
     requires { n + n ≤ length bounds.now }
     ensures { result ≡ within (take (n + n) bounds.now) c }
 {
-    let mut i: usize = 0;
-    while i < n {
+    for i in 0..n {
         let lo = bounds[i + i];
         let hi = bounds[i + i + 1];
         if (lo <= c) & (c <= hi) {
             return true;
         }
-        i += 1;
     }
     false
 }

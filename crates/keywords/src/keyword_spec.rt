@@ -35,14 +35,10 @@ impl KeywordSpec {
         ensures { result ≡ any_token (kept self) c }
     {
         let letter = letters::is_letter(c);
-        let n = self.len;
-        let mut i: usize = 0;
-        while i < n {
-            let t = self.tokens[i];
+        for t in &self.tokens[..self.len] {
             if t.holds(letter, c) {
                 return true;
             }
-            i += 1;
         }
         false
     }
@@ -67,10 +63,7 @@ fn refused(n: u32) -> Parsed
     ensures { result ≡ refused_by n }
 {
     let spec = KeywordSpec::new();
-    Parsed {
-        refusal: n,
-        spec: spec,
-    }
+    Parsed { refusal: n, spec }
 }
 
 // The table of an accepted list; refuses 8.
@@ -79,6 +72,7 @@ fn read_all(list: &[u32]) -> Parsed
 {
     let mut spec = KeywordSpec::new();
     let mut from: usize = 0;
+    // A `while`: it goes on by a part and its comma.
     while from <= list.len() {
         let step = list_tokens::read_part(list, from);
         let t = step.token;
@@ -94,10 +88,7 @@ fn read_all(list: &[u32]) -> Parsed
             from = step.next;
         }
     }
-    Parsed {
-        refusal: 0,
-        spec: spec,
-    }
+    Parsed { refusal: 0, spec }
 }
 
 // Whether a token of the list holds c, without a table.
@@ -106,6 +97,7 @@ fn list_holds(list: &[u32], c: u32) -> bool
 {
     let letter = letters::is_letter(c);
     let mut from: usize = 0;
+    // A `while`: it goes on by a part and its comma.
     while from <= list.len() {
         let step = list_tokens::read_part(list, from);
         let t = step.token;

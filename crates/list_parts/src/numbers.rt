@@ -24,20 +24,17 @@ fn digits(p: &[u32]) -> Number
         return Number::Not;
     }
     let mut sum: u64 = 0;
-    let mut i: usize = 0;
-    while i < p.len() {
-        let x = p[i];
-        if x < ZERO {
+    for x in p {
+        if *x < ZERO {
             return Number::Not;
         }
-        if NINE < x {
+        if NINE < *x {
             return Number::Not;
         }
-        sum = sum * 10 + (x - ZERO) as u64;
+        sum = sum * 10 + (*x - ZERO) as u64;
         if 0xffff_ffff < sum {
             return Number::Not;
         }
-        i += 1;
     }
     Number::Value(sum as u32)
 }

@@ -10,14 +10,12 @@ pub fn find(list: &[u32], from: usize, x: u32) -> usize
     requires { from ≤ length list.now }
     ensures { result ≡ from + up_to x (drop from list.now) }
 {
-    let mut i = from;
-    while i < list.len() {
+    for i in from..list.len() {
         if list[i] == x {
             return i;
         }
-        i += 1;
     }
-    i
+    list.len()
 }
 
 // By the table WHITE, which is lent: where the part begins once white space before it is left out.
@@ -25,14 +23,12 @@ fn trim_start(white: &[u32], p: &[u32]) -> usize
     requires { white.now ≡ whites }
     ensures { Begun p.now result }
 {
-    let mut i: usize = 0;
-    while i < p.len() {
-        if !chars::white_in(white, p[i]) {
+    for (i, x) in p.iter().enumerate() {
+        if !chars::white_in(white, *x) {
             return i;
         }
-        i += 1;
     }
-    i
+    p.len()
 }
 
 // By the same table: where it ends once white space after it is left out.
@@ -40,14 +36,12 @@ fn trim_end(white: &[u32], p: &[u32]) -> usize
     requires { white.now ≡ whites }
     ensures { Ended p.now result }
 {
-    let mut e = p.len();
-    while 0 < e {
-        if !chars::white_in(white, p[e - 1]) {
-            return e;
+    for i in (0..p.len()).rev() {
+        if !chars::white_in(white, p[i]) {
+            return i + 1;
         }
-        e -= 1;
     }
-    e
+    0
 }
 
 // The part without white space at its ends.

@@ -10,13 +10,9 @@ fn count_plain(list: &[u32], marks: &[bool]) -> usize
     ensures { result ≡ length (without list.now marks.now) }
 {
     let mut n: usize = 0;
-    let mut i: usize = 0;
-    while i < list.len() {
-        if marks[i] {
-            i += 1;
-        } else {
+    for i in 0..list.len() {
+        if !marks[i] {
             n += 1;
-            i += 1;
         }
     }
     n
@@ -29,14 +25,10 @@ fn write_plain(list: &[u32], marks: &[bool], room: &mut [u32])
         ++ drop (length (without list.now marks.now)) room.old }
 {
     let mut n: usize = 0;
-    let mut i: usize = 0;
-    while i < list.len() {
-        if marks[i] {
-            i += 1;
-        } else {
-            room[n] = list[i];
+    for (i, x) in list.iter().enumerate() {
+        if !marks[i] {
+            room[n] = *x;
             n += 1;
-            i += 1;
         }
     }
 }

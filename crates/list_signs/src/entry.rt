@@ -10,14 +10,12 @@ fn first_mark(list: &[u32], marks: &[bool]) -> usize
     requires { length list.now ≤ length marks.now }
     ensures { result ≡ first_in list.now marks.now }
 {
-    let mut i: usize = 0;
-    while i < list.len() {
+    for i in 0..list.len() {
         if marks[i] {
             return i;
         }
-        i += 1;
     }
-    i
+    list.len()
 }
 
 // A refusal and its place, with the empty table in the table's place.
@@ -27,8 +25,8 @@ fn refused_at(n: u32, place: usize) -> Entered
     let spec = KeywordSpec::new();
     Entered {
         refusal: n,
-        place: place,
-        spec: spec,
+        place,
+        spec,
     }
 }
 
@@ -50,6 +48,6 @@ pub fn enter(list: &[u32]) -> Entered
     Entered {
         refusal: read.refusal,
         place: 0,
-        spec: spec,
+        spec,
     }
 }

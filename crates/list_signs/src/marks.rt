@@ -102,6 +102,7 @@ pub fn marks_of(list: &[u32]) -> [bool; 1026]
 {
     let mut marks = [false; 1026];
     let mut from: usize = 0;
+    // A `while`: it goes on by a part and its comma.
     while from <= list.len() {
         let e = list_parts::find(list, from, COMMA);
         mark_part(&list[from..e], from, &mut marks);

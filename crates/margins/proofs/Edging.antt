@@ -62,6 +62,6 @@ module _ {row : List ℕ} {n : ℕ} (so_far : SolidTo row n) where
   pub solid_stop : 0 < n → is_white (get_or row (n - 1) 0) ≡ false → n ≡ solid_of row
   solid_stop p e = sym (so_far.same ∙ solid_last row n p so_far.inside ∙ rw e)
 
-  pub solid_end : n ≤ 0 → n ≡ solid_of row
+  pub solid_end : n ≤ 0 → 0 ≡ solid_of row
   unfolding solid_of
-  solid_end h = let none : n ≡ 0 = omega arith in none ∙ sym (so_far.same ∙ rw none)
+  solid_end h = let none : n ≡ 0 = omega arith in sym (so_far.same ∙ rw none)

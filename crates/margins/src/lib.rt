@@ -21,14 +21,12 @@ fn is_blank(x: u32) -> bool
 fn indent(row: &[u32]) -> usize
     ensures { result ≡ indent_of row.now }
 {
-    let mut i: usize = 0;
-    while i < row.len() {
-        if !is_blank(row[i]) {
+    for (i, x) in row.iter().enumerate() {
+        if !is_blank(*x) {
             return i;
         }
-        i += 1;
     }
-    i
+    row.len()
 }
 
 // The first column of a row that is no blank, or its last column where there is none.
@@ -45,15 +43,12 @@ fn solid(white: &[u32], row: &[u32]) -> usize
     requires { white.now ≡ whites }
     ensures { result ≡ solid_of row.now }
 {
-    let mut n = row.len();
-    while n > 0 {
-        let b = n - 1;
+    for b in (0..row.len()).rev() {
         if !chars::white_in(white, row[b]) {
-            return n;
+            return b + 1;
         }
-        n = b;
     }
-    n
+    0
 }
 
 // The last column of a row that is no white space, or column 0 where there is none.

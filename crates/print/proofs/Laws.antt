@@ -1,6 +1,9 @@
 -- Laws of what is written: one piece after another, bytes one by one, and a number digit by digit. Assumes nothing.
 use Rattle.lists.proofs.Kit.{◌≡◌, refl, ap, sym, subst, ◌∙◌, List, [], ◌∷◌, ◌++◌, Bool, true, false, cond, ℕ, zero, suc, ◌+◌, ◌/◌, ◌%◌, ◌^◌, ◌≤◌, ◌<◌, add-zero}
 use Rattle.lists.proofs.Kit.{pow-suc, add-one, dec_lt, arith, length, get_or, set, take, length-append, length-set, sets, take-suc, take_all, ltb, lt-ltb, le-ltb}
+use Rattle.lists.proofs.Kit.{drop, sets-eq, length-sets, paste}
+use Rattle.std.proofs.lemmas.Slice.{put_mid-paste}
+use borrow.Rule.Slice.PartMut.{put_mid}
 use Rattle.print.specs.Print.{Wrote, spell, decimal}
 
 -- one after another
@@ -66,6 +69,16 @@ wrote_small {out} {at} {n} {b} {o} h w = subst (λ (s : List ℕ). Wrote out at 
 pub wrote_more : {out : List ℕ} {at n b c : ℕ} {o p : List ℕ} → 10 ≤ n → n < 2 ^ 32 → Wrote out at (decimal (n / 10)) b o → Wrote o b ((48 + n % 10) ∷ []) c p →
     Wrote out at (decimal n) c p
 wrote_more {out} {at} {n} {b} {c} {o} {p} h k v w = subst (λ (s : List ℕ). Wrote out at s c p) (sym (decimal_more n h k)) (wrote_then v w)
+
+-- s written over a part at once: ys is what the part of k places holds then
+pub wrote_put : {out s ys : List ℕ} {at k b : ℕ} → ys ≡ s → length s ≡ k → at + length s ≤ length out → b ≡ at + length s →
+    Wrote out at s b (put_mid at k out ys)
+wrote_put {out} {s} {ys} {at} {k} q n h e =
+    let pasted : put_mid at k out ys ≡ paste out at s (length s) = put_mid-paste at k out ys s (length s) q n refl in
+    let whole : paste out at s (length s) ≡ sets out at s =
+    ap (λ (x : List ℕ). take at out ++ x ++ drop (at + length s) out) (take_all (length s) s (omega arith)) ∙ sym (sets-eq s out at h) in
+    let left : put_mid at k out ys ≡ sets out at s = pasted ∙ whole in
+    record { next = e; left = left; size = ap length left ∙ length-sets out at s }
 
 -- one byte more of s
 pub wrote_byte : {out o : List ℕ} {at : ℕ} (s : List ℕ) (i : ℕ) → Wrote out at (take i s) (at + i) o → i < length s →

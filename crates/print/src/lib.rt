@@ -20,12 +20,9 @@ pub fn put_bytes(out: &mut [u8], at: usize, s: &[u8]) -> usize
     requires { at + length s.now ≤ length out.old }
     ensures { Wrote out.old at s.now result out.new }
 {
-    let mut i: usize = 0;
-    while i < s.len() {
-        out[at + i] = s[i];
-        i += 1;
-    }
-    at + i
+    let next = at + s.len();
+    out[at..next].copy_from_slice(s);
+    next
 }
 
 // Writes n in decimal.

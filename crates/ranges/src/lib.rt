@@ -16,6 +16,7 @@ fn up_to_end(table: &[u32], x: u32, end: usize) -> usize
 {
     let mut low: usize = 0;
     let mut high: usize = end;
+    // A `while`: its steps halve, and the innermost walks ask this.
     while low < high {
         let mid = low + (high - low) / 2;
         if table[mid] <= x {

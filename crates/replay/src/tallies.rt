@@ -16,7 +16,7 @@ fn row_verdict(row: &[u8], room: &mut [u32]) -> Verdict
     }
 }
 
-// The verdicts of all rows.
+// The verdicts of all rows. A `while`: the step differs from turn to turn.
 pub fn tally_of(bytes: &[u8]) -> Tally
     ensures { result ≡ tally_of bytes.now }
 {

@@ -20,12 +20,10 @@ fn same_bytes(a: &[u8], b: &[u32]) -> bool
     if a.len() != b.len() {
         return false;
     }
-    let mut i: usize = 0;
-    while i < a.len() {
-        if a[i] as u32 != b[i] {
+    for (i, x) in a.iter().enumerate() {
+        if *x as u32 != b[i] {
             return false;
         }
-        i += 1;
     }
     true
 }

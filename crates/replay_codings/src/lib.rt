@@ -17,14 +17,11 @@ pub fn narrow(numbers: &[u32], bytes: &mut [u8]) -> bool
     ensures { Narrowed numbers.now (length bytes.old) result
         bytes.new }
 {
-    let mut i: usize = 0;
-    while i < numbers.len() {
-        let x = numbers[i];
-        if x > 255 {
+    for (i, x) in numbers.iter().enumerate() {
+        if *x > 255 {
             return false;
         }
-        bytes[i] = x as u8;
-        i += 1;
+        bytes[i] = *x as u8;
     }
     true
 }
@@ -34,10 +31,8 @@ pub fn widen(bytes: &[u8], numbers: &mut [u32])
     requires { length numbers.old ≡ length bytes.now }
     ensures { numbers.new ≡ bytes.now }
 {
-    let mut i: usize = 0;
-    while i < bytes.len() {
-        numbers[i] = bytes[i] as u32;
-        i += 1;
+    for (i, b) in bytes.iter().enumerate() {
+        numbers[i] = *b as u32;
     }
 }
 

@@ -1,4 +1,7 @@
 -- Laws of what an edit comes to, and of what stands at the start of room. Assumes nothing.
+use borrow.Rule.Slice.PartMut.{put_mid}
+use Rattle.std.proofs.lemmas.Slice.{put_mid-paste}
+use Rattle.lists.proofs.Kit.{ap, sym, ◌+◌, drop, sets, length-sets, paste, take_all}
 use Rattle.lists.proofs.Kit.{◌≡◌, refl, ◌∙◌, List, [], ◌∷◌, ◌++◌, ℕ, ◌≤◌, arith, length, take, sets-eq, take_at, eq-eqb, ne_eqb}
 use Rattle.print.specs.Print.{Wrote}
 use Rattle.call_edits.specs.Edits.{position_at}
@@ -6,6 +9,16 @@ use Rattle.replay_rows.specs.declared.Head.{Head}
 use Rattle.replay_verdicts.specs.declared.Verdict.{Verdict}
 use Rattle.replay_verdicts.specs.Answers.{compared}
 use Rattle.replay_edits.specs.Edits.{from, to, put, caret_lent, sizes_lent, Edits, edited_into}
+
+-- numbers written over a part at once: ys is what the part of k places holds then
+pub wrote_put : {out s ys : List ℕ} {at k n : ℕ} → ys ≡ s → length s ≡ k → at + length s ≤ length out → n ≡ at + length s →
+    Wrote out at s n (put_mid at k out ys)
+wrote_put {out} {s} {ys} {at} {k} q n h e =
+    let pasted : put_mid at k out ys ≡ paste out at s (length s) = put_mid-paste at k out ys s (length s) q n refl in
+    let whole : paste out at s (length s) ≡ sets out at s =
+    ap (λ (x : List ℕ). take at out ++ x ++ drop (at + length s) out) (take_all (length s) s (omega arith)) ∙ sym (sets-eq s out at h) in
+    let left : put_mid at k out ys ≡ sets out at s = pasted ∙ whole in
+    record { next = e; left = left; size = ap length left ∙ length-sets out at s }
 
 -- what was written stands at the start
 pub written_front : {room out s : List ℕ} {n : ℕ} → Wrote room 0 s n out → length s ≤ length room → take n out ≡ s

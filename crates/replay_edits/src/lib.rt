@@ -16,12 +16,9 @@ pub fn put_all(out: &mut [u32], at: usize, s: &[u32]) -> usize
     requires { at + length s.now ≤ length out.old }
     ensures { Wrote out.old at s.now result out.new }
 {
-    let mut i: usize = 0;
-    while i < s.len() {
-        out[at + i] = s[i];
-        i += 1;
-    }
-    at + i
+    let next = at + s.len();
+    out[at..next].copy_from_slice(s);
+    next
 }
 
 // A number, and what four lent slices hold one behind the other, against the stored answer.

@@ -1,21 +1,16 @@
 -- Laws of reading a row of numbers, byte by byte, and of where a row ends. Long by the kinds of bytes: a law for each. Assumes nothing.
 use Rattle.lists.proofs.Kit.{◌≡◌, refl, ap, sym, ◌∙◌, List, [], ◌++◌, append_assoc, append-nil, Bool, true, false, cond, ◌&&◌, ◌||◌, ℕ, suc, ◌+◌, ◌-◌, ◌≤◌, ◌<◌}
-use Rattle.lists.proofs.Kit.{add-one, arith, length, get_or, take, drop, set, replicate, length-replicate, get_or-replicate, drop_of_length-le, paste, paste-suc}
+use Rattle.lists.proofs.Kit.{arith, length, get_or, take, drop, replicate, length-replicate, drop_of_length-le, paste}
 use Rattle.lists.proofs.Kit.{take-paste, length-paste, take_all, le-leb, lt-leb, ne_eqb}
 use Rattle.lists.proofs.Lists.{drop_at}
 use Rattle.replay_rows.specs.declared.Reader.{Reader}
 use Rattle.replay_rows.specs.declared.Numbers.TheVariants.{Count, Malformed}
 use Rattle.replay_rows.specs.Rows.{Read, these, malformed, onto, ends, step, fresh, read_from, read_row, RowRead, Filled, row_length}
 
--- filling places: one more, and all
+-- all places are filled
 module _ (d : List ℕ) (from times x : ℕ) (h : from + times ≤ length d) where
   all_length : length (replicate times x) ≡ times
   all_length = length-replicate times x
-
-  pub fill_on : (room : List ℕ) (i : ℕ) → room ≡ paste d from (replicate times x) i → i < times →
-      set room (from + i) x ≡ paste d from (replicate times x) (i + 1)
-  fill_on room i e k = ap (λ (l : List ℕ). set l (from + i) x) e ∙ ap (set (paste d from (replicate times x) i) (from + i)) (sym (get_or-replicate times i x 0 k))
-      ∙ paste-suc d from (replicate times x) i 0 (omega arith) (omega (arith, all_length)) ∙ ap (paste d from (replicate times x)) (sym (add-one i))
 
   pub fill_all : (room : List ℕ) → room ≡ paste d from (replicate times x) times → Filled d from times x room
   fill_all room e =

@@ -91,11 +91,7 @@ fn fill(room: &mut [u32], from: usize, times: usize, x: u32)
     requires { from + times ≤ length room.old }
     ensures { Filled room.old from times x room.new }
 {
-    let mut i: usize = 0;
-    while i < times {
-        room[from + i] = x;
-        i += 1;
-    }
+    room[from..from + times].fill(x);
 }
 
 // Puts the numbers of a row at the front of `room`, and answers how many they are. A row with more
@@ -105,10 +101,8 @@ pub fn read_row(row: &[u8], room: &mut [u32]) -> Numbers
 {
     let mut n: usize = 0;
     let mut r = fresh();
-    let mut i: usize = 0;
-    while i < row.len() {
-        let x = row[i];
-        if (x == 32) | (x == 10) {
+    for x in row {
+        if (*x == 32) | (*x == 10) {
             let times = r.times as usize;
             if !r.begun {
                 return Numbers::Malformed;
@@ -119,13 +113,11 @@ pub fn read_row(row: &[u8], room: &mut [u32]) -> Numbers
             fill(room, n, times, r.value);
             n += times;
             r = fresh();
-            i += 1;
         } else {
-            r = r.step(x);
+            r = r.step(*x);
             if !r.ok {
                 return Numbers::Malformed;
             }
-            i += 1;
         }
     }
     if r.begun | r.many {
@@ -139,12 +131,10 @@ pub fn row_end(bytes: &[u8], at: usize) -> usize
     requires { at ≤ length bytes.now }
     ensures { result ≡ at + row_length (drop at bytes.now) }
 {
-    let mut i = at;
-    while i < bytes.len() {
+    for i in at..bytes.len() {
         if bytes[i] == 10 {
             return i + 1;
         }
-        i += 1;
     }
-    i
+    bytes.len()
 }

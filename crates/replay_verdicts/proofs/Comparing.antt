@@ -1,6 +1,7 @@
 -- Laws of comparing an answer with the stored one. Assumes nothing.
+use Rattle.std.specs.Str.{bytes_eq}
 use Rattle.lists.proofs.Kit.{◌≡◌, refl, ap, sym, ◌∙◌, List, [], ◌∷◌, ◌++◌, ℕ, zero, suc, ◌-◌, ◌≤◌, ◌<◌, arith, length, get_or, take, drop, replicate, length-drop}
-use Rattle.lists.proofs.Kit.{take_all, eq-eqb, ne_eqb}
+use Rattle.lists.proofs.Kit.{take_all, Bool, cond, ◌&&◌, eqb, eq-eqb, ne_eqb}
 use Rattle.lists.specs.Lists.{is_same}
 use Rattle.lists.proofs.Lists.{drop_at}
 use Rattle.lists.proofs.Same.{same_long}
@@ -8,8 +9,16 @@ use Rattle.call_bytes.specs.declared.Told.{Told}
 use Rattle.call_bytes.specs.declared.Told.TheVariants.{Value, Refused as Told-as-Refused}
 use Rattle.call_bytes.specs.Reply.{Reply, Replied, number, left, told}
 use Rattle.replay_verdicts.specs.declared.Verdict.{Verdict}
-use Rattle.replay_verdicts.specs.declared.Verdict.TheVariants.{Differs}
+use Rattle.replay_verdicts.specs.declared.Verdict.TheVariants.{Agrees, Differs}
 use Rattle.replay_verdicts.specs.Answers.{compared, filler, shown}
+
+-- what `==` tells is whether two lists are the same
+same_is : (a b : List ℕ) → bytes_eq a b ≡ is_same a b
+unfolding is_same
+same_is [] [] = refl
+same_is [] (y ∷ b) = refl
+same_is (x ∷ a) [] = refl
+same_is (x ∷ a) (y ∷ b) = ap (λ t. eqb x y && t) (same_is a b)
 
 -- a number in front, against what stands first
 module _ (x : ℕ) (a s : List ℕ) where
@@ -27,6 +36,12 @@ module _ (x : ℕ) (a s : List ℕ) where
   pub compared_first : 0 < length s → get_or s 0 0 ≡ x → compared (x ∷ a) s ≡ compared a (take (length s - 1) (drop 1 s))
   unfolding compared is_same
   compared_first h e = ap (compared (x ∷ a)) (first_of h) ∙ rw (eq-eqb x (get_or s 0 0) (sym e)) refl
+
+  -- by what `==` tells of the rest
+  pub compared_rest : {r : Bool} → 0 < length s → get_or s 0 0 ≡ x → r ≡ bytes_eq a (take (length s - 1) (drop 1 s)) →
+      compared (x ∷ a) s ≡ cond r Agrees Differs
+  unfolding compared
+  compared_rest h e q = compared_first h e ∙ ap (λ t. cond t Agrees Differs) (sym (q ∙ same_is _ _))
 
 -- a call, compared by its number and by what it leaves
 pub replied_compared : (n : ℕ) {m : Reply} {r : ℕ} {out : List ℕ} (stored : List ℕ) {v : Verdict} → Replied m (replicate n filler) r out →

@@ -1,29 +1,11 @@
 // An answer against the stored one.
 ghost use Rattle.std.specs.Prelude.{◌≡◌, ◌∷◌};
-ghost use Rattle.lists.specs.Lists.{is_same};
 ghost use Rattle.replay_verdicts.specs.Answers.{compared as compared_of};
 
 use crate::Verdict;
 
 // What lent places hold before a call.
 pub const FILLER: u32 = 2779096485;
-
-// Whether both have the same numbers.
-fn equal(a: &[u32], b: &[u32]) -> bool
-    ensures { result ≡ is_same a.now b.now }
-{
-    if a.len() != b.len() {
-        return false;
-    }
-    let mut i: usize = 0;
-    while i < a.len() {
-        if a[i] != b[i] {
-            return false;
-        }
-        i += 1;
-    }
-    true
-}
 
 // A number and what lent places hold, against the stored answer.
 pub fn compared(number: u32, places: &[u32], stored: &[u32]) -> Verdict
@@ -36,7 +18,7 @@ pub fn compared(number: u32, places: &[u32], stored: &[u32]) -> Verdict
     if stored[0] != number {
         return Verdict::Differs;
     }
-    if equal(places, &stored[1..n]) {
+    if places == &stored[1..n] {
         return Verdict::Agrees;
     }
     Verdict::Differs

@@ -83,10 +83,10 @@ module _ {w : ℕ → ℕ} {room : ℕ} {row : List ℕ} {i left : ℕ} (so_far 
         let none : fits w left (drop i row) ≡ 0 = rw (drop_at row i h) (fits_stop w left (get_or row i 0) (drop (i + 1) row) (rw e at l)) in
         omega (arith, so_far.rest, none)
 
-  pub fits_end : length row ≤ i → i ≡ fits w room row
+  pub fits_end : length row ≤ i → length row ≡ fits w room row
   fits_end h =
       let none : fits w left (drop i row) ≡ 0 = rw (drop_of_length-le row h) (fits_none w left) in
-      omega (arith, so_far.rest, none)
+      omega (arith, so_far.inside, so_far.rest, none)
 
 -- the walk of `cells_in`, before character i
 pub record CellsTo (w : ℕ → ℕ) (row : List ℕ) (i sum : ℕ) : Type 0 where

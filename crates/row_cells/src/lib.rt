@@ -28,16 +28,14 @@ pub fn fitting(zeros: &[u32], doubles: &[u32], row: &[u32], room: u32) -> usize
         row.now result }
 {
     let mut left = room;
-    let mut i: usize = 0;
-    while i < row.len() {
-        let cells = cells_of(zeros, doubles, row[i]);
+    for (i, x) in row.iter().enumerate() {
+        let cells = cells_of(zeros, doubles, *x);
         if cells > left {
             return i;
         }
         left -= cells;
-        i += 1;
     }
-    i
+    row.len()
 }
 
 // The cells of all characters of a row: at most 4 each, so the sum fits.
@@ -47,10 +45,8 @@ pub fn cells_in(zeros: &[u32], doubles: &[u32], row: &[u32]) -> u32
         row.now }
 {
     let mut sum: u32 = 0;
-    let mut i: usize = 0;
-    while i < row.len() {
-        sum += cells_of(zeros, doubles, row[i]);
-        i += 1;
+    for x in row {
+        sum += cells_of(zeros, doubles, *x);
     }
     sum
 }

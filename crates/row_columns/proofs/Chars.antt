@@ -84,7 +84,7 @@ module _ {w : ℕ → ℕ} {tab : ℕ} {row : List ℕ} {c i visual : ℕ} (so_f
         rw (drop_at row i h) (char_here w tab visual c so_far.low value (drop (i + 1) row) (rw e at l)) in
         omega (arith, so_far.rest, none)
 
-  pub char_end : length row ≤ i → i ≡ char_from w tab 0 row c
+  pub char_end : length row ≤ i → length row ≡ char_from w tab 0 row c
   char_end h =
       let none : char_from w tab visual (drop i row) c ≡ 0 = rw (drop_of_length-le row h) (char_none w tab visual c) in
-      omega (arith, so_far.rest, none)
+      omega (arith, so_far.inside, so_far.rest, none)

@@ -24,13 +24,11 @@ fn visual_at(zeros: &[u32], doubles: &[u32], row: &[u32], col: usize, tab: u32) 
         tab 0 row.now col }
 {
     let mut visual: u32 = 0;
-    let mut i: usize = 0;
-    while i < row.len() {
+    for (i, x) in row.iter().enumerate() {
         if i == col {
             return visual;
         }
-        visual += cell_width(zeros, doubles, row[i], visual, tab);
-        i += 1;
+        visual += cell_width(zeros, doubles, *x, visual, tab);
     }
     visual
 }
@@ -43,16 +41,14 @@ fn char_at(zeros: &[u32], doubles: &[u32], row: &[u32], target: u32, tab: u32) -
         tab 0 row.now target }
 {
     let mut visual: u32 = 0;
-    let mut i: usize = 0;
-    while i < row.len() {
-        let next = visual + cell_width(zeros, doubles, row[i], visual, tab);
+    for (i, x) in row.iter().enumerate() {
+        let next = visual + cell_width(zeros, doubles, *x, visual, tab);
         if next > target {
             return i as u32;
         }
         visual = next;
-        i += 1;
     }
-    i as u32
+    row.len() as u32
 }
 
 // The visual column in which a cursor on character `col` is drawn.

@@ -168,12 +168,10 @@ fn index_of(segments: &[u32], col: u32) -> usize
     ensures { result ≡ segment_index segments.now col }
 {
     let n = segments.len() / 2;
-    let mut k: usize = 0;
-    while k < n {
+    for k in 0..n {
         if holds(segments[2 * k], segments[2 * k + 1], col) {
             return k;
         }
-        k += 1;
     }
     if n == 0 {
         return 0;

@@ -9,12 +9,10 @@ use crate::Found;
 fn next_on_row(row: &[u32], from: usize, sought: u32) -> Found
     ensures { result ≡ first_in (is row.now sought) from (length row.now) }
 {
-    let mut i = from;
-    while i < row.len() {
+    for i in from..row.len() {
         if row[i] == sought {
             return Found::At(i);
         }
-        i += 1;
     }
     Found::Nothing
 }
@@ -24,13 +22,10 @@ fn last_on_row(row: &[u32], upto: usize, sought: u32) -> Found
     requires { upto ≤ length row.now }
     ensures { result ≡ last_below (is row.now sought) upto }
 {
-    let mut i = upto;
-    while i > 0 {
-        let b = i - 1;
+    for b in (0..upto).rev() {
         if row[b] == sought {
             return Found::At(b);
         }
-        i = b;
     }
     Found::Nothing
 }

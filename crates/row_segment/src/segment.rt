@@ -11,12 +11,10 @@ fn after_white(white: &[u32], row: &[u32], n: usize) -> usize
     requires { (white.now ≡ whites) × (n ≤ length row.now) }
     ensures { result ≡ after_white is_white row.now n }
 {
-    let mut k = n;
-    while k > 0 {
-        if chars::white_in(white, row[k - 1]) {
-            return k;
+    for b in (0..n).rev() {
+        if chars::white_in(white, row[b]) {
+            return b + 1;
         }
-        k -= 1;
     }
     0
 }

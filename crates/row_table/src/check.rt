@@ -10,8 +10,7 @@ pub fn go_on(t: &[u32], from: usize, rows: usize, starts: &[u32]) -> bool
     ensures { GoesOn t.now starts.now rows result }
 {
     let mut last = starts[from - 1] as usize;
-    let mut i = from;
-    while i < rows {
+    for i in from..rows {
         let s = starts[i] as usize;
         if s <= last {
             return false;
@@ -23,7 +22,6 @@ pub fn go_on(t: &[u32], from: usize, rows: usize, starts: &[u32]) -> bool
             return false;
         }
         last = s;
-        i += 1;
     }
     true
 }

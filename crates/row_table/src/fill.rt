@@ -13,14 +13,10 @@ pub fn put_starts(starts: &mut [u32], place: usize, at: usize, part: &[u32])
         starts.new }
 {
     let mut n: usize = 0;
-    let mut i: usize = 0;
-    while i < part.len() {
-        if part[i] == 10 {
-            i += 1;
-            starts[place + n] = (at + i) as u32;
+    for (i, x) in part.iter().enumerate() {
+        if *x == 10 {
+            starts[place + n] = (at + i + 1) as u32;
             n += 1;
-        } else {
-            i += 1;
         }
     }
 }

@@ -62,18 +62,13 @@ fn leading_at(row: &[u32], tab: u32) -> u32
     ensures { result ≡ leading_from tab 0 row.now }
 {
     let mut visual: u32 = 0;
-    let mut i: usize = 0;
-    while i < row.len() {
-        let x = row[i];
+    for &x in row {
         if x == 32 {
             visual += 1;
-            i += 1;
-        } else {
-            if x != 9 {
-                return visual;
-            }
+        } else if x == 9 {
             visual += tab_width(visual, tab);
-            i += 1;
+        } else {
+            return visual;
         }
     }
     visual

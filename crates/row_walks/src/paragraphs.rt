@@ -32,10 +32,11 @@ fn paragraph_round(t: &[u32], forward: bool, last: usize, from: Line) -> Round
     let mut curr = from.row as i64;
     let mut start = from.start;
     let mut skip = false;
+    // A `loop`: the way out lies in the middle of a turn, and the step is signed.
     loop {
         let here = Line {
             row: curr as usize,
-            start: start,
+            start,
         };
         let void = is_void(t, here);
         let passed = skip | !void;
@@ -47,7 +48,7 @@ fn paragraph_round(t: &[u32], forward: bool, last: usize, from: Line) -> Round
             curr -= dir;
             let edge = Line {
                 row: curr as usize,
-                start: start,
+                start,
             };
             return Round::RanOff(edge);
         }
@@ -65,6 +66,7 @@ pub fn find_paragraph(t: &[u32], forward: bool, last: usize, from: Line, n: usiz
 {
     let mut here = from;
     let mut owed = n - 1;
+    // A `loop`: each turn begins where the one before ended, and each way out is in a `match`.
     loop {
         match paragraph_round(t, forward, last, here) {
             Round::Found(l) => {

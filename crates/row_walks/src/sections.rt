@@ -29,14 +29,12 @@ pub fn section_up(t: &[u32], from: Line, x: u32, n: usize) -> usize
     let mut row = from.row;
     let mut start = from.start;
     let mut left = n;
+    // A `while`: it steps from row to row, and the start goes with the row.
     while row > 0 {
         if left == 0 {
             return row;
         }
-        let here = Line {
-            row: row,
-            start: start,
-        };
+        let here = Line { row, start };
         let l = prev_line(t, here);
         if begins(t, l, x) {
             row = l.row;
@@ -59,14 +57,12 @@ pub fn section_down(t: &[u32], from: Line, last: usize, x: u32, n: usize) -> usi
     let mut row = from.row;
     let mut start = from.start;
     let mut left = n;
+    // A `while`: it steps from row to row, and the start goes with the row.
     while row < last {
         if left == 0 {
             return row;
         }
-        let here = Line {
-            row: row,
-            start: start,
-        };
+        let here = Line { row, start };
         let l = next_line(t, here);
         if begins(t, l, x) {
             row = l.row;

@@ -28,6 +28,7 @@ fn count_segments(
 {
     let mut n: usize = 0;
     let mut start: usize = 0;
+    // A `while`: the step differs from turn to turn.
     while start < row.len() {
         let rest = &row[start..];
         start += row_segment::first_segment(zeros, doubles, white, rest, width, word);
@@ -53,6 +54,7 @@ fn write_segments(
 {
     let mut at: usize = 0;
     let mut start: usize = 0;
+    // A `while`: the step differs from turn to turn.
     while start < row.len() {
         let rest = &row[start..];
         let end = start + row_segment::first_segment(zeros, doubles, white, rest, width, word);

@@ -78,8 +78,7 @@ fn show<W: Write>(out: &mut W, fact: Fact) -> io::Result<()> {
     let mut first: u32 = 0;
     let mut last: u32 = 0;
     let mut inside = false;
-    let mut x: u32 = 0;
-    while x <= 0x110000 {
+    for x in 0..=0x110000 {
         if holds(fact, x) {
             if !inside {
                 first = x;
@@ -87,13 +86,11 @@ fn show<W: Write>(out: &mut W, fact: Fact) -> io::Result<()> {
             inside = true;
             last = x;
             total += 1;
-            x += 1;
         } else {
             if inside {
                 print_range(out, fact, first, last)?;
             }
             inside = false;
-            x += 1;
         }
     }
     print_total(out, fact, total)

@@ -39,6 +39,7 @@ fn walk(
     let mut ahead = from.ahead;
     let mut left = n;
     let mut free = rows::free_rows(folds, rows, down, from.row);
+    // A `while`: a turn takes as many rounds as its row has segments ahead.
     while left > ahead {
         let hop = rows::hop(folds, rows, down, row, free);
         let seen = hop.next;

@@ -37,6 +37,7 @@ pub fn find_segment(
 {
     let mut k: usize = 0;
     let mut start: usize = 0;
+    // A `while`: the segments differ in length.
     while start < row.len() {
         let rest = &row[start..];
         let end = start + row_segment::first_segment(zeros, doubles, white, rest, width, word);

@@ -71,7 +71,8 @@ fn put_line(out: &mut [u8], at: usize, key: &[u8], m: Moved, k: Caret) -> usize
     put(out, e, b'\n')
 }
 
-// Writes the lines of all command rows, and answers how many bytes they are.
+// Writes the lines of all command rows, and answers how many bytes they are. A `while`: the step
+// differs from turn to turn.
 fn lines(input: &[u8], t: &[u32], out: &mut [u8]) -> usize
     requires { (length input.now ≤ 16384) × (393240 ≤ length out.old) }
     ensures { Wrote out.old 0 (output_of t.now input.now) result

@@ -6,7 +6,7 @@
 ghost use Rattle.std.specs.Prelude.{◌≡◌, ◌≤◌, length};
 ghost use Rattle.session_input.specs.Parts.{is_stop, stop_of, begin_of, TextIn};
 
-use session_row::{find, same};
+use session_row::find;
 use utf8::{Checked, Decoded};
 
 // Where a text begins in an input, or that the input is refused.
@@ -20,10 +20,10 @@ pub enum Begin {
 pub fn is_stop(row: &[u8]) -> bool
     ensures { result ≡ is_stop row.now }
 {
-    same(row, b".")
+    row == b".".as_slice()
 }
 
-// Where the text begins, past the first such row.
+// Where the text begins, past the first such row. A `while`: the step differs from turn to turn.
 fn find_stop(input: &[u8]) -> Begin
     requires { length input.now ≤ 16384 }
     ensures { result ≡ stop_of input.now }

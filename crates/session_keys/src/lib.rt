@@ -1,12 +1,9 @@
-// The keys of a session, found by their bytes. Each function compares the name with fixed byte
-// strings, those of two bytes first, and hands a name that is none of its own on to the next.
+// The keys of a session, found by their bytes.
 
 #![tactic(auto)]
 
-ghost use Rattle.std.specs.Prelude.{◌≡◌, ◌++◌};
-ghost use Rattle.session_keys.specs.Keys.{word_keys, line_keys, place_keys, found, key_of};
-
-use session_row::same;
+ghost use Rattle.std.specs.Prelude.{◌≡◌};
+ghost use Rattle.session_keys.specs.Keys.{key_of};
 
 // A key, by what it does; `Big` where words are divided by blanks alone.
 #[derive(Clone, Copy)]
@@ -43,117 +40,40 @@ pub enum Key {
     Unknown,
 }
 
-// Places, and rows up and down.
-fn by_place(name: &[u8]) -> Key
-    ensures { result ≡ found place_keys name.now }
-{
-    if same(name, b"G") {
-        return Key::Bottom;
-    }
-    if same(name, b"|") {
-        return Key::Column;
-    }
-    if same(name, b"%") {
-        return Key::Bracket;
-    }
-    if same(name, b"j") {
-        return Key::Down;
-    }
-    if same(name, b"k") {
-        return Key::Up;
-    }
-    Key::Unknown
-}
-
-// Columns of a row, paragraphs and lines.
-fn by_line(name: &[u8]) -> Key
-    ensures { result ≡ found (line_keys ++ place_keys) name.now }
-{
-    if same(name, b"0") {
-        return Key::LineStart;
-    }
-    if same(name, b"^") {
-        return Key::FirstNonBlank;
-    }
-    if same(name, b"$") {
-        return Key::LineEnd;
-    }
-    if same(name, b"{") {
-        return Key::ParagraphPrev;
-    }
-    if same(name, b"}") {
-        return Key::ParagraphNext;
-    }
-    if same(name, b"+") {
-        return Key::NextLine;
-    }
-    if same(name, b"-") {
-        return Key::PrevLine;
-    }
-    if same(name, b"_") {
-        return Key::Line;
-    }
-    by_place(name)
-}
-
-// Keys of one byte: characters and words.
-fn by_word(name: &[u8]) -> Key
-    ensures { result ≡ found (word_keys ++ line_keys ++ place_keys) name.now }
-{
-    if same(name, b"h") {
-        return Key::Left;
-    }
-    if same(name, b"l") {
-        return Key::Right;
-    }
-    if same(name, b"w") {
-        return Key::Word;
-    }
-    if same(name, b"b") {
-        return Key::Back;
-    }
-    if same(name, b"e") {
-        return Key::End;
-    }
-    if same(name, b"W") {
-        return Key::BigWord;
-    }
-    if same(name, b"B") {
-        return Key::BigBack;
-    }
-    if same(name, b"E") {
-        return Key::BigEnd;
-    }
-    by_line(name)
-}
-
 // The key of that name, or that it is unknown.
 pub fn key_of(name: &[u8]) -> Key
     ensures { result ≡ key_of name.now }
 {
-    if same(name, b"ge") {
-        return Key::EndBack;
+    match name {
+        b"ge" => Key::EndBack,
+        b"gE" => Key::BigEndBack,
+        b"g_" => Key::LastNonBlank,
+        b"[[" => Key::SectionBackward,
+        b"]]" => Key::SectionForward,
+        b"[]" => Key::SectionEndBackward,
+        b"][" => Key::SectionEndForward,
+        b"gg" => Key::Top,
+        b"h" => Key::Left,
+        b"l" => Key::Right,
+        b"w" => Key::Word,
+        b"b" => Key::Back,
+        b"e" => Key::End,
+        b"W" => Key::BigWord,
+        b"B" => Key::BigBack,
+        b"E" => Key::BigEnd,
+        b"0" => Key::LineStart,
+        b"^" => Key::FirstNonBlank,
+        b"$" => Key::LineEnd,
+        b"{" => Key::ParagraphPrev,
+        b"}" => Key::ParagraphNext,
+        b"+" => Key::NextLine,
+        b"-" => Key::PrevLine,
+        b"_" => Key::Line,
+        b"G" => Key::Bottom,
+        b"|" => Key::Column,
+        b"%" => Key::Bracket,
+        b"j" => Key::Down,
+        b"k" => Key::Up,
+        _ => Key::Unknown,
     }
-    if same(name, b"gE") {
-        return Key::BigEndBack;
-    }
-    if same(name, b"g_") {
-        return Key::LastNonBlank;
-    }
-    if same(name, b"[[") {
-        return Key::SectionBackward;
-    }
-    if same(name, b"]]") {
-        return Key::SectionForward;
-    }
-    if same(name, b"[]") {
-        return Key::SectionEndBackward;
-    }
-    if same(name, b"][") {
-        return Key::SectionEndForward;
-    }
-    if same(name, b"gg") {
-        return Key::Top;
-    }
-    by_word(name)
 }

@@ -1,14 +1,10 @@
--- Laws of command rows: what a comparison tells, the value of digits, and a row's count. Assumes nothing.
-use Rattle.lists.proofs.Kit.{◌≡◌, sym, ◌∙◌, List, Bool, ℕ, ◌+◌, ◌*◌, ◌-◌, ◌^◌, ◌≤◌, ◌<◌, pow-suc, pow-le-pow_right, add-one, arith, length, get_or, take, drop}
+-- Laws of command rows: the value of digits, and a row's count. Assumes nothing.
+use Rattle.lists.proofs.Kit.{◌≡◌, List, ℕ, ◌+◌, ◌*◌, ◌-◌, ◌^◌, ◌≤◌, ◌<◌, pow-suc, pow-le-pow_right, add-one, arith, length, get_or, take, drop}
 use Rattle.lists.proofs.Kit.{drop_of_length-le, length-drop, take_all, lt-ltb, le-ltb, le-leb, lt-leb}
-use Rattle.lists.specs.Lists.{up_to, is_same}
+use Rattle.lists.specs.Lists.{up_to}
 use Rattle.lists.proofs.Lists.{drop_at}
-use Rattle.lists.proofs.Same.{same_true}
 use Rattle.session_row.specs.declared.Count.TheVariants.{Of, Malformed}
-use Rattle.session_row.specs.Commands.{digits_from, digits_of, count_in, Same}
-
-pub same_told : (a b : List ℕ) {r : Bool} → is_same a b ≡ r → Same a b r
-same_told a b e = record { is = sym e; equal = λ h. same_true a b (e ∙ h) }
+use Rattle.session_row.specs.Commands.{digits_from, digits_of, count_in}
 
 -- digits
 module _ (l : List ℕ) (n i : ℕ) where

@@ -4,7 +4,7 @@
 #![tactic(auto)]
 
 ghost use Rattle.std.specs.Prelude.{◌≡◌, ◌≤◌, length};
-ghost use Rattle.session_row.specs.Commands.{key_part, digits_of, count_in, Ends, Same};
+ghost use Rattle.session_row.specs.Commands.{key_part, digits_of, count_in, Ends};
 
 // The count of a command row, or that the row is malformed.
 #[derive(Clone, Copy)]
@@ -18,31 +18,12 @@ pub fn find(s: &[u8], from: usize, x: u8) -> usize
     requires { from ≤ length s.now }
     ensures { Ends s.now from x result }
 {
-    let mut i = from;
-    while i < s.len() {
+    for i in from..s.len() {
         if s[i] == x {
             return i;
         }
-        i += 1;
     }
-    i
-}
-
-// Whether two byte strings are the same.
-pub fn same(a: &[u8], b: &[u8]) -> bool
-    ensures { Same a.now b.now result }
-{
-    if a.len() != b.len() {
-        return false;
-    }
-    let mut i: usize = 0;
-    while i < a.len() {
-        if a[i] != b[i] {
-            return false;
-        }
-        i += 1;
-    }
-    true
+    s.len()
 }
 
 // The number that 1 to 9 digits make.
@@ -56,17 +37,14 @@ fn digits(s: &[u8]) -> Count
         return Count::Malformed;
     }
     let mut n: u32 = 0;
-    let mut i: usize = 0;
-    while i < s.len() {
-        let b = s[i];
-        if b < 48 {
+    for b in s {
+        if *b < 48 {
             return Count::Malformed;
         }
-        if b > 57 {
+        if *b > 57 {
             return Count::Malformed;
         }
-        n = n * 10 + (b as u32 - 48);
-        i += 1;
+        n = n * 10 + (*b as u32 - 48);
     }
     Count::Of(n)
 }

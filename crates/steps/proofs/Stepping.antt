@@ -12,30 +12,33 @@ use Rattle.lists.specs.Rounds.{rounds}
 use Rattle.steps.specs.Steps.{space_fwd, backspace_back}
 use Rattle.lists.proofs.Rounds.{rounds_on, rounds_none, rounds_still}
 
--- n rounds from p are `left` rounds from the place of the walk, in a text that isn't too long
-pub record Going (f : Position → Position) (p : Position) (n : ℕ) (t : List ℕ) (row start at left : ℕ) : Type 0 where
+-- n rounds from p are those that are left behind i rounds, from the place of the walk, in a text that isn't too long
+pub record Going (f : Position → Position) (p : Position) (n : ℕ) (t : List ℕ) (row start at i : ℕ) : Type 0 where
   pub stands : Stands t row start at
-  pub same : rounds f n p ≡ rounds f left (position row (at - start))
+  pub same : rounds f n p ≡ rounds f (n - i) (position row (at - start))
   pub brief : length t ≤ 1048576
 
 -- at the start, at the position itself
-pub going_start : (f : Position → Position) (p : Position) (n m : ℕ) {t : List ℕ} (start at : ℕ) → Stands t p.row start at → at ≡ start + p.col → m ≡ n →
-    length t ≤ 1048576 → Going f p n t p.row start at m
-going_start f p n m start at s a e b =
+pub going_start : (f : Position → Position) (p : Position) (n : ℕ) {t : List ℕ} (start at : ℕ) → Stands t p.row start at → at ≡ start + p.col →
+    length t ≤ 1048576 → Going f p n t p.row start at 0
+going_start f p n start at s a b =
     let here : p.col ≡ at - start = omega arith in
-    record { stands = s; same = rw e (ap (rounds f n) (ap (position p.row) here)); brief = b }
+    let all : n - 0 ≡ n = omega arith in
+    record { stands = s; same = rw (all, ← here); brief = b }
 
-module _ {f : Position → Position} {p : Position} {n : ℕ} {t : List ℕ} {row start at left : ℕ} (g : Going f p n t row start at left) where
+module _ {f : Position → Position} {p : Position} {n : ℕ} {t : List ℕ} {row start at i : ℕ} (g : Going f p n t row start at i) where
   -- one round, to another place
-  pub going_on_lem : (r s b : ℕ) → 0 < left → Stands t r s b → f (position row (at - start)) ≡ position r (b - s) → Going f p n t r s b (left - 1)
-  going_on_lem r s b h w e = record { stands = w; same = g.same ∙ rounds_on f left _ h ∙ ap (rounds f (left - 1)) e; brief = g.brief }
+  pub going_on_lem : (r s b : ℕ) → i < n → Stands t r s b → f (position row (at - start)) ≡ position r (b - s) → Going f p n t r s b (i + 1)
+  going_on_lem r s b h w e =
+      let rest : n - i - 1 ≡ n - (i + 1) = omega arith in
+      record { stands = w; same = g.same ∙ rounds_on f (n - i) _ (omega arith) ∙ ap (rounds f (n - i - 1)) e ∙ ap (λ (k : ℕ). rounds f k (position r (b - s))) rest; brief = g.brief }
 
   -- none are left, or the round stops
-  pub going_done : left ≤ 0 → position row (at - start) ≡ rounds f n p
-  going_done h = sym (g.same ∙ rounds_none f left _ h)
+  pub going_done : n ≤ i → position row (at - start) ≡ rounds f n p
+  going_done h = sym (g.same ∙ rounds_none f (n - i) _ (omega arith))
 
   pub going_stop : f (position row (at - start)) ≡ position row (at - start) → position row (at - start) ≡ rounds f n p
-  going_stop e = sym (g.same ∙ rounds_still f left _ e)
+  going_stop e = sym (g.same ∙ rounds_still f (n - i) _ e)
 
 -- a walk that began at column p .col of its row, which begins at `start`, began at p
 pub going_from : (f : Position → Position) (n : ℕ) (p : Position) (start own : ℕ) → start ≡ own →

@@ -16,11 +16,10 @@ pub fn space_fwd(t: &[u32], p: Position, e: Entry, count: u32) -> Position
     let mut row = p.row;
     let mut start = e.start;
     let mut at = e.start + p.col;
-    let mut left = most(count as usize, 1);
-    while left > 0 {
+    for _ in 0..most(count as usize, 1) {
         if at >= t.len() {
             return Position {
-                row: row,
+                row,
                 col: at - start,
             };
         }
@@ -29,27 +28,21 @@ pub fn space_fwd(t: &[u32], p: Position, e: Entry, count: u32) -> Position
             row += 1;
             start = next;
             at = next;
-            left -= 1;
+        } else if next >= t.len() {
+            return Position {
+                row,
+                col: at - start,
+            };
+        } else if t[next] == 10 {
+            row += 1;
+            start = next + 1;
+            at = next + 1;
         } else {
-            if next >= t.len() {
-                return Position {
-                    row: row,
-                    col: at - start,
-                };
-            }
-            if t[next] == 10 {
-                row += 1;
-                start = next + 1;
-                at = next + 1;
-                left -= 1;
-            } else {
-                at = next;
-                left -= 1;
-            }
+            at = next;
         }
     }
     Position {
-        row: row,
+        row,
         col: at - start,
     }
 }
@@ -61,35 +54,19 @@ pub fn backspace_back(t: &[u32], p: Position, e: Entry, count: u32) -> Position
 {
     let mut row = p.row;
     let mut at = e.start + p.col;
-    let mut left = most(count as usize, 1);
-    while left > 0 {
+    for _ in 0..most(count as usize, 1) {
         if at == 0 {
             return Position { row: 0, col: 0 };
         }
-        let b = at - 1;
-        if t[b] == 10 {
-            if b == 0 {
-                row -= 1;
-                at = b;
-                left -= 1;
-            } else {
-                let d = b - 1;
-                if t[d] == 10 {
-                    row -= 1;
-                    at = b;
-                    left -= 1;
-                } else {
-                    row -= 1;
-                    at = d;
-                    left -= 1;
-                }
+        at -= 1;
+        if t[at] == 10 {
+            row -= 1;
+            if at > 0 && t[at - 1] != 10 {
+                at -= 1;
             }
-        } else {
-            at = b;
-            left -= 1;
         }
     }
     let l = text::offsets::up(t, row, at, 0);
     let col = at - l.start;
-    Position { row: row, col: col }
+    Position { row, col }
 }

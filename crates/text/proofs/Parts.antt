@@ -1,6 +1,6 @@
 -- Rows as parts of the text: where they start, how far they go, and what the text holds from one on. What stands above cites `At` instead.
 -- Assumes nothing.
-use Rattle.lists.proofs.Kit.{◌≡◌, ap, ◌∙◌, List, [], ◌∷◌, ℕ, zero, suc, ◌+◌, ◌≤◌, ◌<◌, add-zero, add-one, ℕ_discrete, arith, length, get_or, take, drop}
+use Rattle.lists.proofs.Kit.{◌≡◌, ap, ◌∙◌, List, [], ◌∷◌, ◌++◌, ℕ, zero, suc, ◌+◌, ◌≤◌, ◌<◌, add-zero, add-one, ℕ_discrete, arith, length, get_or, take, drop}
 use Rattle.lists.proofs.Kit.{length-take, length-drop, drop-cons, get_or-drop, drop-drop}
 use Rattle.text.specs.Text.{rows, row_count, row_at, row_len}
 use Rattle.text.specs.Offsets.{start_in, row_start}
@@ -13,6 +13,15 @@ module _ (x : ℕ) (u : List ℕ) where
 
   pub count_cons_on : (x ≡ 10 → ⊥) → row_count (x ∷ u) ≡ row_count u
   count_cons_on n = ap length (rows_on x u n) ∙ on_length x (rows u) (rows_pos u)
+
+-- how many rows two parts have together: the last of the first goes on in the second
+pub count_both : (t u : List ℕ) → row_count (t ++ u) + 1 ≡ row_count t + row_count u
+count_both [] u = omega (arith, ap length rows_nil)
+count_both (x ∷ t) u = go (ℕ_discrete x 10) (count_both t u)
+  where
+    go : Dec (x ≡ 10) → row_count (t ++ u) + 1 ≡ row_count t + row_count u → row_count ((x ∷ t) ++ u) + 1 ≡ row_count (x ∷ t) + row_count u
+    go (yes e) ih = omega (arith, count_cons_nl x t e, count_cons_nl x (t ++ u) e, ih)
+    go (no n) ih = omega (arith, count_cons_on x t n, count_cons_on x (t ++ u) n, ih)
 
 -- the text from the start of row r on has the rows from r on, and that start lies within the text
 record From (t : List ℕ) (r : ℕ) : Type 0 where

@@ -39,13 +39,9 @@ fn few(part: &[u32]) -> u32
     ensures { Separators part.now result }
 {
     let mut n: u32 = 0;
-    let mut i: usize = 0;
-    while i < part.len() {
-        if part[i] == 10 {
+    for x in part {
+        if *x == 10 {
             n += 1;
-            i += 1;
-        } else {
-            i += 1;
         }
     }
     n
@@ -55,15 +51,13 @@ fn few(part: &[u32]) -> u32
 pub fn separators(part: &[u32]) -> usize
     ensures { Separators part.now result }
 {
-    let len = part.len();
+    let stretches = part.chunks_exact(STRETCH);
+    let last = stretches.remainder();
     let mut n: usize = 0;
-    let mut i: usize = 0;
-    while len - i >= STRETCH {
-        let end = i + STRETCH;
-        n += few(&part[i..end]) as usize;
-        i = end;
+    for stretch in stretches {
+        n += few(stretch) as usize;
     }
-    n + few(&part[i..len]) as usize
+    n + few(last) as usize
 }
 
 // How many rows a text has: one more than its separators.

@@ -15,19 +15,21 @@ fn walk_down(t: &[u32], row: usize, at: usize, to: usize) -> Line
     ensures { Reached t.now to result }
 {
     let mut r = row;
-    let mut i = at;
-    while i < t.len() {
+    for i in at..t.len() {
         if t[i] == 10 {
-            i += 1;
             r += 1;
             if r == to {
-                return Line { row: r, start: i };
+                return Line {
+                    row: r,
+                    start: i + 1,
+                };
             }
-        } else {
-            i += 1;
         }
     }
-    Line { row: r, start: i }
+    Line {
+        row: r,
+        start: t.len(),
+    }
 }
 
 // The same. Stretches that end before that row are counted and not walked.
@@ -37,6 +39,7 @@ fn below(t: &[u32], row: usize, at: usize, to: usize) -> Line
 {
     let mut r = row;
     let mut i = at;
+    // A `while`: where a stretch begins is what the walk goes on from.
     while t.len() - i >= STRETCH {
         let end = i + STRETCH;
         let s = separators(&t[i..end]);
@@ -89,18 +92,16 @@ fn walk_up(t: &[u32], row: usize, at: usize, n: usize) -> Line
 {
     let mut r = row;
     let mut left = n;
-    let mut i = at;
-    while i > 0 {
-        let b = i - 1;
+    for b in (0..at).rev() {
         if t[b] == 10 {
             if left == 0 {
-                return Line { row: r, start: i };
+                return Line {
+                    row: r,
+                    start: b + 1,
+                };
             }
             r -= 1;
             left -= 1;
-            i = b;
-        } else {
-            i = b;
         }
     }
     Line { row: 0, start: 0 }
@@ -116,6 +117,7 @@ pub fn up(t: &[u32], row: usize, at: usize, n: usize) -> Line
     let mut r = row;
     let mut left = n;
     let mut i = at;
+    // A `while`: where a stretch ends is what the walk goes on from.
     while i >= STRETCH {
         let b = i - STRETCH;
         let s = separators(&t[b..i]);
@@ -197,14 +199,12 @@ pub fn row_end(t: &[u32], at: usize) -> usize
     requires { at ≤ length t.now }
     ensures { EndsAt t.now at result }
 {
-    let mut e = at;
-    while e < t.len() {
+    for e in at..t.len() {
         if t[e] == 10 {
             return e;
         }
-        e += 1;
     }
-    e
+    t.len()
 }
 
 // How many code points a row has.
@@ -233,18 +233,11 @@ pub fn line_of(t: &[u32], from: Line, at: usize) -> Line
 {
     let mut row = from.row;
     let mut start = from.start;
-    let mut i = from.start;
-    while i < at {
+    for i in from.start..at {
         if t[i] == 10 {
-            i += 1;
             row += 1;
-            start = i;
-        } else {
-            i += 1;
+            start = i + 1;
         }
     }
-    Line {
-        row: row,
-        start: start,
-    }
+    Line { row, start }
 }

@@ -15,12 +15,9 @@ pub fn high_refusal(t: &[u32], high: bool) -> u32
     }
     let mut wrong = false;
     let mut separator = false;
-    let mut i: usize = 0;
-    while i < t.len() {
-        let x = t[i];
-        wrong = wrong | !((x <= 0x10ffff) & ((x < 0xd800) | (x > 0xdfff)));
-        separator = separator | ((x == 0x2028) | (x == 0x2029));
-        i += 1;
+    for &x in t {
+        wrong |= !((x <= 0x10ffff) & ((x < 0xd800) | (x > 0xdfff)));
+        separator |= (x == 0x2028) | (x == 0x2029);
     }
     if wrong {
         return 2;
@@ -45,13 +42,10 @@ pub fn text_refusal(t: &[u32]) -> u32
     let mut high = false;
     let mut feed = false;
     let mut next = false;
-    let mut i: usize = 0;
-    while i < t.len() {
-        let x = t[i];
-        high = high | (x >= 0x2028);
-        feed = feed | ((x >= 0xb) & (x <= 0xd));
-        next = next | (x == 0x85);
-        i += 1;
+    for &x in t {
+        high |= x >= 0x2028;
+        feed |= (x >= 0xb) & (x <= 0xd);
+        next |= x == 0x85;
     }
     let f = high_refusal(t, high);
     if f != 0 {

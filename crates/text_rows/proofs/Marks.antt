@@ -1,7 +1,7 @@
 -- Every separator is a mark, and so is every low line break that a text may not hold: a text with no more marks than separators has none of these.
 -- Assumes nothing.
-use Rattle.lists.proofs.Kit.{◌≡◌, refl, sym, ap, ◌∙◌, List, [], ◌∷◌, Bool, true, false, ◌&&◌, ◌||◌, true≢false, ℕ, zero, suc, ◌+◌, ◌≤◌, ◌<◌, ℕ_discrete, arith}
-use Rattle.lists.proofs.Kit.{length, get_or, take, drop, drop_of_length-le, eqb, leb, leb-true, ne_eqb}
+use Rattle.lists.proofs.Kit.{◌≡◌, refl, sym, ap, ◌∙◌, List, [], ◌∷◌, ◌++◌, Bool, true, false, ◌&&◌, ◌||◌, true≢false, ℕ, suc, ◌+◌, ◌≤◌, ◌<◌, ℕ_discrete, arith}
+use Rattle.lists.proofs.Kit.{length, get_or, drop, drop_of_length-le, eqb, leb, leb-true, ne_eqb}
 use Rattle.lists.specs.Lists.{any}
 use Rattle.lists.proofs.Lists.{drop_at}
 use Rattle.lists.proofs.Both.{both}
@@ -26,14 +26,13 @@ unfolding marks_in
 marks_nil = refl
 
 -- in two parts
-pub marks_parts : (k : ℕ) (t : List ℕ) → marks_in t ≡ marks_in (take k t) + marks_in (drop k t)
-marks_parts zero t = omega (arith, marks_nil)
-marks_parts (suc k) [] = marks_nil ∙ omega (arith, marks_nil)
-marks_parts (suc k) (x ∷ t) = go (is_mark x) refl (marks_parts k t)
+pub marks_parts : (t u : List ℕ) → marks_in (t ++ u) ≡ marks_in t + marks_in u
+marks_parts [] u = omega (arith, marks_nil)
+marks_parts (x ∷ t) u = go (is_mark x) refl (marks_parts t u)
   where
-    go : (b : Bool) → is_mark x ≡ b → marks_in t ≡ marks_in (take k t) + marks_in (drop k t) → marks_in (x ∷ t) ≡ marks_in (x ∷ take k t) + marks_in (drop k t)
-    go true e ih = omega (arith, marks_more x t e, marks_more x (take k t) e, ih)
-    go false e ih = omega (arith, marks_same x t e, marks_same x (take k t) e, ih)
+    go : (b : Bool) → is_mark x ≡ b → marks_in (t ++ u) ≡ marks_in t + marks_in u → marks_in (x ∷ (t ++ u)) ≡ marks_in (x ∷ t) + marks_in u
+    go true e ih = omega (arith, marks_more x t e, marks_more x (t ++ u) e, ih)
+    go false e ih = omega (arith, marks_same x t e, marks_same x (t ++ u) e, ih)
 
 -- of a loop that has come to i
 module _ (t : List ℕ) (i : ℕ) where

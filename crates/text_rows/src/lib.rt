@@ -4,8 +4,8 @@
 
 #![tactic(auto)]
 
-ghost use Rattle.std.specs.Prelude.{◌≡◌, ◌<◌, ◌≤◌, length};
-ghost use Rattle.text_rows.specs.Pass.{is_mark, ReadIn, Further, Tells, found_in};
+ghost use Rattle.std.specs.Prelude.{◌≡◌, ◌≤◌, length};
+ghost use Rattle.text_rows.specs.Pass.{is_mark, ReadIn, Tells, found_in};
 
 // The number that a text is refused with, how many rows it has, and the number that its table is
 // refused with.
@@ -44,32 +44,16 @@ fn read(t: &[u32]) -> Held
 {
     let mut bits: u32 = 0;
     let mut n: u32 = 0;
-    let mut i: usize = 0;
-    while i < t.len() {
-        let x = t[i];
-        bits = bits | x;
+    for &x in t {
+        bits |= x;
         if is_mark(x) {
             n += 1;
-            i += 1;
-        } else {
-            i += 1;
         }
     }
     Held {
         high: bits >= 0x2000,
         marks: n,
     }
-}
-
-// The end of the stretch that begins at an offset: some code points further on, or the text's end.
-fn stretch_end(len: usize, at: usize) -> usize
-    requires { at < len }
-    ensures { Further at len result }
-{
-    if len - at <= STRETCH {
-        return len;
-    }
-    at + STRETCH
 }
 
 // How many rows the text has, where it is accepted and the table holds their starts; 0 where that
@@ -80,8 +64,7 @@ fn stretch_end(len: usize, at: usize) -> usize
 fn rows_by(t: &[u32], starts: &[u32]) -> usize
     ensures { Tells t.now starts.now result }
 {
-    let len = t.len();
-    if len > 1048576 {
+    if t.len() > 1048576 {
         return 0;
     }
     if starts.len() == 0 {
@@ -91,10 +74,7 @@ fn rows_by(t: &[u32], starts: &[u32]) -> usize
         return 0;
     }
     let mut rows: usize = 1;
-    let mut at: usize = 0;
-    while at < len {
-        let end = stretch_end(len, at);
-        let part = &t[at..end];
+    for part in t.chunks(STRETCH) {
         let s = read(part);
         if text_check::high_refusal(part, s.high) != 0 {
             return 0;
@@ -107,7 +87,6 @@ fn rows_by(t: &[u32], starts: &[u32]) -> usize
             return 0;
         }
         rows = more;
-        at = end;
     }
     rows
 }
@@ -121,7 +100,7 @@ fn found_apart(t: &[u32], starts: &[u32], content: u32) -> Found
     let g = row_table::check::table_refusal(t, rows, rows, starts, content);
     Found {
         refusal: f,
-        rows: rows,
+        rows,
         table: g,
     }
 }
@@ -137,13 +116,13 @@ pub fn checked(t: &[u32], starts: &[u32], content: u32) -> Found
     if content as usize != text::content_of(t, rows) {
         return Found {
             refusal: 0,
-            rows: rows,
+            rows,
             table: 16,
         };
     }
     Found {
         refusal: 0,
-        rows: rows,
+        rows,
         table: 0,
     }
 }

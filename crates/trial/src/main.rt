@@ -9,7 +9,8 @@ use std::io;
 use std::io::Read;
 
 // Reads until `input` is full or `from` ends, and answers how many bytes it read: they stand at the
-// start of `input`, and fewer than it has room for are all that there were.
+// start of `input`, and fewer than it has room for are all that there were. A `while`: the step
+// differs from turn to turn.
 fn read_full<R: Read>(from: &mut R, input: &mut [u8]) -> io::Result<usize>
     ensures room { IfOk result (λ n. n ≤ length input.new) }
     ensures bytes { IfOk result (λ n. Consumes (R.remaining from.old) (R.remaining from.new)

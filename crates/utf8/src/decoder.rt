@@ -20,10 +20,8 @@ fn plain(bytes: &[u8]) -> bool
     ensures { result ≡ not (any is_above bytes.now) }
 {
     let mut above = false;
-    let mut i: usize = 0;
-    while i < bytes.len() {
-        above = above | (bytes[i] > 127);
-        i += 1;
+    for b in bytes {
+        above |= *b > 127;
     }
     !above
 }
@@ -47,6 +45,7 @@ fn count_on(bytes: &[u8], at: usize, until: usize, count: usize) -> Walk
 {
     let mut i = at;
     let mut n = count;
+    // A `while`: it goes on by a sequence of bytes, as long as its first byte says.
     while i < until {
         match step(bytes, i) {
             Step::Good(next, _) => {
@@ -68,6 +67,7 @@ pub fn check(bytes: &[u8]) -> Checked
 {
     let mut i: usize = 0;
     let mut n: usize = 0;
+    // A `while`: it goes on by a stretch, which may end within a sequence and then reaches past it.
     while i < bytes.len() {
         let until = stretch(i, bytes.len());
         if plain(&bytes[i..until]) {
@@ -96,6 +96,7 @@ fn widen_on(bytes: &[u8], points: &mut [u32], at: usize, until: usize, count: us
 {
     let mut i = at;
     let mut n = count;
+    // A `while`: the index where it ends is part of the answer.
     while i < until {
         points[n] = bytes[i] as u32;
         n += 1;
@@ -113,6 +114,7 @@ fn write_on(bytes: &[u8], points: &mut [u32], at: usize, until: usize, count: us
 {
     let mut i = at;
     let mut n = count;
+    // A `while`: it goes on by a sequence of bytes, as long as its first byte says.
     while i < until {
         match step(bytes, i) {
             Step::Good(next, x) => {
@@ -139,6 +141,7 @@ fn write(bytes: &[u8], points: &mut [u32])
 {
     let mut i: usize = 0;
     let mut n: usize = 0;
+    // A `while`: it goes on by a stretch, which may end within a sequence and then reaches past it.
     while i < bytes.len() {
         let until = stretch(i, bytes.len());
         if plain(&bytes[i..until]) {

@@ -30,10 +30,8 @@ fn size_all(points: &[u32]) -> usize
     ensures { result ≡ length (utf8 points.now) }
 {
     let mut n: usize = 0;
-    let mut i: usize = 0;
-    while i < points.len() {
-        n += size(points[i]);
-        i += 1;
+    for x in points {
+        n += size(*x);
     }
     n
 }
@@ -72,10 +70,8 @@ fn write(points: &[u32], bytes: &mut [u8])
         (utf8 points.now) }
 {
     let mut at: usize = 0;
-    let mut i: usize = 0;
-    while i < points.len() {
-        at = put(bytes, at, points[i]);
-        i += 1;
+    for x in points {
+        at = put(bytes, at, *x);
     }
 }
 

@@ -38,12 +38,10 @@ fn follow(bytes: &[u8], at: usize, left: usize, least: u8, most: u8, value: u32)
     ensures { Stepped bytes.now at (ended left value
         (reading left least most value at (drop at bytes.now))) result }
 {
-    let mut i = at;
-    let mut more = left;
     let mut from = least;
     let mut to = most;
     let mut bits = value;
-    while more > 0 {
+    for i in at..at + left {
         if i >= bytes.len() {
             return Step::Bad(i);
         }
@@ -57,10 +55,8 @@ fn follow(bytes: &[u8], at: usize, left: usize, least: u8, most: u8, value: u32)
         bits = bits * 64 + (b - 0x80) as u32;
         from = 0x80;
         to = 0xbf;
-        more -= 1;
-        i += 1;
     }
-    Step::Good(i, bits)
+    Step::Good(at + left, bits)
 }
 
 // The sequence that begins at an index.

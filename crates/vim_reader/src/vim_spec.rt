@@ -33,16 +33,10 @@ impl VimSpec {
         ensures { result ≡ in_vim (kept self) c }
     {
         let letter = letters::is_letter(c);
-        let n = self.len;
         let mut is = false;
-        let mut i: usize = 0;
-        while i < n {
-            let t = self.tokens[i];
+        for t in &self.tokens[..self.len] {
             if t.speaks(letter, c) {
                 is = !t.out;
-                i += 1;
-            } else {
-                i += 1;
             }
         }
         is
@@ -71,7 +65,7 @@ fn refused_at(n: u32, place: usize) -> VimRead
     VimRead {
         refusal: n,
         place: place,
-        spec: spec,
+        spec,
     }
 }
 
@@ -82,36 +76,29 @@ fn read_all(list: &[u32]) -> VimRead
     let mut spec = VimSpec::new();
     let mut n: usize = 0;
     let mut state = State::Start;
-    let mut i: usize = 0;
-    while i < list.len() {
-        let next = crate::machine::step(state, list[i]);
+    for (i, x) in list.iter().enumerate() {
+        let next = crate::machine::step(state, *x);
         let p = crate::machine::phase(next);
         if p == 0 {
             return refused_at(17, i);
         }
-        if p != 1 {
-            state = next;
-            i += 1;
-        } else if n < 128 {
-            spec.tokens[n] = crate::machine::token_of(state);
-            spec.len = n + 1;
+        if p == 1 {
+            if n < 128 {
+                spec.tokens[n] = crate::machine::token_of(state);
+                spec.len = n + 1;
+            }
             n += 1;
-            state = next;
-            i += 1;
-        } else {
-            n += 1;
-            state = next;
-            i += 1;
         }
+        state = next;
     }
     if !crate::machine::may_end(state) {
-        return refused_at(17, i);
+        return refused_at(17, list.len());
     }
     if crate::machine::phase(state) == 2 {
         return VimRead {
             refusal: 0,
             place: 0,
-            spec: spec,
+            spec,
         };
     }
     if 128 <= n {
@@ -122,7 +109,7 @@ fn read_all(list: &[u32]) -> VimRead
     VimRead {
         refusal: 0,
         place: 0,
-        spec: spec,
+        spec,
     }
 }
 

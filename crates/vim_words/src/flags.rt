@@ -19,14 +19,10 @@ fn tell(flags: &mut [u32; 256], t: VimToken)
     ensures { Told t flags.old flags.new }
 {
     let flag = said(t.out);
-    let mut c: usize = 0;
-    while c < 256 {
+    for c in 0..256 {
         let x = c as u32;
         if t.speaks(letters::is_letter(x), x) {
             flags[c] = flag;
-            c += 1;
-        } else {
-            c += 1;
         }
     }
 }
@@ -37,12 +33,8 @@ pub fn flags_of(spec: VimSpec) -> [u32; 256]
     ensures { Flags (kept spec) result }
 {
     let mut flags = [0u32; 256];
-    let n = spec.len;
-    let mut i: usize = 0;
-    while i < n {
-        let t = spec.tokens[i];
-        tell(&mut flags, t);
-        i += 1;
+    for t in &spec.tokens[..spec.len] {
+        tell(&mut flags, *t);
     }
     flags
 }
@@ -52,16 +44,10 @@ pub fn letters_of(spec: VimSpec) -> bool
     requires { spec.len ≤ 128 }
     ensures { result ≡ last_letters false (kept spec) }
 {
-    let n = spec.len;
     let mut is = false;
-    let mut i: usize = 0;
-    while i < n {
-        let t = spec.tokens[i];
+    for t in &spec.tokens[..spec.len] {
         if t.kind == 1 {
             is = !t.out;
-            i += 1;
-        } else {
-            i += 1;
         }
     }
     is

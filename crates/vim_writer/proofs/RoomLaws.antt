@@ -1,5 +1,5 @@
 -- Laws of a list put into lent room: one more token put, the room that it takes, and the answer. Assumes nothing.
-use Rattle.lists.proofs.Kit.{◌≡◌, ap, sym, subst, ◌∙◌, List, [], ◌∷◌, ◌++◌, ℕ, ◌+◌, ◌≤◌, ◌<◌, arith, length, get_or, take, drop, sets-eq, take-append_seam}
+use Rattle.lists.proofs.Kit.{take-length, ◌≡◌, ap, sym, subst, ◌∙◌, List, [], ◌∷◌, ◌++◌, ℕ, ◌+◌, ◌≤◌, ◌<◌, arith, length, get_or, take, drop, sets-eq, take-append_seam}
 use Rattle.lists.proofs.Kit.{ne_eqb, le-leb, lt-leb}
 use Rattle.print.specs.Print.{Wrote}
 use Rattle.print.proofs.Laws.{wrote_then}
@@ -38,16 +38,18 @@ module _ {room o p : List ℕ} {at b : ℕ} (ts : List VimToken) (i : ℕ) (h : 
   put_next {c = c} {q = q} n u v = subst (λ (l : List ℕ). Wrote room 0 l c q) (sym (written_next ts i h n)) (wrote_then w (wrote_then u v))
 
 -- the room that the token at i takes is there
-module _ (ts : List VimToken) (n i at m : ℕ) (h : i < n) (k : n ≤ length ts) (r : length (written (take n ts)) ≤ m)
-    (w : at ≡ 0 + length (written (take i ts))) where
+module _ (ts : List VimToken) (i at m : ℕ) (h : i < length ts) (r : length (written ts) ≤ m) (w : at ≡ 0 + length (written (take i ts))) where
+  within : length (written (take (i + 1) ts)) ≤ m
+  within = omega (arith, r, take_longer ts (i + 1) (length ts) (omega arith), ap (λ (l : List VimToken). length (written l)) (take-length ts))
+
   pub room_first : i ≡ 0 → at + length (token_text (get_or ts i no_token)) ≤ m
   unfolding written
   room_first z =
       let none : length (written (take i ts)) ≡ 0 = rw z in
-      omega (arith, none, ap length (written_first ts i (omega arith) z), take_longer ts (i + 1) n (omega arith))
+      omega (arith, none, ap length (written_first ts i h z), within)
 
   pub room_next : (i ≡ 0 → ⊥) → at + 1 + length (token_text (get_or ts i no_token)) ≤ m
-  room_next z = omega (arith, next_length ts i (omega arith) z, take_longer ts (i + 1) n (omega arith))
+  room_next z = omega (arith, next_length ts i h z, within)
 
 -- the answer
 module _ (spec : VimSpec) (room : List ℕ) where

@@ -58,6 +58,10 @@ module _ (ts : List VimToken) (i : ℕ) (h : i < length ts) where
   pub next_length : (i ≡ 0 → ⊥) → length (written (take (i + 1) ts)) ≡ length (written (take i ts)) + 1 + length (token_text (get_or ts i no_token))
   next_length n = ap length (written_next n) ∙ length-append (written (take i ts)) (44 ∷ token_text (get_or ts i no_token)) ∙ omega arith
 
+pub written_none : (ts : List VimToken) (i : ℕ) → i ≡ 0 → length (written (take i ts)) ≡ 0
+unfolding written
+written_none ts i z = rw z
+
 pub take_longer : (ts : List VimToken) (i n : ℕ) → i ≤ n → length (written (take i ts)) ≤ length (written (take n ts))
 take_longer ts i n h =
     let n_is : n ≡ i + (n - i) = omega arith in

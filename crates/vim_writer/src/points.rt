@@ -18,12 +18,10 @@ fn put_ascii(out: &mut [u32], at: usize, s: &[u8], n: usize) -> usize
     requires { PartRoom s.now n at out.old }
     ensures { Wrote out.old at (take n s.now) result out.new }
 {
-    let mut i: usize = 0;
-    while i < n {
+    for i in 0..n {
         out[at + i] = s[i] as u32;
-        i += 1;
     }
-    at + i
+    at + n
 }
 
 // How many digits n has in decimal.

@@ -16,17 +16,12 @@ fn list_size(spec: VimSpec) -> usize
     requires { spec.len ≤ 128 }
     ensures { result ≡ length (written (kept spec)) }
 {
-    let len = spec.len;
     let mut n: usize = 0;
-    let mut i: usize = 0;
-    while i < len {
-        if i == 0 {
-            n = crate::tokens::token_size(spec.tokens[i]);
-            i += 1;
-        } else {
-            n = n + 1 + crate::tokens::token_size(spec.tokens[i]);
-            i += 1;
+    for (i, t) in spec.tokens[..spec.len].iter().enumerate() {
+        if i > 0 {
+            n += 1;
         }
+        n += crate::tokens::token_size(*t);
     }
     n
 }
@@ -36,19 +31,12 @@ fn put_list(spec: VimSpec, room: &mut [u32]) -> usize
     requires { ListRoom spec room.old }
     ensures { Wrote room.old 0 (written (kept spec)) result room.new }
 {
-    let len = spec.len;
     let mut at: usize = 0;
-    let mut i: usize = 0;
-    while i < len {
-        let t = spec.tokens[i];
-        if i == 0 {
-            at = crate::tokens::put_token(room, at, t);
-            i += 1;
-        } else {
-            let next = crate::points::put(room, at, COMMA);
-            at = crate::tokens::put_token(room, next, t);
-            i += 1;
+    for (i, t) in spec.tokens[..spec.len].iter().enumerate() {
+        if i > 0 {
+            at = crate::points::put(room, at, COMMA);
         }
+        at = crate::tokens::put_token(room, at, *t);
     }
     at
 }

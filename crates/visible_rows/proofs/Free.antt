@@ -1,8 +1,8 @@
 -- Rows that no fold hides, found in one pass over the folds. Assumes nothing.
-use Rattle.lists.proofs.Kit.{◌≡◌, ◌∙◌, List, Bool, true, false, and-false, ℕ, ◌+◌, ◌-◌, ◌≤◌, ◌<◌, min, arith, length, get_or, drop, eqb, ltb, ne_eqb, le-ltb}
+use Rattle.lists.proofs.Kit.{◌≡◌, ◌∙◌, List, ◌++◌, Bool, true, false, and-false, ℕ, ◌+◌, ◌-◌, ◌≤◌, ◌<◌, min, arith, length, get_or, eqb, ltb, ne_eqb, le-ltb}
 use Rattle.lists.proofs.Kit.{lt-leb}
 use Rattle.folds.specs.Folds.{any_fold, fold_hides, hidden}
-use Rattle.folds.proofs.Hiding.{any_fold_on, any_fold_end}
+use Rattle.folds.proofs.Hiding.{any_fold_next, any_fold_few}
 use Rattle.visible_rows.specs.Visible.{rows_beyond, Clear, Free, shift}
 
 -- no row up to a fold's first is hidden by it, and none after its last
@@ -30,22 +30,26 @@ module _ {down : Bool} {row s e closed free : ℕ} where
   pub clear_ahead_up : {r : ℕ} → down ≡ false → r ≡ min free (row - 1 - e) → Clear down row s e closed free r
   clear_ahead_up {r} d m = rw d (record { most = omega arith; shown = λ k p l. hides_high (row - k) s e closed (omega arith) })
 
--- the first i numbers of the folds hide none of the next `free` rows
-pub record FreeTo (folds : List ℕ) (rows : ℕ) (down : Bool) (row free i : ℕ) : Type 0 where
-  pub inside : i ≤ length folds + 2
+-- the folds before those that are left hide none of the next `free` rows
+pub record FreeTo (folds : List ℕ) (rows : ℕ) (down : Bool) (row free size : ℕ) (left : List ℕ) : Type 0 where
+  pub three : size ≡ 3
   pub within : free ≤ rows_beyond down rows row
-  pub shown : (k : ℕ) → 0 < k → k ≤ free → hidden folds (shift down row k) ≡ any_fold (fold_hides (shift down row k)) (drop i folds)
+  pub shown : (k : ℕ) → 0 < k → k ≤ free → hidden folds (shift down row k) ≡ any_fold (fold_hides (shift down row k)) left
 
-module _ {folds : List ℕ} {rows : ℕ} {down : Bool} {row free i : ℕ} (so_far : FreeTo folds rows down row free i) where
-  pub free_step : {r : ℕ} → i + 2 < length folds → Clear down row (get_or folds i 0) (get_or folds (i + 1) 0) (get_or folds (i + 2) 0) free r →
-      FreeTo folds rows down row r (i + 3)
-  free_step {r} h clear =
+module _ {folds : List ℕ} {rows : ℕ} {down : Bool} {row free size : ℕ} {left : List ℕ} (so_far : FreeTo folds rows down row free size left) where
+  pub free_step : (x rest : List ℕ) {r size' : ℕ} → size' ≡ size → left ≡ x ++ rest → length x ≡ size →
+      Clear down row (get_or x 0 0) (get_or x 1 0) (get_or x 2 0) free r → FreeTo folds rows down row r size' rest
+  free_step x rest {r} same next full clear =
       record {
-        inside = omega arith;
+        three = same ∙ so_far.three;
         within = omega (arith, so_far.within, clear.most);
-        shown = λ k p l. so_far.shown k p (omega (arith, clear.most)) ∙ any_fold_on folds i h (fold_hides (shift down row k)) ∙ rw (clear.shown k p l);
+        shown = λ k p l. so_far.shown k p (omega (arith, clear.most))
+            ∙ any_fold_next left x rest next (full ∙ so_far.three) (fold_hides (shift down row k)) ∙ rw (clear.shown k p l);
       }
 
-  pub free_end : length folds ≤ i + 2 → Free folds rows down row free
+  pub free_end : length left < size → Free folds rows down row free
   free_end h =
-      record { within = so_far.within; shown = λ k p l. so_far.shown k p l ∙ any_fold_end folds i h (fold_hides (shift down row k)) }
+      record {
+        within = so_far.within;
+        shown = λ k p l. so_far.shown k p l ∙ any_fold_few (fold_hides (shift down row k)) left (omega (arith, so_far.three));
+      }

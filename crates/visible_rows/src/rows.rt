@@ -56,10 +56,8 @@ pub fn free_rows(folds: &[u32], rows: usize, down: bool, row: usize) -> usize
     ensures { Free folds.now rows down row result }
 {
     let mut free = rows_beyond(down, rows, row);
-    let mut i: usize = 0;
-    while i + 2 < folds.len() {
-        free = clear_of(down, row, folds[i], folds[i + 1], folds[i + 2], free);
-        i += 3;
+    for fold in folds.chunks_exact(3) {
+        free = clear_of(down, row, fold[0], fold[1], fold[2], free);
     }
     free
 }
@@ -99,7 +97,8 @@ pub fn hop(folds: &[u32], rows: usize, down: bool, row: usize, free: usize) -> H
     }
 }
 
-// So many visible rows on, or the last one that there is.
+// So many visible rows on, or the last one that there is. A `while`: the step differs from turn to
+// turn.
 fn rows_on(folds: &[u32], rows: usize, down: bool, row: usize, n: usize) -> usize
     requires { WalkReady folds.now rows row }
     ensures { RowIs (rounds (step_row folds.now rows down) n row) rows result }

@@ -24,12 +24,13 @@ module _ {c folds : List ℕ} {rows content : ℕ} {round : ℕ → Turn} {count
 
   -- a round from `cur`: on to another place, to the same one, or the last
   module _ {j : ℕ} where
-    pub counting_on : {q : Spot} {next : Stretch} → round cur.at ≡ On j → 0 < left → j + 1 ≤ length c → StandsAt c j q → NoFold folds next →
-        Counting c folds rows content round count from q (left - 1) next
-    counting_on {q} e h high at b =
+    pub counting_on : {q : Spot} {less : ℕ} {next : Stretch} → round cur.at ≡ On j → left ≡ less + 1 → j + 1 ≤ length c → StandsAt c j q → NoFold folds next →
+        Counting c folds rows content round count from q less next
+    counting_on {q} {less} e h high at b =
+        let less_is : less ≡ left - 1 = omega arith in
         record {
           ready = ready_at so_far.ready q at.stands (omega (arith, high, at.place));
-          rest = ap (counted round (left - 1)) at.place ∙ sym (counted_on round left cur.at j h e) ∙ so_far.rest;
+          rest = rw less_is (ap (counted round (left - 1)) at.place ∙ sym (counted_on round left cur.at j (omega arith) e) ∙ so_far.rest);
           bare = b;
         }
 

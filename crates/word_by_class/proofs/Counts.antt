@@ -10,6 +10,9 @@ module _ (round : ℕ → Turn) where
   unfolding counted
   counted_none n i e = rw e
 
+  pub counted_all : (n i : ℕ) → counted round (n - 0) i ≡ counted round n i
+  counted_all n i = let all : n - 0 ≡ n = omega arith in rw all
+
   pub counted_on : (n i j : ℕ) → 0 < n → round i ≡ On j → counted round n i ≡ counted round (n - 1) j
   unfolding counted
   counted_on zero i j h e = absurd (omega arith)

@@ -109,9 +109,8 @@ fn rounds(
         p.at }
 {
     let mut cur = p;
-    let mut left = count;
     let mut w = fold_stretches::around(folds, rows, p.row);
-    while left > 0 {
+    for _ in 0..count {
         w = fold_stretches::near(folds, rows, w, cur.row);
         match round_near(c, folds, rows, content, m, big, w, cur) {
             Turn::On(j) => {
@@ -119,7 +118,6 @@ fn rounds(
                     return j;
                 }
                 cur = moved(c, cur, j);
-                left -= 1;
             }
             Turn::Off(j) => {
                 return j;

@@ -6,8 +6,7 @@ use Rattle.word_class_rows.proofs.Counting.{row_first, row_end_next, row_char_ne
 use Rattle.word_class_rows.proofs.Counting.{start_first}
 
 -- the loop that counts row ends stands at i: n of them from a up to i
-pub record Counted (c : List ℕ) (a b n i : ℕ) : Type 0 where
-  pub up_to : i ≤ b
+pub record Counted (c : List ℕ) (a n i : ℕ) : Type 0 where
   pub few : n ≤ i
   pub rows : row_of c a + n ≡ row_of c i
 

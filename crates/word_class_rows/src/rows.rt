@@ -12,13 +12,9 @@ pub fn ends(c: &[u8], a: usize, b: usize) -> usize
     ensures { row_of c.now a + result ≡ row_of c.now b }
 {
     let mut n: usize = 0;
-    let mut i = a;
-    while i < b {
+    for i in a..b {
         if word_places::is_end(c, i) {
             n += 1;
-            i += 1;
-        } else {
-            i += 1;
         }
     }
     n
@@ -60,16 +56,15 @@ pub fn row_end(c: &[u8], p: Spot, row: usize) -> usize
 {
     let mut r = p.row;
     let mut i = p.at;
+    // A `loop`: the row has its end, so that behind a `for` there would be nothing to answer.
     loop {
         if word_places::is_end(c, i) {
             if r == row {
                 return i;
             }
             r += 1;
-            i += 1;
-        } else {
-            i += 1;
         }
+        i += 1;
     }
 }
 
@@ -79,17 +74,13 @@ pub fn row_start(c: &[u8], p: Spot, row: usize) -> usize
     ensures { result ≡ start_of c.now row }
 {
     let mut r = p.row;
-    let mut i = p.at;
-    while i > 0 {
-        if word_places::is_end(c, i - 1) {
+    for i in (0..p.at).rev() {
+        if word_places::is_end(c, i) {
             if r == row {
-                return i;
+                return i + 1;
             }
             r -= 1;
-            i -= 1;
-        } else {
-            i -= 1;
         }
     }
-    i
+    0
 }

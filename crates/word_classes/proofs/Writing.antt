@@ -43,7 +43,7 @@ module _ {word : ℕ → Bool} {t room now : List ℕ} {first : Bool} {i : ℕ} 
   writing_char h n q = rw (q) (rw (ne_eqb (get_or t i 0) 10 n) at (writing_on h))
 
   -- and the text's end
-  pub written : {v : ℕ} → length t ≤ i → length t < length room → v ≡ end_class first → set now i v ≡ holding (classes_of word t) room
+  pub written : {v : ℕ} → length t ≤ i → length t < length room → v ≡ end_class first → set now (length t) v ≡ holding (classes_of word t) room
   unfolding classes_from
   written h room_there q =
       let i_is : i ≡ length t = omega (arith, w.inside) in

@@ -53,19 +53,15 @@ pub fn write_classes(t: &[u32], spec: KeywordSpec, classes: &mut [u8])
         holding (classes_of (any_token (kept spec)) t.now) classes.old }
 {
     let mut first = true;
-    let mut i: usize = 0;
-    while i < t.len() {
-        let x = t[i];
-        if x == 10 {
+    for (i, x) in t.iter().enumerate() {
+        if *x == 10 {
             classes[i] = end_class(first);
             first = true;
-            i += 1;
         } else {
-            classes[i] = char_class(spec, x);
+            classes[i] = char_class(spec, *x);
             first = false;
-            i += 1;
         }
     }
     let last = end_class(first);
-    classes[i] = last;
+    classes[t.len()] = last;
 }

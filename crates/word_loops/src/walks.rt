@@ -25,6 +25,7 @@ pub fn skip(
         (place_of t.now p)) }
 {
     let mut cur = p;
+    // A `loop`: from place to place, over the ends of rows, and not by a counted index.
     loop {
         let k = near::kind_at(t, bounds, starts, lengths, s, cur);
         if !((k == a) | (k == b)) {
@@ -58,6 +59,7 @@ pub fn leave(
 {
     let row = p.row;
     let mut cur = p;
+    // A `loop`: from place to place, over the ends of rows, and not by a counted index.
     loop {
         let k = near::kind_at(t, bounds, starts, lengths, s, cur);
         if !((k == kind) & (cur.row == row)) {
@@ -90,6 +92,7 @@ pub fn run(
         (place_of t.now p)) }
 {
     let mut cur = p;
+    // A `loop`: from place to place, over the ends of rows, and not by a counted index.
     loop {
         match near::step_forward(t, cur) {
             Step::To(q) => {
@@ -122,6 +125,7 @@ pub fn back(
         (place_of t.now p)) }
 {
     let mut cur = p;
+    // A `loop`: from place to place, over the ends of rows, and not by a counted index.
     loop {
         let k = near::cls(t, bounds, starts, lengths, s, cur);
         if !((k == class) & !near::on_empty_row(t, cur)) {

@@ -11,6 +11,7 @@ pub fn over(c: &[u8], big: bool, a: u8, b: u8, i: usize) -> Halt
     ensures { result ≡ over c.now big a b i }
 {
     let mut cur = i;
+    // A `loop`: a step on passes a row's end too, so that steps are unequal.
     loop {
         let k = kind(c, big, cur);
         if !((k == a) | (k == b)) {
@@ -35,6 +36,7 @@ pub fn run_end(c: &[u8], big: bool, i: usize) -> usize
     let end = text_end(c);
     let k = kind(c, big, i);
     let mut cur = i;
+    // A `while`: where it stops is the answer, also where it began behind the end.
     while cur < end {
         if kind(c, big, cur + 1) != k {
             return cur;
@@ -50,6 +52,7 @@ pub fn back(c: &[u8], big: bool, k: u8, i: usize) -> Halt
     ensures { result ≡ back c.now big k i }
 {
     let mut cur = i;
+    // A `loop`: both its ends answer with the place, and the first place is looked at too.
     loop {
         if !((soft(c, big, cur) == k) & (class_at(c, cur) != EMPTY_ROW)) {
             return Halt::Onto(cur);

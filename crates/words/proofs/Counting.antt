@@ -1,5 +1,5 @@
 -- Where the loop over the rounds of a count stands, and how a round takes it on or ends it. Assumes nothing.
-use Rattle.lists.proofs.Kit.{◌≡◌, refl, ap, sym, ◌∙◌, List, ℕ, ◌-◌, ◌<◌}
+use Rattle.lists.proofs.Kit.{◌≡◌, ap, sym, ◌∙◌, List, ℕ, ◌+◌, ◌-◌, ◌<◌, arith}
 use Rattle.text.specs.declared.Position.{Position}
 use Rattle.word_kinds.specs.declared.Spot.{Spot}
 use Rattle.word_kinds.specs.Spots.{place_of, IsSpot, Lands}
@@ -20,8 +20,8 @@ pub record Counting (t folds : List ℕ) (round : Position → Turn) (count : �
   pub bare : NoFold folds w
 
 module _ {t folds : List ℕ} {round : Position → Turn} {count : ℕ} where
-  pub counting_start : {p : Spot} {w : Stretch} → IsSpot t p → NoFold folds w → Counting t folds round count p p count w
-  counting_start i b = record { spot = i; rest = refl; bare = b }
+  pub counting_start : {p : Spot} {w : Stretch} → IsSpot t p → NoFold folds w → Counting t folds round count p p (count - 0) w
+  counting_start i b = let all : count - 0 ≡ count = omega arith in record { spot = i; rest = rw all; bare = b }
 
   module _ {from cur : Spot} {left : ℕ} {w : Stretch} (so_far : Counting t folds round count from cur left w) where
     -- no round is left
@@ -30,10 +30,11 @@ module _ {t folds : List ℕ} {round : Position → Turn} {count : ℕ} where
 
     -- a round from `cur`: on to another place, to the same one, or the last
     module _ {r : code.Turn} (told : ComesTo t r (round (place_of t cur))) {q : Spot} where
-      pub counting_on : {next : Stretch} → r ≡ variant.On q → 0 < left → NoFold folds next → Counting t folds round count from q (left - 1) next
-      counting_on e h b =
+      pub counting_on : {less : ℕ} {next : Stretch} → r ≡ variant.On q → left ≡ less + 1 → NoFold folds next → Counting t folds round count from q less next
+      counting_on {less} e h b =
+          let less_is : less ≡ left - 1 = omega arith in
           let found = tells_as told e in
-          record { spot = found.inside; rest = sym (counted_on round left (place_of t cur) (place_of t q) h (sym found.place)) ∙ so_far.rest; bare = b }
+          record { spot = found.inside; rest = rw less_is (sym (counted_on round left (place_of t cur) (place_of t q) (omega arith) (sym found.place)) ∙ so_far.rest); bare = b }
 
       pub counting_still : r ≡ variant.On q → q.at ≡ cur.at → Lands t cur (counted round count (place_of t from))
       counting_still e h =

@@ -18,10 +18,8 @@ fn has_high(t: &[u32]) -> bool
     ensures { result ≡ any is_high t.now }
 {
     let mut high = false;
-    let mut i: usize = 0;
-    while i < t.len() {
-        high = high | (t[i] >= 0x2c2);
-        i += 1;
+    for x in t {
+        high |= *x >= 0x2c2;
     }
     high
 }

@@ -63,9 +63,8 @@ pub fn rounds_from(
         count (place_of t.now p) result }
 {
     let mut cur = p;
-    let mut left = count;
     let mut w = known;
-    while left > 0 {
+    for _ in 0..count {
         w = fold_stretches::near(folds, s.rows, w, cur.row);
         match round_near(t, folds, bounds, starts, lengths, s, m, w, cur) {
             Turn::On(q) => {
@@ -76,7 +75,6 @@ pub fn rounds_from(
                     };
                 }
                 cur = q;
-                left -= 1;
             }
             Turn::Off(q) => {
                 return Walked {

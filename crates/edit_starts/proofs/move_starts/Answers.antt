@@ -1,51 +1,32 @@
--- `move_starts` meets its contract. The invariant of its loop: the first k starts are moved. The measure is their number less k. Assumes nothing.
-use Rattle.lists.proofs.Kit.{ap, sym, ◌∙◌, ◌+◌, ◌-◌, arith, take, drop, length-slice}
-use Rattle.edit_places.proofs.Puts.{up_none, up_next, up_all, up_read, part_read}
+-- `move_starts` meets its contract. The invariant of its loop: the starts before the one that it has come to are moved. Assumes nothing.
+use Rattle.lists.proofs.Kit.{◌+◌, arith, get_or}
+use Rattle.std.proofs.lemmas.List.{get_or_default}
+use Rattle.std.proofs.lemmas.List.Edits.{map_over_more}
 use Rattle.edit_starts.specs.Moved.{moved_start}
-use Rattle.edit_starts.proofs.Moving.{map_read, map_size}
+use Rattle.edit_starts.proofs.Moving.{mapped_read, mapped_over}
 use Rattle.edit_starts.proofs.move_starts.Goals as goal
 
-pub loop-k-init : goal.loop-k-init
-loop-k-init c =
-    let given = c.args in
-    let moved_start_lem = moved_start given.less given.more in
-    let by_map_size = map_size moved_start_lem (drop given.from (take given.to given.starts.now)) in
-    let by_length_slice = length-slice given.from given.to given.starts.now (omega arith) in
-    record { within = omega arith; up = up_none _ _ _ (omega arith) }
-
 -- the start that is read is still the one of before
-pub overflow_sub-starts : goal.overflow_sub-starts
-overflow_sub-starts c =
-    let at_loop = c.loop-k in
+pub overflow_sub-s : goal.overflow_sub-s
+overflow_sub-s c =
+    let at_loop = c.loop-s in
     let given = c.args in
-    let read = up_read at_loop.invariant.up (given.from + at_loop.k) (omega arith) in
-    omega (arith, c.requires.moves.room (given.from + at_loop.k) (omega arith) (omega arith))
+    let read = mapped_read (moved_start given.less given.more) given.starts.now given.from given.to at_loop.s-index c.requires.order c.requires.within
+    c.loop-s-test.true at_loop.invariant in
+    omega (arith, read.1, c.requires.moves.room (given.from + at_loop.s-index) (omega arith) read.0)
 
-pub overflow_add-starts : goal.overflow_add-starts
-overflow_add-starts c =
-    let at_loop = c.loop-k in
+pub overflow_add-s : goal.overflow_add-s
+overflow_add-s c =
+    let at_loop = c.loop-s in
     let given = c.args in
-    let read = up_read at_loop.invariant.up (given.from + at_loop.k) (omega arith) in
-    omega (arith, c.requires.moves.room (given.from + at_loop.k) (omega arith) (omega arith))
+    let read = mapped_read (moved_start given.less given.more) given.starts.now given.from given.to at_loop.s-index c.requires.order c.requires.within
+    c.loop-s-test.true at_loop.invariant in
+    omega (arith, read.1, c.requires.moves.room (given.from + at_loop.s-index) (omega arith) read.0)
 
-pub loop-k-preserved : goal.loop-k-preserved
-loop-k-preserved c =
-    let at_loop = c.loop-k in
-    let given = c.args in
-    let moved_start_lem = moved_start given.less given.more in
-    let part = drop given.from (take given.to given.starts.now) in
-    let by_map_size = map_size moved_start_lem part in
-    let by_length_slice = length-slice given.from given.to given.starts.now (omega arith) in
-    let read = up_read at_loop.invariant.up (given.from + at_loop.k) (omega arith) in
-    let same = read ∙ sym (part_read given.starts.now given.to given.from at_loop.k (omega arith)) in
-    record {
-      within = omega arith;
-      up = up_next at_loop.invariant.up (omega arith) (ap moved_start_lem same ∙ sym (map_read moved_start_lem part at_loop.k (omega arith)));
-    }
+pub loop-s-preserved : goal.loop-s-preserved
+loop-s-preserved c =
+    let at_loop = c.loop-s in
+    map_over_more (moved_start c.args.less c.args.more) _ _ at_loop.s-index (get_or at_loop.s-items at_loop.s-index 0) (omega arith) at_loop.invariant (get_or_default at_loop.s-items at_loop.s-index 0 _ (omega arith))
 
 pub returns : goal.returns
-returns c =
-    let given = c.args in
-    let by_map_size = map_size (moved_start given.less given.more) (drop given.from (take given.to given.starts.now)) in
-    let by_length_slice = length-slice given.from given.to given.starts.now (omega arith) in
-    up_all c.loop-k.invariant.up (omega arith)
+returns c = mapped_over (moved_start c.args.less c.args.more) c.args.starts.now c.args.from c.args.to _ c.requires.order c.requires.within c.loop-s-test.false c.loop-s.invariant

@@ -1,6 +1,5 @@
--- `sum` meets its contract. The invariant of its loop: what is added, with what is left, comes to the whole. The measure is the length less i.
--- Assumes nothing.
-use Rattle.lists.proofs.Kit.{◌≡◌, List, ℕ, ◌+◌, ◌*◌, ◌-◌, ◌≤◌, length, drop}
+-- `sum` meets its contract. The invariant of its loop: what is added, with what is left, comes to the whole. Assumes nothing.
+use Rattle.lists.proofs.Kit.{◌≡◌, List, ℕ, ◌+◌, ◌*◌, ◌≤◌, length, drop}
 use Rattle.fold_blocks.specs.Bytes.{sum}
 use Rattle.fold_blocks.proofs.sum.Given as goal
 
@@ -9,8 +8,5 @@ pub record Added (bytes : List ℕ) (total i : ℕ) : Type 0 where
   pub small : total ≤ 255 * i
   pub whole : sum bytes ≡ total + sum (drop i bytes)
 
-abbrev pub invariant-loop-i : goal.invariant-loop-i
-invariant-loop-i l = Added l.bytes l.total l.i
-
-abbrev pub decreases-loop-i : goal.decreases-loop-i
-decreases-loop-i l = length l.bytes - l.i
+abbrev pub invariant-loop-x : goal.invariant-loop-x
+invariant-loop-x l = Added l.bytes l.total l.x-index

@@ -1,6 +1,4 @@
--- `put_blocks` meets its contract. The invariant of its loop: the folds before index `from` are written. The measure is how many blocks are left.
--- Assumes nothing.
-use Rattle.lists.proofs.Kit.{◌-◌}
+-- `put_blocks` meets its contract. The invariant of its loop: the folds before index `from` are written. Assumes nothing.
 use Rattle.fold_writer.proofs.Laying.{laying_start, laying_room, laying_on, laying_end, part_most}
 use Rattle.fold_writer.proofs.put_blocks.Goals as goal
 
@@ -20,6 +18,3 @@ loop-k-preserved c =
 
 pub returns : goal.returns
 returns c = laying_end c.loop-k.invariant c.loop-k-test.false
-
-pub shape_of-out : goal.shape_of-out
-shape_of-out c = c.loop-k.invariant.toward.size

@@ -1,22 +1,11 @@
--- `put_zeros` meets its contract. The invariant of its loop: i zeros are written. The measure is how many are left. Assumes nothing.
-use Rattle.lists.proofs.Kit.{◌-◌, add-zero, arith}
-use Rattle.print.proofs.Laws.{wrote_none}
-use Rattle.fold_writer.proofs.Writes.{wrote_zero, wrote_zeros}
+-- `put_zeros` meets its contract: it fills them in. Assumes nothing.
+use Rattle.lists.proofs.Kit.{◌≡◌, ◌∙◌, ◌+◌, ◌-◌, arith, drop, length-drop, length-take-le}
+use Rattle.fold_writer.proofs.Writes.{wrote_fill}
 use Rattle.fold_writer.proofs.put_zeros.Goals as goal
 
-pub loop-i-init : goal.loop-i-init
-loop-i-init c = record { within = omega arith; wrote = rw add-zero (wrote_none _ _) }
-
-pub loop-i-preserved : goal.loop-i-preserved
-loop-i-preserved c =
-    let at_loop = c.loop-i in
-    record { within = omega arith; wrote = wrote_zero at_loop.i at_loop.invariant.wrote }
-
 pub returns : goal.returns
-returns c = wrote_zeros c.loop-i.i c.args.n c.loop-i.invariant.within c.loop-i-test.false c.loop-i.invariant.wrote
-
-pub overflow_add-out : goal.overflow_add-out
-overflow_add-out c = omega (arith, c.loop-i.invariant.wrote.size)
-
-pub shape_of-out : goal.shape_of-out
-shape_of-out c = c.loop-i.invariant.wrote.size
+returns c =
+    let given = c.args in
+    let many : given.at + given.n - given.at ≡ given.n = omega arith in
+    let part = length-take-le (given.at + given.n - given.at) (drop given.at given.out.now) (omega (arith, many, c.requires, length-drop given.at given.out.now)) in
+    wrote_fill given.out.now given.at given.n _ _ c.requires many (part ∙ many) (c.fill.ensures.after (λ y h. h))

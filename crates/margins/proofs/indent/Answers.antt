@@ -1,6 +1,5 @@
--- `margins::indent` meets its contract. The invariant of its loop: everything before i is blank. The measure is the row's length less i.
--- Assumes nothing.
-use Rattle.lists.proofs.Kit.{sym, ◌∙◌, ◌-◌, arith}
+-- `margins::indent` meets its contract. The invariant of its loop: everything before i is blank. Assumes nothing.
+use Rattle.lists.proofs.Kit.{sym, ◌∙◌, arith}
 use Rattle.margins.proofs.Edging.{indent_on, indent_stop, indent_end}
 use Rattle.margins.proofs.indent.Goals as goal
 

@@ -1,23 +1,19 @@
--- `same_bytes` meets its contract. The invariant of its loop: both are the same before i. The measure is the length less i. Assumes nothing.
-use Rattle.lists.proofs.Kit.{sym, ◌-◌, arith}
-use Rattle.lists.proofs.Same.{same_long}
-use Rattle.replay_verdicts.proofs.SameTo.{same_to_start, same_to_stop, same_to_on, same_to_end}
+-- `same_bytes` meets its contract. The invariant of its loop: what is left decides. Assumes nothing.
+use Rattle.lists.proofs.Kit.{sym, ◌∙◌, arith}
+use Rattle.lists.proofs.Same.{same_long, same_on, same_stop, same_end}
 use Rattle.replay_classes.proofs.same_bytes.Goals as goal
 
 pub returns-then-a-b : goal.returns-then-a-b
 returns-then-a-b c = sym (same_long _ _ c.if-a-b.true)
 
-pub loop-i-init : goal.loop-i-init
-loop-i-init c = same_to_start _ _
-
-pub overflow_cast-a : goal.overflow_cast-a
-overflow_cast-a c = omega (arith, c.type_inv.a c.loop-i.i)
-
-pub returns-then-a-i : goal.returns-then-a-i
-returns-then-a-i c = same_to_stop c.loop-i.invariant (omega arith) (omega arith) c.if-a-i.true
+pub returns-then-x-b : goal.returns-then-x-b
+returns-then-x-b c =
+    sym (c.loop-i.invariant ∙ same_stop _ _ c.loop-i.i (omega arith) (omega arith) c.if-x-b.true)
 
 pub loop-i-preserved : goal.loop-i-preserved
-loop-i-preserved c = same_to_on c.loop-i.invariant (omega arith) (omega arith) c.if-a-i.false
+loop-i-preserved c =
+    c.loop-i.invariant ∙ same_on _ _ c.loop-i.i (omega arith) (omega arith) c.if-x-b.false
 
 pub returns : goal.returns
-returns c = same_to_end c.loop-i.invariant c.loop-i-test.false (omega arith)
+returns c =
+    sym (c.loop-i.invariant ∙ same_end _ _ c.loop-i.i c.loop-i-test.false (omega arith))

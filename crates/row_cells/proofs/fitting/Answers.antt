@@ -1,6 +1,6 @@
 -- `row_cells::fitting` meets its contract. The invariant of its loop: the characters before i go into the room and leave `left` cells.
--- The measure is the row's length less i. Assumes nothing.
-use Rattle.lists.proofs.Kit.{◌-◌, arith}
+-- Assumes nothing.
+use Rattle.lists.proofs.Kit.{arith}
 use Rattle.row_cells.proofs.Fits.{fits_next, fits_here, fits_end}
 use Rattle.row_cells.proofs.fitting.Goals as goal
 

@@ -1,12 +1,8 @@
 -- `row_cells::fitting` meets its contract. The invariant of its loop: the characters before i go into the room and leave `left` cells.
--- The measure is the row's length less i. Assumes nothing.
-use Rattle.lists.proofs.Kit.{◌-◌, length}
+-- Assumes nothing.
 use Rattle.chars.specs.Width.{width_by}
 use Rattle.row_cells.proofs.Fits.{FitsTo}
 use Rattle.row_cells.proofs.fitting.Given as goal
 
 abbrev pub invariant-loop-i : goal.invariant-loop-i
 invariant-loop-i l = FitsTo (width_by l.zeros l.doubles) l.room l.row l.i l.left
-
-abbrev pub decreases-loop-i : goal.decreases-loop-i
-decreases-loop-i l = length l.row - l.i

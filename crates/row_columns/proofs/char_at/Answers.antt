@@ -1,6 +1,5 @@
 -- `row_columns::char_at` meets its contract. The invariant of its loop: the character sought is not among those passed, whose cells end at `visual`.
--- The measure is the row's length less i. Assumes nothing.
-use Rattle.lists.proofs.Kit.{◌-◌}
+-- Assumes nothing.
 use Rattle.row_columns.proofs.Chars.{char_start, char_next, char_stop, char_end}
 use Rattle.row_columns.proofs.char_at.Goals as goal
 

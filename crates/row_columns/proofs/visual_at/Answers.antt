@@ -1,6 +1,6 @@
 -- `row_columns::visual_at` meets its contract. The invariant of its loop: `visual` is the visual column of character i, and i has not passed `col`.
--- The measure is the row's length less i. Assumes nothing.
-use Rattle.lists.proofs.Kit.{◌-◌, arith}
+-- Assumes nothing.
+use Rattle.lists.proofs.Kit.{arith}
 use Rattle.row_columns.proofs.Visual.{visual_start, visual_on, visual_stop, visual_end}
 use Rattle.row_columns.proofs.visual_at.Goals as goal
 

@@ -1,6 +1,6 @@
 -- `row_columns::visual_at` meets its contract. The invariant of its loop: `visual` is the visual column of character i, and i has not passed `col`.
--- The measure is the row's length less i. Assumes nothing.
-use Rattle.lists.proofs.Kit.{List, ℕ, ◌-◌, ◌≤◌, length}
+-- Assumes nothing.
+use Rattle.lists.proofs.Kit.{List, ℕ, ◌≤◌}
 use Rattle.chars.specs.Width.{width_by}
 use Rattle.row_columns.proofs.Visual.{VisualTo}
 use Rattle.row_columns.proofs.visual_at.Given as goal
@@ -11,6 +11,3 @@ pub record Walked (w : ℕ → ℕ) (tab : ℕ) (row : List ℕ) (col i visual :
 
 abbrev pub invariant-loop-i : goal.invariant-loop-i
 invariant-loop-i l = Walked (width_by l.zeros l.doubles) l.tab l.row l.col l.i l.visual
-
-abbrev pub decreases-loop-i : goal.decreases-loop-i
-decreases-loop-i l = length l.row - l.i

@@ -1,6 +1,6 @@
 -- `row_offsets::index_of` meets its contract. The invariant of its loop: no pair before k holds the column.
--- The measure is the number of pairs less k. Assumes nothing.
-use Rattle.lists.proofs.Kit.{sym, ◌∙◌, ◌-◌, arith}
+-- Assumes nothing.
+use Rattle.lists.proofs.Kit.{sym, ◌∙◌, arith}
 use Rattle.row_cells.proofs.Pairs.{pairs_next, pairs_stop, pairs_end}
 use Rattle.row_offsets.proofs.index_of.Goals as goal
 

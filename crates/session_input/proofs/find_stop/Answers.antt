@@ -1,6 +1,6 @@
 -- `session_input::find_stop` meets its contract. The invariant of its loop: no row before i is a full stop. The measure is the rest of the input.
 -- Assumes nothing.
-use Rattle.lists.proofs.Kit.{sym, ◌∙◌, ◌-◌}
+use Rattle.lists.proofs.Kit.{sym, ◌∙◌}
 use Rattle.session_input.proofs.Rows.{sought_start, sought_on, sought_here, sought_end}
 use Rattle.session_input.proofs.find_stop.Goals as goal
 

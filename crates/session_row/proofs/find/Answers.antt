@@ -1,6 +1,6 @@
--- `session_row::find` meets its contract. The invariant of its loop: the first x stands at or after i. The measure is the length less i.
+-- `session_row::find` meets its contract. The invariant of its loop: the first x stands at or after i.
 -- Assumes nothing.
-use Rattle.lists.proofs.Kit.{◌-◌, arith}
+use Rattle.lists.proofs.Kit.{arith}
 use Rattle.lists.proofs.Finding.{up_to_stop, up_to_on, up_to_end}
 use Rattle.session_row.proofs.find.Goals as goal
 
@@ -13,7 +13,7 @@ returns-then-s-i c =
 pub loop-i-preserved : goal.loop-i-preserved
 loop-i-preserved c =
     let by_up_to_on = up_to_on c.args.s.now c.loop-i.i c.args.x c.loop-i-test.true c.if-s-i.false in
-    (omega arith, omega arith, omega arith)
+    omega arith
 
 pub returns : goal.returns
 returns c =

@@ -1,6 +1,6 @@
 -- `text_check::high_refusal` meets its contract. The invariant of its loop: what was found so far, or is still to be found, is what the text holds.
--- The measure is the text's length less i. Assumes nothing.
-use Rattle.lists.proofs.Kit.{List, Bool, ℕ, ◌-◌, length}
+-- Assumes nothing.
+use Rattle.lists.proofs.Kit.{List, Bool, ℕ}
 use Rattle.chars.specs.Scalar.{not_scalar}
 use Rattle.lists.proofs.Any.{Finds}
 use Rattle.text_check.specs.Accept.{is_separator}
@@ -10,8 +10,5 @@ pub record Found (t : List ℕ) (wrong separator : Bool) (i : ℕ) : Type 0 wher
   pub wrongs : Finds not_scalar t wrong i
   pub separators : Finds is_separator t separator i
 
-abbrev pub invariant-loop-i : goal.invariant-loop-i
-invariant-loop-i l = Found l.t l.wrong l.separator l.i
-
-abbrev pub decreases-loop-i : goal.decreases-loop-i
-decreases-loop-i l = length l.t - l.i
+abbrev pub invariant-loop-x : goal.invariant-loop-x
+invariant-loop-x l = Found l.t l.wrong l.separator l.x-index

@@ -1,12 +1,9 @@
--- `bracket_kinds::find::first_bracket` meets its contract. The invariant of its loop: the first bracket from the column on is the first from i on.
--- The measure is the row's length less i. Assumes nothing.
-use Rattle.lists.proofs.Kit.{refl, sym, ◌∙◌, ◌-◌}
+-- `bracket_kinds::find::first_bracket` meets its contract. The invariant of its loop: the first bracket from the column on is the first from j on.
+-- Assumes nothing.
+use Rattle.lists.proofs.Kit.{sym, ◌∙◌}
 use Rattle.row_search.proofs.Nearest.{first_on, first_stop, first_end}
 use Rattle.bracket_kinds.proofs.find.first_bracket.Invariants.{test}
 use Rattle.bracket_kinds.proofs.find.first_bracket.Goals as goal
-
-pub loop-j-init : goal.loop-j-init
-loop-j-init c = refl
 
 pub returns-then-is_key_bracket : goal.returns-then-is_key_bracket
 returns-then-is_key_bracket c =

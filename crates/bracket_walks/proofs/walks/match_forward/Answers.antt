@@ -1,11 +1,13 @@
 -- `bracket_walks::walks::match_forward` meets its contract. The invariant of its loop: `depth` are open at j, no place passed closes what was open,
--- and j stands in row `row`. The measure is the text's length less j. Assumes nothing.
-use Rattle.lists.proofs.Kit.{sym, ◌∙◌, ◌-◌, arith}
+-- and j stands in row `row`. Assumes nothing.
+use Rattle.lists.proofs.Kit.{sym, ◌∙◌, arith}
 use Rattle.text.proofs.Stands.{step_char, step_nl}
 use Rattle.bracket_walks.proofs.Ahead.{ahead_start, ahead_close, ahead_open, ahead_other, ahead_found, ahead_none}
 use Rattle.bracket_walks.proofs.Walking.{walking_on}
 use Rattle.bracket_walks.proofs.Placed.{placed_at, placed_none}
 use Rattle.bracket_walks.proofs.walks.match_forward.Goals as goal
+use Rattle.bracket_walks.proofs.walks.match_forward.Goals.{then-x-closing+else-depth-eq0, else-x-closing+then-x-opening}
+use Rattle.bracket_walks.proofs.walks.match_forward.Goals.{else-x-closing+else-x-opening+then-x-eq10, else-x-closing+else-x-opening+else-x-eq10}
 
 pub loop-j-init : goal.loop-j-init
 loop-j-init c =
@@ -29,38 +31,30 @@ returns-then-depth-eq0 c =
     c.place.ensures ∙
     placed_at invariant.stands (ahead_found invariant.so_far c.loop-j-test.true c.if-x-closing.true c.if-depth-eq0.true)
 
--- another close
-pub loop-j-preserved-then-x-closing : goal.loop-j-preserved-then-x-closing
-loop-j-preserved-then-x-closing c =
-    let invariant = c.loop-j.invariant in
-    let tested = c.loop-j-test.true in
-    let taken = c.if-x-closing.true in
-    walking_on invariant (ahead_close invariant.so_far tested taken c.if-depth-eq0.false)
-    (step_char invariant.stands tested (λ f. invariant.so_far.hands.close_char (sym taken ∙ f)))
-
--- another open
-pub loop-j-preserved-then-x-opening : goal.loop-j-preserved-then-x-opening
-loop-j-preserved-then-x-opening c =
-    let invariant = c.loop-j.invariant in
-    let tested = c.loop-j-test.true in
-    walking_on invariant (ahead_open invariant.so_far tested c.if-x-opening.true)
-    (step_char invariant.stands tested (λ f. invariant.so_far.hands.open_char (sym c.if-x-opening.true ∙ f)))
-
--- a separator
-pub loop-j-preserved-then-x-eq10 : goal.loop-j-preserved-then-x-eq10
-loop-j-preserved-then-x-eq10 c =
-    let invariant = c.loop-j.invariant in
-    let tested = c.loop-j-test.true in
-    walking_on invariant (ahead_other invariant.so_far tested c.if-x-opening.false c.if-x-closing.false)
-    (step_nl invariant.stands tested c.if-x-eq10.true)
-
--- any other code point
+-- another close, another open, a separator, or any other code point
 pub loop-j-preserved : goal.loop-j-preserved
 loop-j-preserved c =
     let invariant = c.loop-j.invariant in
+    let so_far = invariant.so_far in
     let tested = c.loop-j-test.true in
-    walking_on invariant (ahead_other invariant.so_far tested c.if-x-opening.false c.if-x-closing.false)
-    (step_char invariant.stands tested c.if-x-eq10.false)
+    elim c.if-x-closing.branch [
+      | then-x-closing+else-depth-eq0 w ↦ rw (w.depth-is, w.row-is, w.start-is) (
+          walking_on invariant (ahead_close so_far tested w.if-x-closing.true w.if-depth-eq0.false)
+          (step_char invariant.stands tested (λ f. so_far.hands.close_char (sym w.if-x-closing.true ∙ f)))
+          )
+      | else-x-closing+then-x-opening w ↦ rw (w.depth-is, w.row-is, w.start-is) (
+          walking_on invariant (ahead_open so_far tested w.if-x-opening.true)
+          (step_char invariant.stands tested (λ f. so_far.hands.open_char (sym w.if-x-opening.true ∙ f)))
+          )
+      | else-x-closing+else-x-opening+then-x-eq10 w ↦ rw (w.depth-is, w.row-is, w.start-is) (
+          walking_on invariant (ahead_other so_far tested w.if-x-opening.false w.if-x-closing.false)
+          (step_nl invariant.stands tested w.if-x-eq10.true)
+          )
+      | else-x-closing+else-x-opening+else-x-eq10 w ↦ rw (w.depth-is, w.row-is, w.start-is) (
+          walking_on invariant (ahead_other so_far tested w.if-x-opening.false w.if-x-closing.false)
+          (step_char invariant.stands tested w.if-x-eq10.false)
+          )
+    ]
 
 pub returns : goal.returns
 returns c = placed_none c.args.t.now (ahead_none c.loop-j.invariant.so_far c.loop-j-test.false)

@@ -1,6 +1,6 @@
 -- `brackets::matching::offset_of` meets its contract. The invariant of its loop: i stands in the row, `left` columns before the one sought.
--- The measure is the text's length less i. Assumes nothing.
-use Rattle.lists.proofs.Kit.{◌-◌, arith}
+-- Assumes nothing.
+use Rattle.lists.proofs.Kit.{arith}
 use Rattle.text.proofs.Stands.{step_char}
 use Rattle.brackets.proofs.Columns.{column_at_lem, column_nl, column_end}
 use Rattle.brackets.proofs.matching.offset_of.Goals as goal

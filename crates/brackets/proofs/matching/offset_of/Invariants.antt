@@ -1,6 +1,6 @@
 -- `brackets::matching::offset_of` meets its contract. The invariant of its loop: i stands in the row, `left` columns before the one sought.
--- The measure is the text's length less i. Assumes nothing.
-use Rattle.lists.proofs.Kit.{◌≡◌, List, ℕ, ◌+◌, ◌-◌, length}
+-- Assumes nothing.
+use Rattle.lists.proofs.Kit.{◌≡◌, List, ℕ, ◌+◌}
 use Rattle.text.specs.Offsets.{Stands}
 use Rattle.brackets.proofs.matching.offset_of.Given as goal
 
@@ -10,6 +10,3 @@ pub record Walked (t : List ℕ) (row start col i left : ℕ) : Type 0 where
 
 abbrev pub invariant-loop-i : goal.invariant-loop-i
 invariant-loop-i l = Walked l.t l.row l.start l.col l.i l.left
-
-abbrev pub decreases-loop-i : goal.decreases-loop-i
-decreases-loop-i l = length l.t - l.i

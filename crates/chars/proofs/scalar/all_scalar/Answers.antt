@@ -1,14 +1,13 @@
--- `chars::all_scalar` meets its contract. The invariant of its loop: what was found, or will be. The measure is what is left.
--- Assumes nothing.
-use Rattle.lists.proofs.Kit.{ap, not, ◌-◌}
+-- `chars::all_scalar` meets its contract. The invariant of its loop: what was found, or will be. Assumes nothing.
+use Rattle.lists.proofs.Kit.{ap, not}
 use Rattle.lists.proofs.Any.{finds_start, finds_on, finds_end}
 use Rattle.chars.proofs.scalar.all_scalar.Goals as goal
 
-pub loop-i-preserved : goal.loop-i-preserved
-loop-i-preserved c = finds_on c.loop-i.invariant c.loop-i-test.true
+pub loop-x-preserved : goal.loop-x-preserved
+loop-x-preserved c = finds_on c.loop-x.invariant c.loop-x-test.true
 
 pub returns : goal.returns
-returns c = ap not (finds_end c.loop-i.invariant c.loop-i-test.false)
+returns c = ap not (finds_end c.loop-x.invariant c.loop-x-test.false)
 
-pub loop-i-init : goal.loop-i-init
-loop-i-init c = finds_start _ _
+pub loop-x-init : goal.loop-x-init
+loop-x-init c = finds_start _ _

@@ -1,15 +1,10 @@
--- `entries::take_entries` meets its contract. The invariant of its loop: what is written, with the entries to come, comes to the whole. The measure is how
--- many are left. Assumes nothing.
-use Rattle.lists.proofs.Kit.{◌+◌, ◌*◌, ◌-◌, arith, drop}
+-- `entries::take_entries` meets its contract. The invariant of its loop: what is written, with the entries to come, comes to the whole. Assumes nothing.
+use Rattle.lists.proofs.Kit.{◌+◌, ◌*◌, arith, drop}
 use Rattle.fold_blocks.specs.Bytes.{entry_at}
 use Rattle.fold_blocks.proofs.Rules.{length_entries_in}
 use Rattle.fold_blocks.proofs.Toward.{toward_room, toward_on, toward_end}
-use Rattle.fold_reader.proofs.Takes.{entries_from, taking_start, entries_on, entries_done}
+use Rattle.fold_reader.proofs.Takes.{entries_from, entries_on, entries_done}
 use Rattle.fold_reader.proofs.entries.take_entries.Goals as goal
-
-pub loop-i-init : goal.loop-i-init
-loop-i-init c =
-    record { within = omega arith; toward = taking_start c.args.block.now c.args.count _ _ }
 
 pub take_entry-next-requires : goal.take_entry-next-requires
 take_entry-next-requires c =
@@ -43,6 +38,3 @@ pub returns : goal.returns
 returns c =
     let given = c.args in
     toward_end c.loop-i.invariant.toward (entries_done given.block.now given.count c.loop-i.i c.loop-i-test.false)
-
-pub shape_of-out : goal.shape_of-out
-shape_of-out c = c.loop-i.invariant.toward.size

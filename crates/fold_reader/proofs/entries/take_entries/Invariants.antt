@@ -1,6 +1,5 @@
--- `entries::take_entries` meets its contract. The invariant of its loop: what is written, with the entries to come, comes to the whole. The measure is how
--- many are left. Assumes nothing.
-use Rattle.lists.proofs.Kit.{List, ℕ, ◌-◌, ◌≤◌, drop}
+-- `entries::take_entries` meets its contract. The invariant of its loop: what is written, with the entries to come, comes to the whole. Assumes nothing.
+use Rattle.lists.proofs.Kit.{List, ℕ, ◌≤◌, drop}
 use Rattle.fold_blocks.specs.Bytes.{entries_in}
 use Rattle.fold_blocks.proofs.Toward.{Toward}
 use Rattle.fold_reader.proofs.Takes.{entries_from}
@@ -12,6 +11,3 @@ pub record Taken (block : List ℕ) (count : ℕ) (out₀ : List ℕ) (at : ℕ)
 
 abbrev pub invariant-loop-i : goal.invariant-loop-i
 invariant-loop-i l = Taken l.block l.count l.initial.out l.at l.out l.next l.i
-
-abbrev pub decreases-loop-i : goal.decreases-loop-i
-decreases-loop-i l = l.count - l.i

@@ -1,12 +1,17 @@
--- `layout::broken` meets its contract. The invariant of its loop: the blocks from k on decide. The measure is how many are left. Assumes nothing.
-use Rattle.lists.proofs.Kit.{◌-◌}
-use Rattle.lists.proofs.Decides.{Decides}
+-- `layout::broken` meets its contract. The invariant of its loop: the blocks that are left decide. Assumes nothing.
+use Rattle.lists.proofs.Kit.{◌≡◌, List, ℕ, ◌+◌, ◌*◌, length}
+use Rattle.std.specs.Slice.Iter.{chunks_exact_rest, chunks_exact_size}
+use Rattle.std.specs.Iterator.Adapters.{enumerate_source, enumerate_count}
+use Rattle.fold_blocks.specs.Listed.{blocks_of}
 use Rattle.fold_blocks.specs.Layout.{is_broken, broken}
-use Rattle.fold_blocks.proofs.Cuts.{cut_from}
 use Rattle.fold_reader.proofs.layout.broken.Given as goal
 
-abbrev pub invariant-loop-k : goal.invariant-loop-k
-invariant-loop-k l = Decides (is_broken l.file) (λ i. broken l.many l.n i (cut_from l.file l.many i)) l.many l.k
+pub record Passed (file : List ℕ) (many n k size : ℕ) (left : List ℕ) : Type 0 where
+  pub full : size ≡ 512
+  pub few : 512 * k + length left ≡ length file
+  pub same : is_broken file ≡ broken many n k (blocks_of left)
 
-abbrev pub decreases-loop-k : goal.decreases-loop-k
-decreases-loop-k l = l.many - l.k
+abbrev pub invariant-loop-k : goal.invariant-loop-k
+invariant-loop-k l =
+    let source = enumerate_source l.k-iterator in
+    Passed l.file l.many l.n (enumerate_count l.k-iterator) (chunks_exact_size source) (chunks_exact_rest source)

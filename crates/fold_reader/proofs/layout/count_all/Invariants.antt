@@ -1,17 +1,13 @@
--- `layout::count_all` meets its contract. The invariant of its loop: what is counted, with the blocks from k on, comes to the whole. The measure is how
--- many blocks are left. Assumes nothing.
-use Rattle.lists.proofs.Kit.{◌≡◌, List, ℕ, ◌+◌, ◌*◌, ◌-◌, ◌≤◌}
+-- `layout::count_all` meets its contract. The invariant of its loop: what is counted, with the blocks that are left, comes to the whole. Assumes nothing.
+use Rattle.lists.proofs.Kit.{◌≡◌, List, ℕ, ◌+◌, ◌*◌, ◌≤◌, length}
+use Rattle.std.specs.Slice.Iter.{chunks_exact_rest, chunks_exact_size}
 use Rattle.fold_blocks.specs.Listed.{blocks_of, count_all}
-use Rattle.fold_blocks.proofs.Cuts.{cut_from}
 use Rattle.fold_reader.proofs.layout.count_all.Given as goal
 
-pub record Counted (file : List ℕ) (many n k : ℕ) : Type 0 where
-  pub within : k ≤ many
-  pub small : n ≤ 65535 * k
-  pub whole : count_all (blocks_of file) ≡ n + count_all (cut_from file many k)
+pub record Counted (file : List ℕ) (n size : ℕ) (left : List ℕ) : Type 0 where
+  pub full : size ≡ 512
+  pub small : n + 128 * length left ≤ 128 * length file
+  pub whole : count_all (blocks_of file) ≡ n + count_all (blocks_of left)
 
-abbrev pub invariant-loop-k : goal.invariant-loop-k
-invariant-loop-k l = Counted l.file l.many l.n l.k
-
-abbrev pub decreases-loop-k : goal.decreases-loop-k
-decreases-loop-k l = l.many - l.k
+abbrev pub invariant-loop-block : goal.invariant-loop-block
+invariant-loop-block l = Counted l.file l.n (chunks_exact_size l.block-iterator) (chunks_exact_rest l.block-iterator)

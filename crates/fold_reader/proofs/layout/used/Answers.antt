@@ -1,13 +1,9 @@
--- `layout::used` meets its contract. The invariant of its loop: what was found, or is to come. The measure is the length less i. Assumes nothing.
-use Rattle.lists.proofs.Kit.{◌-◌}
-use Rattle.lists.proofs.Any.{finds_start, finds_on, finds_end}
+-- `layout::used` meets its contract. The invariant of its loop: what was found, or is to come. Assumes nothing.
+use Rattle.lists.proofs.Any.{finds_on, finds_end}
 use Rattle.fold_reader.proofs.layout.used.Goals as goal
 
-pub loop-i-preserved : goal.loop-i-preserved
-loop-i-preserved c = finds_on c.loop-i.invariant c.loop-i-test.true
+pub loop-x-preserved : goal.loop-x-preserved
+loop-x-preserved c = finds_on c.loop-x.invariant c.loop-x-test.true
 
 pub returns : goal.returns
-returns c = finds_end c.loop-i.invariant c.loop-i-test.false
-
-pub loop-i-init : goal.loop-i-init
-loop-i-init c = finds_start _ _
+returns c = finds_end c.loop-x.invariant c.loop-x-test.false

@@ -1,35 +1,27 @@
--- `folds::folds::cover` meets its contract. The invariant of its loop: the folds from i on decide. The measure is what is left of them.
--- Assumes nothing.
-use Rattle.lists.proofs.Kit.{sym, ◌∙◌, ◌+◌, ◌-◌, arith}
-use Rattle.folds.proofs.Hiding.{cover_on, cover_end}
+-- `folds::folds::cover` meets its contract. The invariant of its loop: the folds that are left decide. Assumes nothing.
+use Rattle.lists.proofs.Kit.{sym, ◌∙◌, arith}
+use Rattle.folds.proofs.Hiding.{cover_next, cover_few}
 use Rattle.folds.proofs.folds.cover.Goals as goal
-
--- the numbers of a fold fit
-pub overflow_cast-result : goal.overflow_cast-result
-overflow_cast-result c =
-    omega (arith, c.type_inv.folds c.loop-i.i)
-
-pub overflow_cast-result-then-fold_hides : goal.overflow_cast-result-then-fold_hides
-overflow_cast-result-then-fold_hides c =
-    omega (arith, c.type_inv.folds (c.loop-i.i + 1))
 
 pub returns-then-fold_hides : goal.returns-then-fold_hides
 returns-then-fold_hides c =
+    let step = c.in-Some.ensures.steps in
+    let three = step.1.1 ∙ c.loop-fold.invariant.three in
     rw (
-      c.loop-i.invariant.rest,
-      cover_on c.args.folds.now c.loop-i.i c.loop-i-test.true
-          c.args.row,
+      c.loop-fold.invariant.rest,
+      cover_next _ _ _ step.1.0 three c.args.row,
       ← c.fold_hides.ensures,
       c.if-fold_hides.true,
     )
 
-pub loop-i-preserved : goal.loop-i-preserved
-loop-i-preserved c =
+pub loop-fold-preserved : goal.loop-fold-preserved
+loop-fold-preserved c =
+    let step = c.in-Some.ensures.steps in
+    let three = step.1.1 ∙ c.loop-fold.invariant.three in
     record {
-      within = omega (arith, c.loop-i-test.true);
-      rest = c.loop-i.invariant.rest ∙ rw (
-        cover_on c.args.folds.now c.loop-i.i
-            c.loop-i-test.true c.args.row,
+      three = step.0 ∙ c.loop-fold.invariant.three;
+      rest = c.loop-fold.invariant.rest ∙ rw (
+        cover_next _ _ _ step.1.0 three c.args.row,
         ← c.fold_hides.ensures,
         c.if-fold_hides.false,
       );
@@ -37,5 +29,5 @@ loop-i-preserved c =
 
 pub returns : goal.returns
 returns c =
-    sym (c.loop-i.invariant.rest
-    ∙ cover_end c.args.folds.now c.loop-i.i c.loop-i-test.false c.args.row)
+    sym (c.loop-fold.invariant.rest
+    ∙ cover_few c.loop-fold.fold-iterator.rest.now c.args.row (omega (arith, c.in-None.ensures.steps, c.loop-fold.invariant.three)))

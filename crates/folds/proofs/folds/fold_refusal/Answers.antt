@@ -1,8 +1,7 @@
--- `folds::folds::fold_refusal` meets its contract. The invariant of its loop: the folds from i on decide. The measure is what is left of them.
--- Assumes nothing.
-use Rattle.lists.proofs.Kit.{◌∙◌, ◌-◌, arith, eq-eqb, ne_eqb, lt-ltb, le-ltb}
+-- `folds::folds::fold_refusal` meets its contract. The invariant of its loop: the folds that are left decide. Assumes nothing.
+use Rattle.lists.proofs.Kit.{◌∙◌, arith, eq-eqb, ne_eqb, lt-ltb, le-ltb}
 use Rattle.folds.specs.Folds.{bad_fold, fold_refusal}
-use Rattle.folds.proofs.Hiding.{any_fold_on, any_fold_end}
+use Rattle.folds.proofs.Hiding.{any_fold_next, any_fold_few}
 use Rattle.folds.proofs.folds.fold_refusal.Goals as goal
 
 pub returns-then-folds-ne0 : goal.returns-then-folds-ne0
@@ -16,23 +15,25 @@ returns-then-folds-gt256 c = rw (eq-eqb _ _ c.if-folds-ne0.false, lt-ltb _ _ c.i
 pub returns-then-bad_fold : goal.returns-then-bad_fold
 unfolding fold_refusal
 returns-then-bad_fold c =
+    let step = c.in-Some.ensures.steps in
+    let three = step.1.1 ∙ c.loop-fold.invariant.three in
     rw (
       eq-eqb _ _ c.if-folds-ne0.false,
       le-ltb _ _ c.if-folds-gt256.false,
-      c.loop-i.invariant.rest,
-      any_fold_on c.args.folds.now c.loop-i.i c.loop-i-test.true
-          (bad_fold c.args.rows),
+      c.loop-fold.invariant.rest,
+      any_fold_next _ _ _ step.1.0 three (bad_fold c.args.rows),
       ← c.bad_fold.ensures,
       c.if-bad_fold.true,
     )
 
-pub loop-i-preserved : goal.loop-i-preserved
-loop-i-preserved c =
-    let more = c.loop-i-test.true in
+pub loop-fold-preserved : goal.loop-fold-preserved
+loop-fold-preserved c =
+    let step = c.in-Some.ensures.steps in
+    let three = step.1.1 ∙ c.loop-fold.invariant.three in
     record {
-      within = omega (arith, more);
-      rest = c.loop-i.invariant.rest ∙ rw (
-        any_fold_on c.args.folds.now c.loop-i.i more (bad_fold c.args.rows),
+      three = step.0 ∙ c.loop-fold.invariant.three;
+      rest = c.loop-fold.invariant.rest ∙ rw (
+        any_fold_next _ _ _ step.1.0 three (bad_fold c.args.rows),
         ← c.bad_fold.ensures,
         c.if-bad_fold.false,
       );
@@ -44,6 +45,6 @@ returns c =
     rw (
       eq-eqb _ _ c.if-folds-ne0.false,
       le-ltb _ _ c.if-folds-gt256.false,
-      c.loop-i.invariant.rest,
-      any_fold_end c.args.folds.now c.loop-i.i c.loop-i-test.false (bad_fold c.args.rows),
+      c.loop-fold.invariant.rest,
+      any_fold_few (bad_fold c.args.rows) c.loop-fold.fold-iterator.rest.now (omega (arith, c.in-None.ensures.steps, c.loop-fold.invariant.three)),
     )

@@ -1,6 +1,6 @@
 -- `folds::folds::next_visible_row` meets its contract. The invariant of its loop: the first row seen from r on is the answer.
 -- The measure is the rows less r. Assumes nothing.
-use Rattle.lists.proofs.Kit.{refl, sym, ◌∙◌, ◌-◌, arith}
+use Rattle.lists.proofs.Kit.{refl, sym, ◌∙◌, arith}
 use Rattle.folds.proofs.Past.{said, folds_good, next_jump, next_here, next_none}
 use Rattle.folds.proofs.folds.next_visible_row.Goals as goal
 

@@ -1,6 +1,6 @@
 -- `folds::folds::prev_visible_row` meets its contract. The invariant of its loop: the last row seen before r is the answer.
 -- The measure is r. Assumes nothing.
-use Rattle.lists.proofs.Kit.{◌≡◌, ◌-◌}
+use Rattle.lists.proofs.Kit.{◌≡◌}
 use Rattle.folds.specs.Folds.{prev_visible}
 use Rattle.folds.proofs.folds.prev_visible_row.Given as goal
 

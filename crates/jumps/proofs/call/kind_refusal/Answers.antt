@@ -1,6 +1,6 @@
 -- `jumps::call::kind_refusal` meets its contract. The invariant of its loop: what is refused of the jumps from i on is what is refused of all.
--- The measure is how many numbers are left. Assumes nothing.
-use Rattle.lists.proofs.Kit.{◌≡◌, refl, sym, ◌∙◌, ℕ, ◌+◌, ◌-◌, ◌<◌, arith}
+-- Assumes nothing.
+use Rattle.lists.proofs.Kit.{◌≡◌, refl, sym, ◌∙◌, ℕ, ◌+◌, ◌<◌, arith}
 use Rattle.jumps.proofs.Pairs.{kinds_none, kinds_odd, kinds_bad, kinds_on}
 use Rattle.jumps.proofs.call.kind_refusal.Goals as goal
 
@@ -20,10 +20,6 @@ returns-then-jumps-i-gt3 c =
     let by_left_two = left_two _ _ c.loop-i-test.true c.if-i-n.false in
     sym (c.loop-i.invariant.refusal ∙ kinds_bad _ c.loop-i.i by_left_two c.if-jumps-i-gt3.true)
 
-pub loop-i-smaller : goal.loop-i-smaller
-loop-i-smaller c =
-    omega (arith, c.loop-i-test.true)
-
 pub loop-i-preserved : goal.loop-i-preserved
 loop-i-preserved c =
     let by_left_two = left_two _ _ c.loop-i-test.true c.if-i-n.false in
@@ -31,3 +27,10 @@ loop-i-preserved c =
 
 pub returns : goal.returns
 returns c = let at_loop = c.loop-i in sym (at_loop.invariant.refusal ∙ kinds_none _ at_loop.i (omega (arith, c.loop-i-test.false)))
+
+-- behind the last pair
+pub returns-else-jumps-i-gt3 : goal.returns-else-jumps-i-gt3
+returns-else-jumps-i-gt3 c =
+    let at_loop = c.loop-i in
+    let by_left_two = left_two _ _ c.loop-i-test.true c.if-i-n.false in
+    sym (at_loop.invariant.refusal ∙ kinds_on _ at_loop.i by_left_two (omega (arith, c.if-jumps-i-gt3.false)) ∙ kinds_none _ (at_loop.i + 2) (omega arith))

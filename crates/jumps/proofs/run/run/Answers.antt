@@ -1,7 +1,6 @@
 -- `run::run` meets its contract. The invariant of its loop: the places of the jumps made are written, what is left from the place reached is what is
--- left of all (`Running`), that place is one of the text, and the stretch has no closed fold (`OnTheWay`). The measure is how many numbers are left.
--- Assumes nothing.
-use Rattle.lists.proofs.Kit.{refl, sym, ◌-◌, arith}
+-- left of all (`Running`), that place is one of the text, and the stretch has no closed fold (`OnTheWay`). Assumes nothing.
+use Rattle.lists.proofs.Kit.{refl, sym, arith}
 use Rattle.word_kinds.specs.Spots.{place_of}
 use Rattle.word_kinds.specs.Lent.{kind_by}
 use Rattle.word_kinds.proofs.Telling.{tells_too, lands_here}
@@ -37,21 +36,6 @@ jump-r-requires c =
       room = omega (arith, two, at_loop.invariant.running.room);
     }
 
--- the length of a list fits a usize
-pub overflow_add-i : goal.overflow_add-i
-overflow_add-i c =
-    let at_loop = c.loop-i in
-    omega (
-      arith,
-      at_loop.invariant.all,
-      running_two at_loop.invariant.running (omega (arith, c.loop-i-test.true, at_loop.invariant.all)),
-    )
-
-pub loop-i-smaller : goal.loop-i-smaller
-loop-i-smaller c =
-    let at_loop = c.loop-i in
-    omega (arith, at_loop.invariant.all, running_two at_loop.invariant.running (omega (arith, c.loop-i-test.true, at_loop.invariant.all)))
-
 pub loop-i-preserved : goal.loop-i-preserved
 loop-i-preserved c =
     let at_loop = c.loop-i in
@@ -73,4 +57,16 @@ returns c =
     record {
       lands = tells_too (lands_here at_loop.invariant.spot) (sym (running_end at_loop.invariant.running (omega (arith, c.loop-i-test.false, at_loop.invariant.all))));
       left = running_places at_loop.invariant.running (omega (arith, c.loop-i-test.false, at_loop.invariant.all));
+    }
+
+-- behind the last jump
+pub returns-2 : goal.returns-2
+returns-2 c =
+    let at_loop = c.loop-i in
+    let jump_told = c.jump-r.ensures in
+    let after = running_next at_loop.invariant.running (running_two at_loop.invariant.running (omega (arith, c.loop-i-test.true, at_loop.invariant.all)))
+    jump_told.leaps.lands.place jump_told.left in
+    record {
+      lands = tells_too (lands_here jump_told.leaps.lands.inside) (sym (running_end after (omega arith)));
+      left = running_places after (omega arith);
     }

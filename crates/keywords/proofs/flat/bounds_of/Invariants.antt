@@ -1,6 +1,6 @@
 -- `keywords::bounds_of` meets its contract. The invariant of its loop: the bounds of the tokens before i are stored, and after them stands 0.
--- The measure is the table's length less i. Assumes nothing.
-use Rattle.lists.proofs.Kit.{◌≡◌, List, ℕ, ◌-◌, ◌≤◌, take}
+-- Assumes nothing.
+use Rattle.lists.proofs.Kit.{length, ◌≡◌, List, ℕ, ◌≤◌, take}
 use Rattle.keywords.specs.Flat.{flat, padded}
 use Rattle.list_tokens.specs.declared.Token.{Token}
 use Rattle.keywords.proofs.flat.bounds_of.Given as goal
@@ -10,7 +10,4 @@ pub record Stored (tokens : List Token) (n : ℕ) (bounds : List ℕ) (i : ℕ) 
   pub stored : bounds ≡ padded (flat (take i tokens))
 
 abbrev pub invariant-loop-i : goal.invariant-loop-i
-invariant-loop-i l = Stored l.spec.tokens l.n l.bounds l.i
-
-abbrev pub decreases-loop-i : goal.decreases-loop-i
-decreases-loop-i l = l.n - l.i
+invariant-loop-i l = Stored l.t-items (length l.t-items) l.bounds l.i

@@ -1,6 +1,5 @@
--- `keywords::flat::in_bounds` meets its contract. The invariant of its loop: no pair before i holds c. The measure is n less i.
--- Assumes nothing.
-use Rattle.lists.proofs.Kit.{◌+◌, ◌-◌, arith}
+-- `keywords::flat::in_bounds` meets its contract. The invariant of its loop: no pair before i holds c. Assumes nothing.
+use Rattle.lists.proofs.Kit.{◌+◌, arith}
 use Rattle.lists.proofs.Decides.{decides_stop, decides_on, decides_end}
 use Rattle.keywords.proofs.FlatLaws.{within_on, within_end}
 use Rattle.keywords.proofs.flat.in_bounds.Goals as goal

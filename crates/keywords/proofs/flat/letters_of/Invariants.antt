@@ -1,12 +1,8 @@
--- `keywords::letters_of` meets its contract. The invariant of its loop: no token before i holds every letter. The measure is the table's
--- length less i. Assumes nothing.
-use Rattle.lists.proofs.Kit.{◌-◌, take, drop}
+-- `keywords::letters_of` meets its contract. The invariant of its loop: no token before the index holds every letter. Assumes nothing.
+use Rattle.lists.proofs.Kit.{length, drop}
 use Rattle.lists.proofs.Decides.{Decides}
 use Rattle.keywords.specs.Flat.{any_alpha}
 use Rattle.keywords.proofs.flat.letters_of.Given as goal
 
-abbrev pub invariant-loop-i : goal.invariant-loop-i
-invariant-loop-i l = Decides (any_alpha (take l.n l.spec.tokens)) (λ j. any_alpha (drop j (take l.n l.spec.tokens))) l.n l.i
-
-abbrev pub decreases-loop-i : goal.decreases-loop-i
-decreases-loop-i l = l.n - l.i
+abbrev pub invariant-loop-t : goal.invariant-loop-t
+invariant-loop-t l = Decides (any_alpha l.t-items) (λ j. any_alpha (drop j l.t-items)) (length l.t-items) l.t-index

@@ -1,6 +1,6 @@
 -- `keywords::keyword_spec::list_holds` meets its contract. The invariant of its loop: the parts before `from` do not hold c. The measure is how
 -- far `from` is from past the list's end. Assumes nothing.
-use Rattle.lists.proofs.Kit.{ap, sym, ◌∙◌, List, ℕ, ◌-◌, arith, rules}
+use Rattle.lists.proofs.Kit.{ap, sym, ◌∙◌, List, ℕ, arith, rules}
 use Rattle.list_tokens.specs.Tokens.{tokens_in, any_token}
 use Rattle.lists.proofs.Decides.{decides_stop, decides_on, decides_end}
 use Rattle.lists.proofs.Splits.{split_from_start}

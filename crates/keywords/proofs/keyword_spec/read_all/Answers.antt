@@ -1,6 +1,6 @@
 -- `keywords::keyword_spec::read_all` meets its contract. The invariant of its loop: the table holds the tokens of the parts before `from`. The
 -- measure is how far `from` is from past the list's end. Assumes nothing.
-use Rattle.lists.proofs.Kit.{refl, ◌∙◌, ◌-◌, arith, rules, le-leb, lt-leb}
+use Rattle.lists.proofs.Kit.{refl, ◌∙◌, arith, rules, le-leb, lt-leb}
 use Rattle.list_tokens.proofs.TokenLaws.{step_next}
 use Rattle.keywords.proofs.TableLaws.{reading_start, reading_length, reading_skip, reading_keep, reading_full, reading_end}
 use Rattle.keywords.proofs.keyword_spec.read_all.Goals as goal

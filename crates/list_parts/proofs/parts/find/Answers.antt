@@ -1,6 +1,5 @@
--- `list_parts::parts::find` meets its contract. The invariant of its loop: the first x stands at or after i. The measure is the list's length
--- less i. Assumes nothing.
-use Rattle.lists.proofs.Kit.{◌-◌, arith}
+-- `list_parts::parts::find` meets its contract. The invariant of its loop: the first x stands at or after i. Assumes nothing.
+use Rattle.lists.proofs.Kit.{arith}
 use Rattle.lists.proofs.Finding.{up_to_stop, up_to_on, up_to_end}
 use Rattle.list_parts.proofs.parts.find.Goals as goal
 

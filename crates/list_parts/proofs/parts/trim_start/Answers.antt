@@ -1,6 +1,5 @@
--- `list_parts::parts::trim_start` meets its contract. The invariant of its loop: what stands before i is white space. The measure is the part's
--- length less i. Assumes nothing.
-use Rattle.lists.proofs.Kit.{sym, ◌∙◌, ◌-◌, arith}
+-- `list_parts::parts::trim_start` meets its contract. The invariant of its loop: what stands before i is white space. Assumes nothing.
+use Rattle.lists.proofs.Kit.{◌≡◌, sym, ◌∙◌, length, arith}
 use Rattle.list_parts.proofs.TrimLaws.{trims_on, trims_stop, trim_start_on, trim_start_stop, trim_start_end}
 use Rattle.list_parts.proofs.parts.trim_start.Goals as goal
 
@@ -17,7 +16,9 @@ loop-i-preserved c =
     trims_on at_loop.invariant (omega arith) (trim_start_on _ at_loop.i c.loop-i-test.true white)
 
 pub returns : goal.returns
-returns c = trims_stop c.loop-i.invariant (trim_start_end _ c.loop-i.i c.loop-i-test.false)
+returns c =
+    let i_is : c.loop-i.i ≡ length c.args.p.now = omega (arith, c.loop-i.invariant.inside) in
+    rw i_is at (trims_stop c.loop-i.invariant (trim_start_end _ c.loop-i.i c.loop-i-test.false))
 
 pub white_in-requires : goal.white_in-requires
 white_in-requires c = c.requires

@@ -1,6 +1,5 @@
--- `list_signs::convert::count_plain` meets its contract. The invariant of its loop: n are those before i. The measure is the list's length less
--- i. Assumes nothing.
-use Rattle.lists.proofs.Kit.{◌≡◌, List, Bool, ℕ, ◌+◌, ◌-◌, ◌≤◌, length, drop}
+-- `list_signs::convert::count_plain` meets its contract. The invariant of its loop: n are those before i. Assumes nothing.
+use Rattle.lists.proofs.Kit.{◌≡◌, List, Bool, ℕ, ◌+◌, ◌≤◌, length, drop}
 use Rattle.list_signs.specs.Plain.{without}
 use Rattle.list_signs.proofs.convert.count_plain.Given as goal
 
@@ -11,6 +10,3 @@ pub record Counted (list : List ℕ) (marks : List Bool) (n i : ℕ) : Type 0 wh
 
 abbrev pub invariant-loop-i : goal.invariant-loop-i
 invariant-loop-i l = Counted l.list l.marks l.n l.i
-
-abbrev pub decreases-loop-i : goal.decreases-loop-i
-decreases-loop-i l = length l.list - l.i

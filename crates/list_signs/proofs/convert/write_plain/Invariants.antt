@@ -1,6 +1,5 @@
--- `list_signs::convert::write_plain` meets its contract. The invariant of its loop: the first n of what has no mark are written. The measure is
--- the list's length less i. Assumes nothing.
-use Rattle.lists.proofs.Kit.{List, Bool, ℕ, ◌-◌, ◌≤◌, length}
+-- `list_signs::convert::write_plain` meets its contract. The invariant of its loop: the first n of what has no mark are written. Assumes nothing.
+use Rattle.lists.proofs.Kit.{List, Bool, ℕ, ◌≤◌, length}
 use Rattle.list_signs.proofs.ListLaws.{Writing}
 use Rattle.list_signs.proofs.convert.write_plain.Given as goal
 
@@ -10,6 +9,3 @@ pub record WrittenTo (list : List ℕ) (marks : List Bool) (room₀ room : List 
 
 abbrev pub invariant-loop-i : goal.invariant-loop-i
 invariant-loop-i l = WrittenTo l.list l.marks l.initial.room l.room l.n l.i
-
-abbrev pub decreases-loop-i : goal.decreases-loop-i
-decreases-loop-i l = length l.list - l.i

@@ -1,6 +1,5 @@
--- `list_signs::entry::first_mark` meets its contract. The invariant of its loop: no mark before i is true. The measure is the list's length less
--- i. Assumes nothing.
-use Rattle.lists.proofs.Kit.{◌-◌, arith}
+-- `list_signs::entry::first_mark` meets its contract. The invariant of its loop: no mark before i is true. Assumes nothing.
+use Rattle.lists.proofs.Kit.{arith}
 use Rattle.list_signs.proofs.ListLaws.{first_hit, first_on, first_end}
 use Rattle.list_signs.proofs.entry.first_mark.Goals as goal
 

@@ -1,6 +1,5 @@
--- `list_signs::entry::first_mark` meets its contract. The invariant of its loop: no mark before i is true. The measure is the list's length less
--- i. Assumes nothing.
-use Rattle.lists.proofs.Kit.{◌≡◌, List, Bool, ℕ, ◌+◌, ◌-◌, ◌≤◌, length, drop}
+-- `list_signs::entry::first_mark` meets its contract. The invariant of its loop: no mark before i is true. Assumes nothing.
+use Rattle.lists.proofs.Kit.{◌≡◌, List, Bool, ℕ, ◌+◌, ◌≤◌, length, drop}
 use Rattle.list_signs.specs.Plain.{first_in}
 use Rattle.list_signs.proofs.entry.first_mark.Given as goal
 
@@ -10,6 +9,3 @@ pub record Passed (list : List ℕ) (marks : List Bool) (i : ℕ) : Type 0 where
 
 abbrev pub invariant-loop-i : goal.invariant-loop-i
 invariant-loop-i l = Passed l.list l.marks l.i
-
-abbrev pub decreases-loop-i : goal.decreases-loop-i
-decreases-loop-i l = length l.list - l.i

@@ -1,11 +1,7 @@
--- `rows::read_row` meets its contract. The invariant of its loop, `Reading`: the numbers before i stand at the front of the room.
--- The measure is the row's length less i. Assumes nothing.
-use Rattle.lists.proofs.Kit.{◌-◌, length}
+-- `rows::read_row` meets its contract. The invariant of its loop, `Reading`: the numbers before the index stand at the front of the room.
+-- Assumes nothing.
 use Rattle.replay_rows.proofs.Reading.{Reading}
 use Rattle.replay_rows.proofs.rows.read_row.Given as goal
 
-abbrev pub invariant-loop-i : goal.invariant-loop-i
-invariant-loop-i l = Reading l.row l.initial.room l.room l.n l.r l.i
-
-abbrev pub decreases-loop-i : goal.decreases-loop-i
-decreases-loop-i l = length l.row - l.i
+abbrev pub invariant-loop-x : goal.invariant-loop-x
+invariant-loop-x l = Reading l.row l.initial.room l.room l.n l.r l.x-index

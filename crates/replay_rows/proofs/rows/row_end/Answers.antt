@@ -1,11 +1,8 @@
--- `rows::row_end` meets its contract. The invariant of its loop: the row ends no sooner than i. The measure is the length less i.
+-- `rows::row_end` meets its contract. The invariant of its loop: the row ends no sooner than i.
 -- Assumes nothing.
-use Rattle.lists.proofs.Kit.{refl, ◌-◌, arith}
+use Rattle.lists.proofs.Kit.{arith}
 use Rattle.replay_rows.proofs.Reading.{row_end_here, row_end_on, row_end_cut}
 use Rattle.replay_rows.proofs.rows.row_end.Goals as goal
-
-pub loop-i-init : goal.loop-i-init
-loop-i-init c = record { within = c.requires; rest = refl }
 
 -- the row's end stands at i
 pub returns-then-bytes-i-eq10 : goal.returns-then-bytes-i-eq10
@@ -17,7 +14,7 @@ pub loop-i-preserved : goal.loop-i-preserved
 loop-i-preserved c =
     let at_loop = c.loop-i in
     let by_row_end_on = row_end_on c.args.bytes.now at_loop.i (omega arith) c.if-bytes-i-eq10.false in
-    record { within = omega arith; rest = omega (arith, at_loop.invariant.rest, by_row_end_on) }
+    omega (arith, at_loop.invariant, by_row_end_on)
 
 -- the bytes end
 pub returns : goal.returns

@@ -1,5 +1,5 @@
--- `row_search::find::last_on_row` meets its contract. The invariant of its loop: the last match before the column is the last before i.
--- The measure is i. Assumes nothing.
+-- `row_search::find::last_on_row` meets its contract. The invariant of its loop: the last match before the column is the last of those left.
+-- Assumes nothing.
 use Rattle.lists.proofs.Kit.{◌≡◌, List, ℕ, ◌≤◌, length}
 use Rattle.row_search.specs.Nearest.{last_below}
 use Rattle.row_search.specs.Find.{is}
@@ -9,8 +9,5 @@ pub record Passed (row : List ℕ) (upto sought i : ℕ) : Type 0 where
   pub within : i ≤ length row
   pub rest : last_below (is row sought) upto ≡ last_below (is row sought) i
 
-abbrev pub invariant-loop-i : goal.invariant-loop-i
-invariant-loop-i l = Passed l.row l.upto l.sought l.i
-
-abbrev pub decreases-loop-i : goal.decreases-loop-i
-decreases-loop-i l = l.i
+abbrev pub invariant-loop-b : goal.invariant-loop-b
+invariant-loop-b l = Passed l.row l.upto l.sought l.b

@@ -1,12 +1,9 @@
 -- `row_search::find::next_on_row` meets its contract. The invariant of its loop: the first match from the column on is the first from i on.
--- The measure is the row's length less i. Assumes nothing.
-use Rattle.lists.proofs.Kit.{refl, sym, ◌∙◌, ◌-◌, arith, eq-eqb, ne_eqb}
+-- Assumes nothing.
+use Rattle.lists.proofs.Kit.{sym, ◌∙◌, arith, eq-eqb, ne_eqb}
 use Rattle.row_search.specs.Find.{is}
 use Rattle.row_search.proofs.Nearest.{first_on, first_stop, first_end}
 use Rattle.row_search.proofs.find.next_on_row.Goals as goal
-
-pub loop-i-init : goal.loop-i-init
-loop-i-init c = refl
 
 pub returns-then-row-i : goal.returns-then-row-i
 returns-then-row-i c =

@@ -1,5 +1,5 @@
--- `row_segment::segment::after_white` meets its contract. The invariant of its loop: the characters from k on and before n are no white space.
--- The measure is k. Assumes nothing.
+-- `row_segment::segment::after_white` meets its contract. The invariant of its loop: the characters from b on and before n are no white space.
+-- Assumes nothing.
 use Rattle.lists.proofs.Kit.{◌≡◌, List, ℕ, ◌≤◌}
 use Rattle.chars.specs.White.{is_white}
 use Rattle.row_segment.specs.Segments.{after_white}
@@ -9,8 +9,5 @@ pub record Passed (row : List ℕ) (n k : ℕ) : Type 0 where
   pub before : k ≤ n
   pub rest : after_white is_white row n ≡ after_white is_white row k
 
-abbrev pub invariant-loop-k : goal.invariant-loop-k
-invariant-loop-k l = Passed l.row l.n l.k
-
-abbrev pub decreases-loop-k : goal.decreases-loop-k
-decreases-loop-k l = l.k
+abbrev pub invariant-loop-b : goal.invariant-loop-b
+invariant-loop-b l = Passed l.row l.n l.b

@@ -1,5 +1,5 @@
--- `check::go_on` meets its contract. The invariant of its loop: the first i starts ascend, and stand behind a separator each. The measure is the
--- number of rows less i. Assumes nothing.
+-- `check::go_on` meets its contract. The invariant of its loop: the first i starts ascend, and stand behind a separator each.
+-- Assumes nothing.
 use Rattle.lists.proofs.Kit.{◌≡◌, refl, ◌+◌, ◌-◌, arith}
 use Rattle.row_table.proofs.Held.{held_no, table_within, table_behind, table_ascends}
 use Rattle.row_table.proofs.Ascend.{ascend_next, goes_yes, goes_no}

@@ -1,5 +1,5 @@
--- `check::go_on` meets its contract. The invariant of its loop: the first i starts ascend, and stand behind a separator each. The measure is the
--- number of rows less i. Assumes nothing.
+-- `check::go_on` meets its contract. The invariant of its loop: the first i starts ascend, and stand behind a separator each.
+-- Assumes nothing.
 use Rattle.lists.proofs.Kit.{◌≡◌, List, ℕ, ◌-◌, ◌≤◌, get_or}
 use Rattle.row_table.specs.Ascend.{Ascend}
 use Rattle.row_table.proofs.check.go_on.Given as goal
@@ -11,6 +11,3 @@ pub record Gone (t starts : List ℕ) (rows last i : ℕ) : Type 0 where
 
 abbrev pub invariant-loop-i : goal.invariant-loop-i
 invariant-loop-i l = Gone l.t l.starts l.rows l.last l.i
-
-abbrev pub decreases-loop-i : goal.decreases-loop-i
-decreases-loop-i l = l.rows - l.i

@@ -1,6 +1,6 @@
 -- `text::offsets::below` meets its contract. The invariant of its loop: i stands in row r, which lies above row `to`. The measure is the
 -- text's length less i. Assumes nothing.
-use Rattle.lists.proofs.Kit.{◌-◌, arith}
+use Rattle.lists.proofs.Kit.{arith}
 use Rattle.text.proofs.Stretches.{pass_on}
 use Rattle.text.proofs.offsets.below.Goals as goal
 

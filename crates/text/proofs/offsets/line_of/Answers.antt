@@ -1,17 +1,19 @@
--- `text::offsets::line_of` meets its contract. The invariant of its loop: i stands in row `row`. The measure is what is left up to `at`.
--- Assumes nothing.
-use Rattle.lists.proofs.Kit.{◌≡◌, ap, sym, ◌∙◌, ◌-◌, arith}
+-- `text::offsets::line_of` meets its contract. The invariant of its loop: i stands in row `row`. Assumes nothing.
+use Rattle.lists.proofs.Kit.{◌≡◌, ap, sym, ◌∙◌, arith}
 use Rattle.text.specs.Offsets.{row_of}
 use Rattle.text.proofs.Stands.{line_eq, step_char, step_nl, stands_row}
 use Rattle.text.proofs.offsets.line_of.Goals as goal
-
-pub loop-i-preserved-then-t-i-eq10 : goal.loop-i-preserved-then-t-i-eq10
-loop-i-preserved-then-t-i-eq10 c =
-    record { stands = step_nl c.loop-i.invariant.stands (omega arith) c.if-t-i-eq10.true; before = omega arith; within = omega arith }
+use Rattle.text.proofs.offsets.line_of.Goals.{then-t-i-eq10, else-t-i-eq10}
 
 pub loop-i-preserved : goal.loop-i-preserved
 loop-i-preserved c =
-    record { stands = step_char c.loop-i.invariant.stands (omega arith) c.if-t-i-eq10.false; before = omega arith; within = omega arith }
+    let stands = c.loop-i.invariant.stands in
+    elim c.if-t-i-eq10.branch [
+      | then-t-i-eq10 w ↦ rw (w.row-is, w.start-is)
+          (record { stands = step_nl stands (omega arith) w.if-t-i-eq10.true; before = omega arith; within = omega arith })
+      | else-t-i-eq10 w ↦ rw (w.row-is, w.start-is)
+          (record { stands = step_char stands (omega arith) w.if-t-i-eq10.false; before = omega arith; within = omega arith })
+    ]
 
 pub returns : goal.returns
 returns c =

@@ -1,6 +1,5 @@
--- `text::offsets::line_of` meets its contract. The invariant of its loop: i stands in row `row`. The measure is what is left up to `at`.
--- Assumes nothing.
-use Rattle.lists.proofs.Kit.{List, ℕ, ◌-◌, ◌≤◌, length}
+-- `text::offsets::line_of` meets its contract. The invariant of its loop: i stands in row `row`. Assumes nothing.
+use Rattle.lists.proofs.Kit.{List, ℕ, ◌≤◌, length}
 use Rattle.text.specs.Offsets.{Stands}
 use Rattle.text.proofs.offsets.line_of.Given as goal
 
@@ -11,6 +10,3 @@ pub record Walked (t : List ℕ) (at row start i : ℕ) : Type 0 where
 
 abbrev pub invariant-loop-i : goal.invariant-loop-i
 invariant-loop-i l = Walked l.t l.at l.row l.start l.i
-
-abbrev pub decreases-loop-i : goal.decreases-loop-i
-decreases-loop-i l = l.at - l.i

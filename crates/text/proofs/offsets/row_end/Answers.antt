@@ -1,6 +1,6 @@
--- `text::offsets::row_end` meets its contract. The invariant of its loop: the end is where the row from e on ends. The measure is the text's length less e.
+-- `text::offsets::row_end` meets its contract. The invariant of its loop: the end is where the row from e on ends.
 -- Assumes nothing.
-use Rattle.lists.proofs.Kit.{◌-◌, arith}
+use Rattle.lists.proofs.Kit.{arith}
 use Rattle.text.proofs.Rows.{rest_nl, rest_on, rest_end}
 use Rattle.text.proofs.offsets.row_end.Goals as goal
 

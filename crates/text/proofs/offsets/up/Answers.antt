@@ -1,6 +1,6 @@
 -- `text::offsets::up` meets its contract. The invariant of its loop: i stands in row r, and `left` rows are still to go up.
 -- The measure is i. Assumes nothing.
-use Rattle.lists.proofs.Kit.{ap, ◌∙◌, ◌-◌, arith}
+use Rattle.lists.proofs.Kit.{ap, ◌∙◌, arith}
 use Rattle.text.specs.Offsets.{line_at}
 use Rattle.text.proofs.Stretches.{pass_back, left_over}
 use Rattle.text.proofs.offsets.up.Goals as goal

@@ -1,6 +1,6 @@
 -- `decoder::check` meets its contract. The invariant of its loop: the code points before i are counted. The measure is the length less i.
 -- Assumes nothing.
-use Rattle.lists.proofs.Kit.{sym, ◌∙◌, ◌-◌, arith, not-true}
+use Rattle.lists.proofs.Kit.{sym, ◌∙◌, arith, not-true}
 use Rattle.utf8.proofs.Counted.{walked_on, walked_bad, counts_start, counts_to, counts_end}
 use Rattle.utf8.proofs.decoder.check.Goals as goal
 

@@ -1,6 +1,6 @@
 -- `decoder::count_on` meets its contract. The invariant of its loop: the code points before i are counted. The measure is what is left up to
 -- `until`. Assumes nothing.
-use Rattle.lists.proofs.Kit.{◌-◌, arith}
+use Rattle.lists.proofs.Kit.{arith}
 use Rattle.utf8.proofs.Counted.{stepped_good, stepped_bad, counts_on, counts_bad}
 use Rattle.utf8.proofs.decoder.count_on.Goals as goal
 

@@ -1,6 +1,6 @@
 -- `decoder::widen_on` meets its contract. The invariant of its loop: the code points before i are written, and what is left is ASCII. The measure
 -- is what is left up to `until`. Assumes nothing.
-use Rattle.lists.proofs.Kit.{◌-◌, arith}
+use Rattle.lists.proofs.Kit.{arith}
 use Rattle.utf8.proofs.Ascii.{plain_on}
 use Rattle.utf8.proofs.Starts.{begins_one}
 use Rattle.utf8.proofs.Written.{going_start, going_wrote, going_room, going_on_lem}

@@ -1,6 +1,6 @@
 -- `decoder::write` meets its contract. The invariant of its loop: the code points before i are written. The measure is the length less i.
 -- Assumes nothing.
-use Rattle.lists.proofs.Kit.{sym, ◌∙◌, ◌-◌, arith, not-true}
+use Rattle.lists.proofs.Kit.{sym, ◌∙◌, arith, not-true}
 use Rattle.utf8.proofs.Written.{going_start, going_then, going_end}
 use Rattle.utf8.proofs.Answers.{written_in_lem}
 use Rattle.utf8.proofs.decoder.write.Goals as goal

@@ -1,6 +1,6 @@
 -- `decoder::write_on` meets its contract. The invariant of its loop: the code points before i are written. The measure is what is left up to
 -- `until`. Assumes nothing.
-use Rattle.lists.proofs.Kit.{◌-◌, arith}
+use Rattle.lists.proofs.Kit.{arith}
 use Rattle.utf8.proofs.Counted.{stepped_good, stepped_bad}
 use Rattle.utf8.proofs.Written.{going_start, going_wrote, going_room, going_on_lem, going_bad}
 use Rattle.utf8.proofs.decoder.write_on.Goals as goal

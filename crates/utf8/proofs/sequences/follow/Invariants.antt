@@ -1,13 +1,10 @@
--- `sequences::follow` meets its contract. The invariant of its loop: what is read is what is read from here on, with so many bytes left. The
--- measure is their number. Assumes nothing.
-use Rattle.lists.proofs.Kit.{drop}
+-- `sequences::follow` meets its contract. The invariant of its loop: what is read is what is read from here on, with so many bytes left.
+-- Assumes nothing.
+use Rattle.lists.proofs.Kit.{◌+◌, ◌-◌, drop}
 use Rattle.utf8.specs.Decoding.{ended, reading}
 use Rattle.utf8.proofs.Steps.{Follows}
 use Rattle.utf8.proofs.sequences.follow.Given as goal
 
-abbrev pub invariant-loop-more : goal.invariant-loop-more
-invariant-loop-more l =
-    Follows l.bytes (ended l.left l.value (reading l.left l.least l.most l.value l.at (drop l.at l.bytes))) l.at l.i l.more l.from l.to l.bits
-
-abbrev pub decreases-loop-more : goal.decreases-loop-more
-decreases-loop-more l = l.more
+abbrev pub invariant-loop-i : goal.invariant-loop-i
+invariant-loop-i l =
+    Follows l.bytes (ended l.left l.value (reading l.left l.least l.most l.value l.at (drop l.at l.bytes))) l.at l.i (l.at + l.left - l.i) l.from l.to l.bits

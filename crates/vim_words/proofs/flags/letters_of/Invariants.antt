@@ -1,11 +1,7 @@
--- `vim_words::flags::letters_of` meets its contract. The invariant of its loop: the tokens before i have said `is` of the letters. The measure is the
--- table's length less i. Assumes nothing.
-use Rattle.lists.proofs.Kit.{◌-◌, take}
+-- `vim_words::flags::letters_of` meets its contract. The invariant of its loop: the tokens before i have said `is` of the letters. Assumes nothing.
+use Rattle.lists.proofs.Kit.{take}
 use Rattle.vim_words.proofs.Telling.{LettersTo}
 use Rattle.vim_words.proofs.flags.letters_of.Given as goal
 
-abbrev pub invariant-loop-i : goal.invariant-loop-i
-invariant-loop-i l = LettersTo (take l.n l.spec.tokens) l.n l.is l.i
-
-abbrev pub decreases-loop-i : goal.decreases-loop-i
-decreases-loop-i l = l.n - l.i
+abbrev pub invariant-loop-t : goal.invariant-loop-t
+invariant-loop-t l = LettersTo (take l.fn.spec.len l.fn.spec.tokens) l.fn.spec.len l.is l.t-index

@@ -1,38 +1,33 @@
--- `vim_words::flags::tell` meets its contract. The invariant of its loop: the token has been told of the codes below c. The measure is 256 less c.
+-- `vim_words::flags::tell` meets its contract. The invariant of its loop: the token has been told of the codes below c.
 -- Assumes nothing.
-use Rattle.lists.proofs.Kit.{sym, ◌∙◌, ◌-◌, arith, length-set}
+use Rattle.lists.proofs.Kit.{sym, ◌∙◌, arith, length-set}
 use Rattle.vim_words.proofs.Telling.{telling_start, telling_said, telling_kept, telling_end}
 use Rattle.vim_words.proofs.flags.tell.Goals as goal
+use Rattle.vim_words.proofs.flags.tell.Goals.{then-speaks, else-speaks}
 
 pub loop-c-init : goal.loop-c-init
 loop-c-init c =
     record { up_to = omega arith; size = c.requires; so_far = telling_start c.args.t c.args.flags.now }
 
--- the token speaks of c
-pub loop-c-preserved-then-speaks : goal.loop-c-preserved-then-speaks
-loop-c-preserved-then-speaks c =
-    let given = c.args in
-    let in_loop = c.loop-c in
-    let hit = sym c.speaks.ensures ∙ c.if-speaks.true in
-    let here = in_loop.invariant in
-    record {
-      up_to = omega arith;
-      size = length-set in_loop.flags in_loop.c _ ∙ here.size;
-      so_far = telling_said given.t given.flags.now in_loop.c in_loop.flags here.so_far (omega (arith, here.size)) _
-          c.said-flag.ensures hit;
-    }
-
--- it does not
+-- the token speaks of c, or does not
 pub loop-c-preserved : goal.loop-c-preserved
 loop-c-preserved c =
     let given = c.args in
     let in_loop = c.loop-c in
-    let miss = sym c.speaks.ensures ∙ c.if-speaks.false in
-    record {
-      up_to = omega arith;
-      size = in_loop.invariant.size;
-      so_far = telling_kept given.t given.flags.now in_loop.c in_loop.flags in_loop.invariant.so_far miss;
-    }
+    let here = in_loop.invariant in
+    elim c.if-speaks.branch [
+      | then-speaks w ↦ rw w.flags-is (record {
+        up_to = omega arith;
+        size = length-set in_loop.flags in_loop.c _ ∙ here.size;
+        so_far = telling_said given.t given.flags.now in_loop.c in_loop.flags here.so_far (omega (arith, here.size)) _
+            c.said-flag.ensures (sym c.speaks.ensures ∙ w.if-speaks.true);
+      })
+      | else-speaks w ↦ rw w.flags-is (record {
+        up_to = omega arith;
+        size = here.size;
+        so_far = telling_kept given.t given.flags.now in_loop.c in_loop.flags here.so_far (sym c.speaks.ensures ∙ w.if-speaks.false);
+      })
+    ]
 
 pub returns : goal.returns
 returns c =

@@ -1,8 +1,6 @@
--- `points::put_ascii` meets its contract. The invariant of its loop: the first i characters are written. The measure is the length less i.
--- Assumes nothing.
-use Rattle.lists.proofs.Kit.{◌≡◌, ap, ℕ, ◌-◌, add-zero, arith, take, rules}
+-- `points::put_ascii` meets its contract. The invariant of its loop: the first i characters are written. Assumes nothing.
+use Rattle.lists.proofs.Kit.{◌≡◌, add-zero, arith, rules}
 use Rattle.print.proofs.Laws.{wrote_none, wrote_byte}
-use Rattle.vim_writer.proofs.RoomLaws.{wrote_as}
 use Rattle.vim_writer.proofs.points.put_ascii.Goals as goal
 
 pub overflow_cast-out : goal.overflow_cast-out
@@ -17,7 +15,7 @@ pub returns : goal.returns
 returns c =
     let at_loop = c.loop-i in
     let i_is : at_loop.i ≡ c.args.n = omega arith in
-    wrote_as (ap (λ (k : ℕ). take k c.args.s.now) i_is) at_loop.invariant.wrote
+    rw i_is at at_loop.invariant.wrote
 
 pub loop-i-init : goal.loop-i-init
 loop-i-init c = search (rules, add-zero, wrote_none)

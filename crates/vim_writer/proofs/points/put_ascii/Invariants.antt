@@ -1,6 +1,5 @@
--- `points::put_ascii` meets its contract. The invariant of its loop: the first i characters are written. The measure is the length less i.
--- Assumes nothing.
-use Rattle.lists.proofs.Kit.{List, ℕ, ◌+◌, ◌-◌, ◌≤◌, take}
+-- `points::put_ascii` meets its contract. The invariant of its loop: the first i characters are written. Assumes nothing.
+use Rattle.lists.proofs.Kit.{List, ℕ, ◌+◌, ◌≤◌, take}
 use Rattle.print.specs.Print.{Wrote}
 use Rattle.vim_writer.proofs.points.put_ascii.Given as goal
 
@@ -10,6 +9,3 @@ pub record Put (out₀ : List ℕ) (at : ℕ) (s : List ℕ) (n : ℕ) (out : Li
 
 abbrev pub invariant-loop-i : goal.invariant-loop-i
 invariant-loop-i l = Put l.initial.out l.at l.s l.n l.out l.i
-
-abbrev pub decreases-loop-i : goal.decreases-loop-i
-decreases-loop-i l = l.n - l.i

@@ -1,6 +1,4 @@
--- `word_classes::classes::write_classes` meets its contract. The invariant of its loop: the places before i are written. The measure is the text's
--- length less i. Assumes nothing.
-use Rattle.lists.proofs.Kit.{◌-◌, length}
+-- `word_classes::classes::write_classes` meets its contract. The invariant of its loop: the places before i are written. Assumes nothing.
 use Rattle.list_tokens.specs.Tokens.{any_token}
 use Rattle.keywords.specs.Table.{kept}
 use Rattle.word_classes.proofs.Writing.{Writing}
@@ -8,6 +6,3 @@ use Rattle.word_classes.proofs.classes.write_classes.Given as goal
 
 abbrev pub invariant-loop-i : goal.invariant-loop-i
 invariant-loop-i l = Writing (any_token (kept l.spec)) l.t l.initial.classes l.classes l.first l.i
-
-abbrev pub decreases-loop-i : goal.decreases-loop-i
-decreases-loop-i l = length l.t - l.i
