@@ -1,10 +1,8 @@
 -- What `pair_around` makes of the walks: the innermost pair around an offset. Assumes nothing.
-use Rattle.lists.proofs.Kit.{◌≡◌, refl, sym, ◌∙◌, ap, List, Bool, true, false, ℕ, ◌+◌, ◌≤◌, ◌<◌, arith, length, get_or, eqb, ltb, eq-eqb, eqb-true, lt-ltb}
+use Rattle.lists.proofs.Kit.{◌≡◌, refl, sym, ◌∙◌, ap, List, Bool, true, false, ℕ, ◌+◌, ◌≤◌, ◌<◌, arith, length, get_or, eqb, ltb, eq-eqb, eqb-true, lt-ltb, Option, Some, None}
 use Rattle.lists.proofs.Kit.{ltb-true}
 use Rattle.text.specs.declared.Line.{Line}
 use Rattle.text.proofs.Stands.{step_char}
-use Rattle.row_search.specs.declared.Found.{Found}
-use Rattle.row_search.specs.declared.Found.TheVariants.{At, Nothing}
 use Rattle.row_search.proofs.Nearest.{never, both}
 use Rattle.bracket_kinds.specs.declared.Kind.{Kind}
 use Rattle.bracket_kinds.specs.Kinds.{open_of, close_of}
@@ -15,7 +13,7 @@ use Rattle.bracket_walks.specs.Matching.{close_from, open_below, pos_of, placed}
 use Rattle.bracket_walks.specs.Walk.{Goes, Hands}
 use Rattle.bracket_walks.proofs.Sides.{hands}
 use Rattle.bracket_inner.specs.declared.Inner.{Inner}
-use Rattle.bracket_inner.specs.declared.Inner.TheVariants.{None, Refused}
+use Rattle.bracket_inner.specs.declared.Inner.TheVariants.{None as Inner-as-None, Refused}
 use Rattle.bracket_inner.specs.Inner.{paired, pair_from, inner_open}
 use Rattle.bracket_inner.specs.Walk.{Stays, OpenBefore, stands_at}
 use Rattle.bracket_inner.proofs.Search.{placed_there, placed_nowhere, placed_refuses}
@@ -31,20 +29,20 @@ module _ (k : Kind) (t : List ℕ) (at : ℕ) (h : at ≤ length t) where
   unfolding paired pair_from placed
   by_open l e = on (close_from (open_of k) (close_of k) t (at + 1) 1) refl
     where
-      on : (f : Found) → close_from (open_of k) (close_of k) t (at + 1) 1 ≡ f → paired (pos_of t at) (placed t f) ≡ pair_from t (inner_open k t at)
-      on (At j) s = let by_on_open_found = on_open_found k t at h l e j s in rw (by_on_open_found.1, by_on_open_found.0)
-      on Nothing s = rw (on_open_none k t at h l e s)
+      on : (f : Option ℕ) → close_from (open_of k) (close_of k) t (at + 1) 1 ≡ f → paired (pos_of t at) (placed t f) ≡ pair_from t (inner_open k t at)
+      on (Some j) s = let by_on_open_found = on_open_found k t at h l e j s in rw (by_on_open_found.1, by_on_open_found.0)
+      on None s = rw (on_open_none k t at h l e s)
 
   module _ (n : at < length t → get_or t at 0 ≡ open_of k → ⊥) where
-    by_walks : (i : ℕ) → open_below (open_of k) (close_of k) t at 1 ≡ At i → Answers i at
+    by_walks : (i : ℕ) → open_below (open_of k) (close_of k) t at 1 ≡ Some i → Answers i at
     unfolding paired pair_from placed
     by_walks i b = on (close_from (open_of k) (close_of k) t at 1) refl
       where
-        on : (f : Found) → close_from (open_of k) (close_of k) t at 1 ≡ f → paired (pos_of t i) (placed t f) ≡ pair_from t (inner_open k t at)
-        on (At j) s = let by_pair_found = pair_found k t at h n i j b s in rw (by_pair_found.1, by_pair_found.0)
-        on Nothing s = rw (no_close k t at h n s)
+        on : (f : Option ℕ) → close_from (open_of k) (close_of k) t at 1 ≡ f → paired (pos_of t i) (placed t f) ≡ pair_from t (inner_open k t at)
+        on (Some j) s = let by_pair_found = pair_found k t at h n i j b s in rw (by_pair_found.1, by_pair_found.0)
+        on None s = rw (no_close k t at h n s)
 
-    by_none : open_below (open_of k) (close_of k) t at 1 ≡ Nothing → None ≡ pair_from t (inner_open k t at)
+    by_none : open_below (open_of k) (close_of k) t at 1 ≡ None → Inner-as-None ≡ pair_from t (inner_open k t at)
     unfolding pair_from
     by_none b = rw (no_open k t at h n b)
 
@@ -108,7 +106,7 @@ module _ {t : List ℕ} {l : Line} {at : ℕ} {x : Position} {k : Kind} {o c : �
             so ∙ rw (a.opens, a.closes, ← by_placed_there.2)
             (by_walks k t at within elsewhere by_placed_there.0 (rw (← a.opens, ← a.closes) by_placed_there.1))
 
-      pub none_answer : b ≡ Partner-as-None → None ≡ pair_from t (inner_open k t at)
+      pub none_answer : b ≡ Partner-as-None → Inner-as-None ≡ pair_from t (inner_open k t at)
       none_answer f = by_none k t at within elsewhere (rw (← a.opens, ← a.closes) (placed_nowhere t (open_below o c t at 1) (sym is ∙ f)))
 
       pub refused_answer : {f : ℕ} → b ≡ Partner-as-Refused f → Refused f ≡ pair_from t (inner_open k t at)

@@ -1,8 +1,6 @@
 -- Pairs around an offset, by `inner_open`: the answer is the open of the innermost one, and there is none exactly where no pair is around it.
 -- Assumes nothing.
-use Rattle.lists.proofs.Kit.{◌≡◌, refl, sym, ◌∙◌, ap, List, Bool, true, false, ℕ, ◌+◌, ◌≤◌, ◌<◌, dec_lt, arith, get_or, eqb, eq-eqb, eqb-true, le-leb, leb-true}
-use Rattle.row_search.specs.declared.Found.{Found}
-use Rattle.row_search.specs.declared.Found.TheVariants.{At, Nothing}
+use Rattle.lists.proofs.Kit.{◌≡◌, refl, sym, ◌∙◌, ap, List, Bool, true, false, ℕ, ◌+◌, ◌≤◌, ◌<◌, dec_lt, arith, get_or, eqb, eq-eqb, eqb-true, le-leb, leb-true, Option, Some, None}
 use Rattle.row_search.proofs.Nearest.{never, both}
 use Rattle.row_search.proofs.Told.{Last, last_told, last_none}
 use Rattle.bracket_kinds.specs.declared.Kind.{Kind}
@@ -30,7 +28,7 @@ module _ (k : Kind) (t : List ℕ) where
   pub open_partner : (i : ℕ) → get_or t i 0 ≡ open_of k → partner_of t i ≡ nearest_of (Open k) t i
   open_partner i e = ap (λ (s : Side). nearest_of s t i) (ap side_of e ∙ side_open k)
 
-  pub pair_partner : {i j : ℕ} → Forward k t i j → partner_of t i ≡ At j
+  pub pair_partner : {i j : ℕ} → Forward k t i j → partner_of t i ≡ Some j
   pair_partner {i} {j} f = partner_found t i (omega (arith, f.balanced.after, f.balanced.inside)) j (forward k f)
 
   module _ (x : ℕ) where
@@ -41,15 +39,15 @@ module _ (k : Kind) (t : List ℕ) where
         b : (eqb (get_or t i 0) (open_of k) ≡ true) × (reaches x (partner_of t i) ≡ true)
         b = both (eqb (get_or t i 0) (open_of k)) (reaches x (partner_of t i)) e
 
-        on : (f : Found) → partner_of t i ≡ f → reaches x f ≡ true → (j : ℕ) × Forward k t i j × (x ≤ j)
-        on (At j) p q = (j, forward_told k t i j (sym (open_partner i (eqb-true _ _ b.0)) ∙ p), leb-true _ _ q)
-        on Nothing p q = absurd (never q refl)
+        on : (f : Option ℕ) → partner_of t i ≡ f → reaches x f ≡ true → (j : ℕ) × Forward k t i j × (x ≤ j)
+        on (Some j) p q = (j, forward_told k t i j (sym (open_partner i (eqb-true _ _ b.0)) ∙ p), leb-true _ _ q)
+        on None p q = absurd (never q refl)
 
     opens_so : {i j : ℕ} → Around k t x i j → opens_around k t x i ≡ true
     unfolding reaches
     opens_so a = rw (eq-eqb _ _ a.pair.balanced.opens, pair_partner a.pair, le-leb _ _ a.to)
 
-    pub inner_told : (i : ℕ) → inner_open k t x ≡ At i → (j : ℕ) × Around k t x i j × Latest k t x i
+    pub inner_told : (i : ℕ) → inner_open k t x ≡ Some i → (j : ℕ) × Around k t x i j × Latest k t x i
     inner_told i e =
         let by_last_told = last_told (opens_around k t x) (x + 1) i e in
         let by_opens_told = opens_told i by_last_told.passes in (
@@ -62,10 +60,10 @@ module _ (k : Kind) (t : List ℕ) where
         latest l m a (yes u) = absurd (never (opens_so a) (l.none m u (omega (arith, a.from))))
         latest l m a (no u) = omega arith
 
-    pub inner_none : inner_open k t x ≡ Nothing → (i j : ℕ) → Around k t x i j → ⊥
+    pub inner_none : inner_open k t x ≡ None → (i j : ℕ) → Around k t x i j → ⊥
     inner_none e i j a = never (opens_so a) (last_none (opens_around k t x) (x + 1) e i (omega (arith, a.from)))
 
-    pub inner_found : {i j : ℕ} → Around k t x i j → Latest k t x i → inner_open k t x ≡ At i
+    pub inner_found : {i j : ℕ} → Around k t x i j → Latest k t x i → inner_open k t x ≡ Some i
     inner_found {i} a l = last_is (opens_around k t x) (x + 1) i
         (record { below = omega (arith, a.from); passes = opens_so a; none = λ m u v. no_later m u v (opens_around k t x m) refl })
       where
@@ -75,7 +73,7 @@ module _ (k : Kind) (t : List ℕ) where
             absurd (omega (arith, l m by_opens_told.0 (record { pair = by_opens_told.1; from = omega arith; to = by_opens_told.2 })))
         no_later m u v false e = refl
 
-    pub inner_nowhere : ((i j : ℕ) → Around k t x i j → ⊥) → inner_open k t x ≡ Nothing
+    pub inner_nowhere : ((i j : ℕ) → Around k t x i j → ⊥) → inner_open k t x ≡ None
     inner_nowhere n = last_nowhere (opens_around k t x) (x + 1) (λ m u. no_open m u (opens_around k t x m) refl)
       where
         no_open : (m : ℕ) → m < x + 1 → (b : Bool) → opens_around k t x m ≡ b → b ≡ false

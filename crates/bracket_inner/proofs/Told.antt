@@ -1,9 +1,7 @@
 -- The answer of `inner_pair` by its offsets: the last open with its close behind the position is that of the innermost pair, for two pairs never cross,
 -- so that every other one is around it. Assumes nothing.
-use Rattle.lists.proofs.Kit.{◌≡◌, refl, ◌∙◌, List, [], ◌∷◌, ◌⊎◌, inl, inr, ℕ, ◌<◌, ℕ_discrete, arith, eq-eqb, ne_eqb}
+use Rattle.lists.proofs.Kit.{◌≡◌, refl, ◌∙◌, List, [], ◌∷◌, ◌⊎◌, inl, inr, ℕ, ◌<◌, ℕ_discrete, arith, eq-eqb, ne_eqb, Option, Some, None}
 use Rattle.text_check.specs.Accept.{text_refusal}
-use Rattle.row_search.specs.declared.Found.{Found}
-use Rattle.row_search.specs.declared.Found.TheVariants.{At, Nothing}
 use Rattle.bracket_kinds.specs.declared.Kind.{Kind}
 use Rattle.text.specs.declared.Position.{Position}
 use Rattle.bracket_walks.specs.Matching.{pos_of, placed}
@@ -15,7 +13,7 @@ use Rattle.bracket_laws.proofs.Demand.{unique, pair_forward}
 use Rattle.positions.specs.Positions.{position_refusal}
 use Rattle.positions.proofs.Lowest.{lowest_none}
 use Rattle.positions.proofs.Checks.{inside}
-use Rattle.bracket_inner.specs.declared.Inner.TheVariants.{Pair, None, Refused}
+use Rattle.bracket_inner.specs.declared.Inner.TheVariants.{Pair, None as Inner-as-None, Refused}
 use Rattle.bracket_inner.specs.Inner.{ranges, paired, pair_from, inner_open, answered}
 use Rattle.bracket_inner.specs.Encloses.{Encloses, Within, Innermost}
 use Rattle.bracket_inner.specs.Innermost.{Standing, inner_at, refusal_of}
@@ -26,7 +24,7 @@ module _ (t : List ℕ) (k : Kind) (x : Position) where
   -- the answer, and what it is
   pub data Answer : Type 0 where
     a_pair : (p q : Position) → inner_at t k x ≡ Pair (ranges p q) → Innermost k t x p q → Standing t (ranges p q) → Answer
-    a_none : inner_at t k x ≡ None → ((p q : Position) → Encloses k t x p q → ⊥) → Answer
+    a_none : inner_at t k x ≡ Inner-as-None → ((p q : Position) → Encloses k t x p q → ⊥) → Answer
 
   -- of a text and a position that are not refused
   module _ (z : refusal_of t x ≡ 0) where
@@ -90,13 +88,13 @@ module _ (t : List ℕ) (k : Kind) (x : Position) where
     unfolding pair_from paired placed
     answered_so = on (inner_open k t (offset_of t x)) refl
       where
-        on : (f : Found) → inner_open k t (offset_of t x) ≡ f → Answer
-        on (At i) e =
+        on : (f : Option ℕ) → inner_open k t (offset_of t x) ≡ f → Answer
+        on (Some i) e =
             let by_inner_told = inner_told k t (offset_of t x) i e in
             let is : inner_at t k x ≡ Pair (ranges (pos_of t i) (pos_of t by_inner_told.0)) = answer_is ∙ rw (e, pair_partner k t by_inner_told.1.pair) in
             a_pair (pos_of t i) (pos_of t by_inner_told.0) is (innermost by_inner_told.1 by_inner_told.2) (both_stand t ok by_inner_told.1.pair)
-        on Nothing e =
-            let is : inner_at t k x ≡ None = answer_is ∙ rw e in
+        on None e =
+            let is : inner_at t k x ≡ Inner-as-None = answer_is ∙ rw e in
             a_none is (λ p q c. inner_none k t (offset_of t x) e (offset_of t p) (offset_of t q) (enclosing c))
 
   pub at_refused : (refusal_of t x ≡ 0 → ⊥) → inner_at t k x ≡ Refused (refusal_of t x)

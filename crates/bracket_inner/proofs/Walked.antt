@@ -1,8 +1,7 @@
 -- What the two walks from an offset find. Back from it, with depth 1: the open that is one less deep, behind which every other is closed again; on
 -- from it: the close of that one. Where a pair is around the offset, the text comes down to its depth on either side, so that both walks end.
 -- Assumes nothing.
-use Rattle.lists.proofs.Kit.{◌≡◌, sym, ◌∙◌, ap, List, ℕ, suc, ◌+◌, ◌≤◌, ◌<◌, dec_lt, ℕ_discrete, arith, length, get_or}
-use Rattle.row_search.specs.declared.Found.TheVariants.{At, Nothing}
+use Rattle.lists.proofs.Kit.{◌≡◌, sym, ◌∙◌, ap, List, ℕ, suc, ◌+◌, ◌≤◌, ◌<◌, dec_lt, ℕ_discrete, arith, length, get_or, Some, None}
 use Rattle.row_search.proofs.Nearest.{never}
 use Rattle.row_search.proofs.Told.{First, Last, first_told, first_none, last_told, last_none}
 use Rattle.bracket_kinds.specs.declared.Kind.{Kind}
@@ -27,14 +26,14 @@ module _ (k : Kind) (t : List ℕ) (x : ℕ) (h : x ≤ length t) where
     unfolding nearest_of
     own_partner = forward_deep (open_of k) (close_of k) t (hands k) x l e
 
-    pub on_open_found : (j : ℕ) → close_from (open_of k) (close_of k) t (x + 1) 1 ≡ At j → (partner_of t x ≡ At j) × (inner_open k t x ≡ At x)
+    pub on_open_found : (j : ℕ) → close_from (open_of k) (close_of k) t (x + 1) 1 ≡ Some j → (partner_of t x ≡ Some j) × (inner_open k t x ≡ Some x)
     on_open_found j s =
         let by_forward_told = forward_told k t x j (own_partner ∙ s) in (
           open_partner k t x e ∙ own_partner ∙ s,
           inner_found k t x (record { pair = by_forward_told; from = omega arith; to = omega (arith, by_forward_told.balanced.after) }) (λ m n a. a.from),
         )
 
-    pub on_open_none : close_from (open_of k) (close_of k) t (x + 1) 1 ≡ Nothing → inner_open k t x ≡ Nothing
+    pub on_open_none : close_from (open_of k) (close_of k) t (x + 1) 1 ≡ None → inner_open k t x ≡ None
     on_open_none s = inner_nowhere k t x (λ i j a. alone i j a (ℕ_discrete i x) (ℕ_discrete x j))
       where
         alone : (i j : ℕ) → Around k t x i j → Dec (i ≡ x) → Dec (x ≡ j) → ⊥
@@ -54,7 +53,7 @@ module _ (k : Kind) (t : List ℕ) (x : ℕ) (h : x ≤ length t) where
         on (yes u) = absurd (n (omega (arith, a.to, a.pair.balanced.inside)) (ap (λ (m : ℕ). get_or t m 0) (sym u) ∙ a.pair.balanced.opens))
         on (no u) = let i_below : i < x = omega (arith, a.from) in (i_below, (arch_of_forward a.pair).above x i_below a.to)
 
-    pub no_open : open_below (open_of k) (close_of k) t x 1 ≡ Nothing → inner_open k t x ≡ Nothing
+    pub no_open : open_below (open_of k) (close_of k) t x 1 ≡ None → inner_open k t x ≡ None
     no_open s = inner_nowhere k t x none
       where
         none : (i j : ℕ) → Around k t x i j → ⊥
@@ -63,7 +62,7 @@ module _ (k : Kind) (t : List ℕ) (x : ℕ) (h : x ≤ length t) where
             let by_free_open = free_open k t x h i a.from by_starts_before.1 in
             never by_free_open.3 (last_none (opens_at (open_of k) (close_of k) t x 1) x s by_free_open.0 by_free_open.2)
 
-    pub no_close : close_from (open_of k) (close_of k) t x 1 ≡ Nothing → inner_open k t x ≡ Nothing
+    pub no_close : close_from (open_of k) (close_of k) t x 1 ≡ None → inner_open k t x ≡ None
     no_close s = inner_nowhere k t x none
       where
         none : (i j : ℕ) → Around k t x i j → ⊥
@@ -76,7 +75,7 @@ module _ (k : Kind) (t : List ℕ) (x : ℕ) (h : x ≤ length t) where
             (omega (arith, by_free_close.2, balanced.inside)))
 
     -- the open that the walk back finds, and the close that the walk on finds: they are partners, and every pair around x starts there or before
-    module _ (i j : ℕ) (back : open_below (open_of k) (close_of k) t x 1 ≡ At i) (on : close_from (open_of k) (close_of k) t x 1 ≡ At j) where
+    module _ (i j : ℕ) (back : open_below (open_of k) (close_of k) t x 1 ≡ Some i) (on : close_from (open_of k) (close_of k) t x 1 ≡ Some j) where
       behind : Last (opens_at (open_of k) (close_of k) t x 1) x i
       behind = last_told (opens_at (open_of k) (close_of k) t x 1) x i back
 
@@ -108,7 +107,7 @@ module _ (k : Kind) (t : List ℕ) (x : ℕ) (h : x ≤ length t) where
               let by_closes_so = closes_so (open_of k) (close_of k) t x 1 m (omega arith) b.closes (omega (arith, balanced_level b, p.1)) in
               absurd (never by_closes_so (ahead.none m (omega arith) u))
 
-      pub pair_found : (partner_of t i ≡ At j) × (inner_open k t x ≡ At i)
+      pub pair_found : (partner_of t i ≡ Some j) × (inner_open k t x ≡ Some i)
       pair_found = (pair_partner k t partners, inner_found k t x (record { pair = partners; from = omega (arith, behind.below); to = ahead.from }) latest)
         where
           latest : Latest k t x i

@@ -1,10 +1,8 @@
 -- The answer of `inner_pair`: the innermost pair of a kind around a position, and its two ranges. From document 02, #101, over the partners of
 -- demand 3: no walk is in it. Definitions only; that the pair is the innermost one is said in `specs/Innermost.antt`. Assumes nothing.
-use Rattle.std.specs.Prelude.{Bool, false, cond, ◌&&◌, List, ℕ, ◌+◌, eqb, leb, get_or}
+use Rattle.std.specs.Prelude.{Bool, false, cond, ◌&&◌, List, ℕ, ◌+◌, eqb, leb, get_or, Option, Some, None}
 use Rattle.text.specs.Text.{position}
 use Rattle.text.specs.Offsets.{row_start}
-use Rattle.row_search.specs.declared.Found.{Found}
-use Rattle.row_search.specs.declared.Found.TheVariants.{At, Nothing}
 use Rattle.row_search.specs.Nearest.{last_below}
 use Rattle.bracket_kinds.specs.declared.Kind.{Kind}
 use Rattle.bracket_kinds.specs.Kinds.{open_of}
@@ -15,19 +13,19 @@ use Rattle.bracket_walks.specs.Matching.{partner_of, pos_of, placed}
 use Rattle.positions.specs.Positions.{refusal_at}
 use Rattle.bracket_inner.specs.declared.Ranges.{Ranges}
 use Rattle.bracket_inner.specs.declared.Inner.{Inner}
-use Rattle.bracket_inner.specs.declared.Inner.TheVariants.{Pair, None, Refused}
+use Rattle.bracket_inner.specs.declared.Inner.TheVariants.{Pair, None as Inner-as-None, Refused}
 
 -- a partner stands at the offset x or after it
-unfoldable pub reaches : ℕ → Found → Bool
-reaches x (At j) = leb x j
-reaches x Nothing = false
+unfoldable pub reaches : ℕ → Option ℕ → Bool
+reaches x (Some j) = leb x j
+reaches x None = false
 
 -- an open of the kind at i, with its partner at x or after it
 abbrev pub opens_around : Kind → List ℕ → ℕ → ℕ → Bool
 opens_around k t x i = eqb (get_or t i 0) (open_of k) && reaches x (partner_of t i)
 
 -- the open of the innermost pair around x: the last one at x or before it
-abbrev pub inner_open : Kind → List ℕ → ℕ → Found
+abbrev pub inner_open : Kind → List ℕ → ℕ → Option ℕ
 inner_open k t x = last_below (opens_around k t x) (x + 1)
 
 -- one column on
@@ -41,12 +39,12 @@ ranges p q = record { opening = p; from = after p; to = q; past = after q }
 -- of the open at p with its partner
 unfoldable pub paired : Position → Partner → Inner
 paired p (There q) = Pair (ranges p q)
-paired p Partner-as-None = None
+paired p Partner-as-None = Inner-as-None
 paired p (Partner-as-Refused f) = Refused f
 
-unfoldable pub pair_from : List ℕ → Found → Inner
-pair_from t (At i) = paired (pos_of t i) (placed t (partner_of t i))
-pair_from t Nothing = None
+unfoldable pub pair_from : List ℕ → Option ℕ → Inner
+pair_from t (Some i) = paired (pos_of t i) (placed t (partner_of t i))
+pair_from t None = Inner-as-None
 
 -- the answer of the call: the refusal of text and position, or the ranges of the innermost pair, or none
 unfoldable pub answered : ℕ → Inner → Inner

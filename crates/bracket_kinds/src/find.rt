@@ -3,16 +3,15 @@ ghost use Rattle.std.specs.Prelude.{◌≡◌};
 ghost use Rattle.bracket_kinds.specs.Find.{first_bracket};
 
 use crate::kinds;
-use row_search::Found;
 
 // The first round, square or curly bracket at or after a column, or nothing.
-pub fn first_bracket(row: &[u32], col: usize) -> Found
+pub fn first_bracket(row: &[u32], col: usize) -> Option<usize>
     ensures { result ≡ first_bracket row.now col }
 {
     for j in col..row.len() {
         if kinds::is_key_bracket(row[j]) {
-            return Found::At(j);
+            return Some(j);
         }
     }
-    Found::Nothing
+    None
 }

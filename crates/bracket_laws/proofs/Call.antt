@@ -1,13 +1,11 @@
 -- Answers of `matching_bracket_pos`: two that are the same, whether a position is in the text, and when a call is refused.
 -- Assumes nothing.
-use Rattle.lists.proofs.Kit.{◌≡◌, sym, ◌∙◌, ap, List, Bool, true, false, cond, ◌&&◌, ℕ, ◌+◌, ◌<◌, dec_lt, ℕ_discrete, arith, ltb, eq-eqb}
+use Rattle.lists.proofs.Kit.{◌≡◌, sym, ◌∙◌, ap, List, Bool, true, false, cond, ◌&&◌, ℕ, ◌+◌, ◌<◌, dec_lt, ℕ_discrete, arith, ltb, eq-eqb, Option, Some, None}
 use Rattle.text_check.specs.Accept.{text_refusal}
 use Rattle.text.specs.Text.{row_count, row_len}
 use Rattle.text.specs.Offsets.{row_start}
-use Rattle.row_search.specs.declared.Found.{Found}
-use Rattle.row_search.specs.declared.Found.TheVariants.{At, Nothing}
 use Rattle.text.specs.declared.Position.{Position}
-use Rattle.bracket_walks.specs.declared.Partner.TheVariants.{There, None, Refused}
+use Rattle.bracket_walks.specs.declared.Partner.TheVariants.{There, None as Partner-as-None, Refused}
 use Rattle.bracket_walks.specs.Matching.{partner_of, placed}
 use Rattle.brackets.specs.Matching.{matching_bracket_pos, Inside}
 use Rattle.brackets.proofs.Call.{call_refused}
@@ -22,7 +20,7 @@ there_answers e = let never : ◌≡◌ {A = ℕ} 0 1 = cc in omega arith
 refused_once : {f g : ℕ} → Refused f ≡ Refused g → f ≡ g
 refused_once e = cc
 
-pub there_some : {p : Position} → There p ≡ None → ⊥
+pub there_some : {p : Position} → There p ≡ Partner-as-None → ⊥
 there_some e = let never : ◌≡◌ {A = ℕ} 0 1 = cc in omega arith
 
 module _ (t : List ℕ) (row col : ℕ) where
@@ -39,14 +37,14 @@ module _ (t : List ℕ) (row col : ℕ) where
   unfolding matching_bracket_pos placed
   call_told f e = on (ℕ_discrete (text_refusal t) 0)
     where
-      met : (r : Found) (b : Bool) → cond b (placed t r) None ≡ Refused f → ⊥
-      met (At j) true q = let never : ◌≡◌ {A = ℕ} 0 1 = cc in omega arith
-      met Nothing true q = let never : ◌≡◌ {A = ℕ} 0 1 = cc in omega arith
+      met : (r : Option ℕ) (b : Bool) → cond b (placed t r) Partner-as-None ≡ Refused f → ⊥
+      met (Some j) true q = let never : ◌≡◌ {A = ℕ} 0 1 = cc in omega arith
+      met None true q = let never : ◌≡◌ {A = ℕ} 0 1 = cc in omega arith
       met r false q = let never : ◌≡◌ {A = ℕ} 0 1 = cc in omega arith
 
       on : Dec (text_refusal t ≡ 0) → Refusal t f
       on (yes z) =
-          let inner = cond (ltb row (row_count t) && ltb col (row_len t row)) (placed t (partner_of t (row_start t row + col))) None in
+          let inner = cond (ltb row (row_count t) && ltb col (row_len t row)) (placed t (partner_of t (row_start t row + col))) Partner-as-None in
           let same : matching_bracket_pos t row col ≡ inner = rw (eq-eqb _ _ z) in
           absurd (met (partner_of t (row_start t row + col)) (ltb row (row_count t) && ltb col (row_len t row)) (sym same ∙ e))
       on (no n) =

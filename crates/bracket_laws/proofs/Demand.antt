@@ -1,12 +1,10 @@
 -- Demand 3 of the request: the statements of `specs/Demand.antt` hold of every accepted text, over the answers of `matching_bracket_pos`.
 -- Assumes nothing.
-use Rattle.lists.proofs.Kit.{◌≡◌, refl, sym, ◌∙◌, ap, subst, List, ℕ, ◌<◌, get_or}
+use Rattle.lists.proofs.Kit.{◌≡◌, refl, sym, ◌∙◌, ap, subst, List, ℕ, ◌<◌, get_or, Option, Some, None}
 use Rattle.text_check.specs.Accept.{text_refusal}
 use Rattle.bracket_kinds.specs.declared.Kind.{Kind}
 use Rattle.text.specs.declared.Position.{Position}
-use Rattle.row_search.specs.declared.Found.{Found}
-use Rattle.row_search.specs.declared.Found.TheVariants.{At, Nothing}
-use Rattle.bracket_walks.specs.declared.Partner.TheVariants.{There, None}
+use Rattle.bracket_walks.specs.declared.Partner.TheVariants.{There, None as Partner-as-None}
 use Rattle.bracket_laws.specs.Pairs.{Forward, Stand, same, before, behind, around, within}
 use Rattle.bracket_walks.specs.Matching.{partner_of, pos_of, placed}
 use Rattle.bracket_laws.specs.Demand.{answer_at, in_text, offset_of, PartnerAt, NoPartner, outside}
@@ -28,8 +26,8 @@ module _ (t : List ℕ) (ok : text_refusal t ≡ 0) where
   unfolding placed
   told p q e = on (inside? t p.row p.col)
     where
-      met : in_text t p → (r : Found) → partner_of t (offset_of t p) ≡ r → placed t r ≡ There q → PartnerAt t p q
-      met h (At j) f g =
+      met : in_text t p → (r : Option ℕ) → partner_of t (offset_of t p) ≡ r → placed t r ≡ There q → PartnerAt t p q
+      met h (Some j) f g =
           let by_partner_told = partner_told t (offset_of t p) (offset_in_lem h) j f in
           let by_to_in = to_in by_partner_told in
           let pos_is : pos_of t j ≡ q = there_once g in
@@ -39,7 +37,7 @@ module _ (t : List ℕ) (ok : text_refusal t ≡ 0) where
             partner = rw (offset_pos t j by_to_in.0 by_to_in.1) by_partner_told;
           } in
           subst (PartnerAt t p) pos_is here
-      met h Nothing f g = absurd (there_some (sym g))
+      met h None f g = absurd (there_some (sym g))
 
       on : Dec (in_text t p) → PartnerAt t p q
       on (yes h) = met h (partner_of t (offset_of t p)) refl (sym (call_inside t p.row p.col ok h) ∙ e)
@@ -51,19 +49,19 @@ module _ (t : List ℕ) (ok : text_refusal t ≡ 0) where
       let by_partner_found = partner_found t (offset_of t p) (offset_in_lem a.from) (offset_of t q) a.partner in
       call_inside t p.row p.col ok a.from ∙ ap (placed t) by_partner_found ∙ ap There (pos_offset a.to)
 
-  none : (p : Position) → answer_at t p ≡ None → NoPartner t p
+  none : (p : Position) → answer_at t p ≡ Partner-as-None → NoPartner t p
   unfolding placed
   none p e = on (inside? t p.row p.col)
     where
-      met : in_text t p → (r : Found) → partner_of t (offset_of t p) ≡ r → placed t r ≡ None → NoPartner t p
-      met h (At j) f g = absurd (there_some g)
-      met h Nothing f g = alone h (alone_told t (offset_of t p) (offset_in_lem h) f)
+      met : in_text t p → (r : Option ℕ) → partner_of t (offset_of t p) ≡ r → placed t r ≡ Partner-as-None → NoPartner t p
+      met h (Some j) f g = absurd (there_some g)
+      met h None f g = alone h (alone_told t (offset_of t p) (offset_in_lem h) f)
 
       on : Dec (in_text t p) → NoPartner t p
       on (yes h) = met h (partner_of t (offset_of t p)) refl (sym (call_inside t p.row p.col ok h) ∙ e)
       on (no n) = outside n
 
-  none_only : (p : Position) → NoPartner t p → answer_at t p ≡ None
+  none_only : (p : Position) → NoPartner t p → answer_at t p ≡ Partner-as-None
   unfolding placed
   none_only p (outside n) = call_outside t p.row p.col ok n
   none_only p (alone h a) = call_inside t p.row p.col ok h ∙ ap (placed t) (alone_found t (offset_of t p) (offset_in_lem h) a)

@@ -1,10 +1,8 @@
 -- What stands between two partners: each bracket of their kind there has its partner there. For pairs that enclose a place.
 -- Assumes nothing.
-use Rattle.lists.proofs.Kit.{◌≡◌, refl, sym, ap, List, ℕ, suc, ◌+◌, ◌≤◌, ◌<◌, ℕ_discrete, arith, length, get_or}
+use Rattle.lists.proofs.Kit.{◌≡◌, refl, sym, ap, List, ℕ, suc, ◌+◌, ◌≤◌, ◌<◌, ℕ_discrete, arith, length, get_or, Option, Some, None}
 use Rattle.bracket_kinds.specs.declared.Kind.{Kind}
 use Rattle.bracket_kinds.specs.declared.Side.TheVariants.{Open, Close}
-use Rattle.row_search.specs.declared.Found.{Found}
-use Rattle.row_search.specs.declared.Found.TheVariants.{At, Nothing}
 use Rattle.bracket_kinds.specs.Kinds.{open_of, close_of}
 use Rattle.bracket_laws.specs.Pairs.{Balanced, Forward}
 use Rattle.bracket_walks.specs.Matching.{nearest_of}
@@ -35,8 +33,8 @@ module _ {k : Kind} {t : List ℕ} {i j : ℕ} (f : Forward k t i j) (m : ℕ) (
             omega (arith, by_cross.below),
           )
 
-      on : (r : Found) → nearest_of (Open k) t m ≡ r → (n : ℕ) × Forward k t m n × (n < j)
-      on (At n) s =
+      on : (r : Option ℕ) → nearest_of (Open k) t m ≡ r → (n : ℕ) × Forward k t m n × (n < j)
+      on (Some n) s =
           let by_forward_told = forward_told k t m n s in
           let by_balanced_level = balanced_level by_forward_told.balanced in
           (n, by_forward_told, apart n (by_forward_told.nearest back.0 back.1) by_forward_told.balanced (ℕ_discrete n j))
@@ -46,7 +44,7 @@ module _ {k : Kind} {t : List ℕ} {i j : ℕ} (f : Forward k t i j) (m : ℕ) (
               let at : (x : ℕ) → tally x t (suc n) ≡ tally x t (suc j) = λ x. ap (λ (z : ℕ). tally x t (suc z)) q in
               absurd (omega (arith, (arch_of_forward f).above m l (omega arith), balanced_level b, balanced_level g, at (open_of k), at (close_of k)))
           apart n p g (no q) = omega (arith, back.2)
-      on Nothing s = absurd (forward_none k t m s back.0 back.1)
+      on None s = absurd (forward_none k t m s back.0 back.1)
 
   pub inner_close : get_or t m 0 ≡ close_of k → (n : ℕ) × Forward k t n m × (i < n)
   inner_close e = on (nearest_of (Close k) t m) refl
@@ -65,8 +63,8 @@ module _ {k : Kind} {t : List ℕ} {i j : ℕ} (f : Forward k t i j) (m : ℕ) (
           (omega arith) in
           (by_cross.at, balanced_of by_cross.below within by_cross.is e (omega (arith, by_cross.level)), by_cross.from)
 
-      on : (r : Found) → nearest_of (Close k) t m ≡ r → (n : ℕ) × Forward k t n m × (i < n)
-      on (At n) s =
+      on : (r : Option ℕ) → nearest_of (Close k) t m ≡ r → (n : ℕ) × Forward k t n m × (i < n)
+      on (Some n) s =
           let by_backward_told = backward_told k t m n within s in
           (n, backward_forward by_backward_told, apart n (by_backward_told.nearest back.0 back.1) by_backward_told.balanced (ℕ_discrete i n))
         where
@@ -75,4 +73,4 @@ module _ {k : Kind} {t : List ℕ} {i j : ℕ} (f : Forward k t i j) (m : ℕ) (
               let at : (x : ℕ) → tally x t i ≡ tally x t n = λ x. ap (tally x t) q in
               absurd (omega (arith, (arch_of_forward f).above (suc m) (omega arith) h, balanced_level g, at (open_of k), at (close_of k)))
           apart n p g (no q) = omega (arith, back.2)
-      on Nothing s = absurd (backward_none k t m s back.0 back.1)
+      on None s = absurd (backward_none k t m s back.0 back.1)

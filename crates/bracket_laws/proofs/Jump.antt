@@ -1,11 +1,9 @@
 -- The % key: the statements of `specs/Jump.antt` hold of every accepted text.
 -- Assumes nothing.
-use Rattle.lists.proofs.Kit.{◌≡◌, refl, sym, ◌∙◌, ap, List, ◌⊎◌, inl, inr, ℕ, ◌<◌, eq-or-lt_of_le, arith, get_or}
+use Rattle.lists.proofs.Kit.{◌≡◌, refl, sym, ◌∙◌, ap, List, ◌⊎◌, inl, inr, ℕ, ◌<◌, eq-or-lt_of_le, arith, get_or, Option, Some, None}
 use Rattle.text_check.specs.Accept.{text_refusal}
 use Rattle.text.specs.Text.{row_at}
-use Rattle.row_search.specs.declared.Found.{Found}
-use Rattle.row_search.specs.declared.Found.TheVariants.{At, Nothing}
-use Rattle.bracket_walks.specs.declared.Partner.TheVariants.{There, None, Refused}
+use Rattle.bracket_walks.specs.declared.Partner.TheVariants.{There, None as Partner-as-None, Refused}
 use Rattle.text.specs.declared.Position.{Position}
 use Rattle.bracket_laws.specs.Pairs.{IsPartner, forward, backward}
 use Rattle.bracket_laws.specs.Demand.{PartnerAt}
@@ -34,38 +32,38 @@ module _ (t : List ℕ) (ok : text_refusal t ≡ 0) (row col : ℕ) where
   unfolding key_to
   lands q e = on (first_bracket (row_at t row) col) refl e
     where
-      on : (r : Found) → first_bracket (row_at t row) col ≡ r → key_to t row r ≡ There q → Lands t row col q
-      on (At i) f g = record { at = i; first = plain_first t row col i f; partner = (unique t ok).told (pos_at row i) q g }
-      on Nothing f g = absurd (there_some (sym g))
+      on : (r : Option ℕ) → first_bracket (row_at t row) col ≡ r → key_to t row r ≡ There q → Lands t row col q
+      on (Some i) f g = record { at = i; first = plain_first t row col i f; partner = (unique t ok).told (pos_at row i) q g }
+      on None f g = absurd (there_some (sym g))
 
   lands_only : (q : Position) → Lands t row col q → key_from t row col ≡ There q
   unfolding key_to
   lands_only q a = ap (key_to t row) (plain_found t row col a.at a.first) ∙ (unique t ok).found (pos_at row a.at) q a.partner
 
-  stays : key_from t row col ≡ None → Stays t row col
+  stays : key_from t row col ≡ Partner-as-None → Stays t row col
   unfolding key_to
   stays e = on (first_bracket (row_at t row) col) refl e
     where
-      on : (r : Found) → first_bracket (row_at t row) col ≡ r → key_to t row r ≡ None → Stays t row col
-      on (At i) f g = no_partner i (plain_first t row col i f) ((unique t ok).none (pos_at row i) g)
-      on Nothing f g = no_plain (plain_none t row col f)
+      on : (r : Option ℕ) → first_bracket (row_at t row) col ≡ r → key_to t row r ≡ Partner-as-None → Stays t row col
+      on (Some i) f g = no_partner i (plain_first t row col i f) ((unique t ok).none (pos_at row i) g)
+      on None f g = no_plain (plain_none t row col f)
 
-  stays_only : Stays t row col → key_from t row col ≡ None
+  stays_only : Stays t row col → key_from t row col ≡ Partner-as-None
   unfolding key_to
   stays_only (no_plain n) = on (first_bracket (row_at t row) col) refl
     where
-      on : (r : Found) → first_bracket (row_at t row) col ≡ r → key_to t row r ≡ None
-      on (At i) f = let by_plain_first = plain_first t row col i f in absurd (n i by_plain_first.from by_plain_first.in_row by_plain_first.plain)
-      on Nothing f = refl
+      on : (r : Option ℕ) → first_bracket (row_at t row) col ≡ r → key_to t row r ≡ Partner-as-None
+      on (Some i) f = let by_plain_first = plain_first t row col i f in absurd (n i by_plain_first.from by_plain_first.in_row by_plain_first.plain)
+      on None f = refl
   stays_only (no_partner i f n) = ap (key_to t row) (plain_found t row col i f) ∙ (unique t ok).none_only (pos_at row i) n
 
   answers : (f : ℕ) → key_from t row col ≡ Refused f → ⊥
   unfolding key_to
   answers f e = on (first_bracket (row_at t row) col) e
     where
-      on : (r : Found) → key_to t row r ≡ Refused f → ⊥
-      on (At i) g = let by_refuses = (refuses t).refused (pos_at row i) f g in by_refuses.some (sym by_refuses.number ∙ ok)
-      on Nothing g = let never : ◌≡◌ {A = ℕ} 0 1 = cc in omega arith
+      on : (r : Option ℕ) → key_to t row r ≡ Refused f → ⊥
+      on (Some i) g = let by_refuses = (refuses t).refused (pos_at row i) f g in by_refuses.some (sym by_refuses.number ∙ ok)
+      on None g = let never : ◌≡◌ {A = ℕ} 0 1 = cc in omega arith
 
   moves : key_from t row col ≡ There (pos_at row col) → ⊥
   moves e = on (eq-or-lt_of_le a.first.from)

@@ -1,11 +1,9 @@
 -- Round, square and curly brackets: the test of the % key, and the first of them in a row.
 -- Assumes nothing.
-use Rattle.lists.proofs.Kit.{◌≡◌, refl, ap, List, Bool, true, false, ◌||◌, ◌⊎◌, inl, inr, ⊎_elim, ℕ, ◌≤◌, ◌<◌, dec_lt, arith, get_or, eqb, eqb-true}
+use Rattle.lists.proofs.Kit.{◌≡◌, refl, ap, List, Bool, true, false, ◌||◌, ◌⊎◌, inl, inr, ⊎_elim, ℕ, ◌≤◌, ◌<◌, dec_lt, arith, get_or, eqb, eqb-true, Option, Some, None}
 use Rattle.text.specs.Text.{row_at, row_len}
 use Rattle.bracket_kinds.specs.declared.Kind.{Kind}
 use Rattle.bracket_kinds.specs.declared.Kind.TheVariants.{Round, Square, Curly, Angle}
-use Rattle.row_search.specs.declared.Found.{Found}
-use Rattle.row_search.specs.declared.Found.TheVariants.{At, Nothing}
 use Rattle.bracket_kinds.specs.Kinds.{open_of, close_of, key_bracket}
 use Rattle.bracket_kinds.specs.Find.{first_bracket}
 use Rattle.bracket_laws.specs.Jump.{Plain, plain_at, FirstPlain}
@@ -43,7 +41,7 @@ module _ (t : List ℕ) (row col : ℕ) where
   no_plain_there m e p = never (plain_of _ p) e
 
   -- what the search in the row has found
-  pub plain_first : (i : ℕ) → first_bracket (row_at t row) col ≡ At i → FirstPlain t row col i
+  pub plain_first : (i : ℕ) → first_bracket (row_at t row) col ≡ Some i → FirstPlain t row col i
   plain_first i e =
       let by_first_told = first_told (λ m. key_bracket (get_or (row_at t row) m 0)) col (row_len t row) i e in
       record {
@@ -53,18 +51,18 @@ module _ (t : List ℕ) (row col : ℕ) where
         first = λ m l h. no_plain_there m (by_first_told.none m l h);
       }
 
-  pub plain_none : first_bracket (row_at t row) col ≡ Nothing → (m : ℕ) → col ≤ m → m < row_len t row → plain_at t row m → ⊥
+  pub plain_none : first_bracket (row_at t row) col ≡ None → (m : ℕ) → col ≤ m → m < row_len t row → plain_at t row m → ⊥
   plain_none e m l h = no_plain_there m (first_none (λ i. key_bracket (get_or (row_at t row) i 0)) col (row_len t row) e m l h)
 
   -- there is no other first
-  pub plain_found : (i : ℕ) → FirstPlain t row col i → first_bracket (row_at t row) col ≡ At i
+  pub plain_found : (i : ℕ) → FirstPlain t row col i → first_bracket (row_at t row) col ≡ Some i
   plain_found i f = on (first_bracket (row_at t row) col) refl
     where
-      on : (r : Found) → first_bracket (row_at t row) col ≡ r → r ≡ At i
-      on (At j) e = meet (plain_first j e) (dec_lt i j) (dec_lt j i)
+      on : (r : Option ℕ) → first_bracket (row_at t row) col ≡ r → r ≡ Some i
+      on (Some j) e = meet (plain_first j e) (dec_lt i j) (dec_lt j i)
         where
-          meet : FirstPlain t row col j → Dec (i < j) → Dec (j < i) → At j ≡ At i
+          meet : FirstPlain t row col j → Dec (i < j) → Dec (j < i) → Some j ≡ Some i
           meet g (yes l) d = absurd (g.first i f.from l f.plain)
           meet g (no l) (yes h) = absurd (f.first j g.from h g.plain)
-          meet g (no l) (no h) = ap At (omega arith)
-      on Nothing e = absurd (plain_none e i f.from f.in_row f.plain)
+          meet g (no l) (no h) = ap Some (omega arith)
+      on None e = absurd (plain_none e i f.from f.in_row f.plain)

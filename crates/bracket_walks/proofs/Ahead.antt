@@ -1,8 +1,7 @@
 -- What the walk forward knows: how much deeper the text is where it stands than where it began, and that no place passed closes what was open
 -- there. A depth of at least one says that the place does not; a depth that falls to none, that it does.
 -- Assumes nothing.
-use Rattle.lists.proofs.Kit.{◌≡◌, refl, sym, ◌∙◌, ap, List, ℕ, suc, ◌+◌, ◌-◌, ◌≤◌, ◌<◌, add-one, arith, length, get_or}
-use Rattle.row_search.specs.declared.Found.TheVariants.{At, Nothing}
+use Rattle.lists.proofs.Kit.{◌≡◌, refl, sym, ◌∙◌, ap, List, ℕ, suc, ◌+◌, ◌-◌, ◌≤◌, ◌<◌, add-one, arith, length, get_or, Some, None}
 use Rattle.row_search.specs.Nearest.{first_in}
 use Rattle.bracket_walks.specs.Matching.{closes_at, close_from}
 use Rattle.bracket_walks.specs.Walk.{Hands}
@@ -25,7 +24,7 @@ ahead_start o c t i e u h l =
     record { hands = u; after = omega arith; inside = h; deep = l; bound = omega arith; depth = omega arith; same = refl }
 
 module _ {o c : ℕ} {t : List ℕ} {i e j d : ℕ} (a : Ahead o c t i e j d) where
-  pub ahead_none : length t ≤ j → close_from o c t i e ≡ Nothing
+  pub ahead_none : length t ≤ j → close_from o c t i e ≡ None
   ahead_none h = a.same ∙ first_end (closes_at o c t i e) j (length t) h
 
   module _ (h : j < length t) where
@@ -55,7 +54,7 @@ module _ {o c : ℕ} {t : List ℕ} {i e j d : ℕ} (a : Ahead o c t i e j d) wh
     pub ahead_other : (get_or t j 0 ≡ o → ⊥) → (get_or t j 0 ≡ c → ⊥) → Ahead o c t i e (j + 1) d
     ahead_other x y = let by_miss = miss o c t j h x y in next d a.deep (omega arith) (omega (arith, a.depth))
 
-    pub ahead_found : get_or t j 0 ≡ c → d - 1 ≡ 0 → close_from o c t i e ≡ At j
+    pub ahead_found : get_or t j 0 ≡ c → d - 1 ≡ 0 → close_from o c t i e ≡ Some j
     ahead_found x z =
         let by_hit = hit c o t j h (λ f. a.hands.differ (sym f)) x in
         let so = closes_so o c t i e j (omega (arith, a.after)) x (omega (arith, a.depth, a.deep)) in

@@ -1,7 +1,6 @@
 -- What the walk back knows: how much deeper the text is where it stands than where it began, and that no place passed opens what was closed
 -- there. The depth falls at an open and grows at a close. Assumes nothing.
-use Rattle.lists.proofs.Kit.{◌≡◌, refl, sym, ◌∙◌, ap, List, ℕ, suc, ◌+◌, ◌-◌, ◌≤◌, ◌<◌, arith, length, get_or}
-use Rattle.row_search.specs.declared.Found.TheVariants.{At, Nothing}
+use Rattle.lists.proofs.Kit.{◌≡◌, refl, sym, ◌∙◌, ap, List, ℕ, suc, ◌+◌, ◌-◌, ◌≤◌, ◌<◌, arith, length, get_or, Some, None}
 use Rattle.row_search.specs.Nearest.{last_below}
 use Rattle.bracket_walks.specs.Matching.{opens_at, open_below}
 use Rattle.bracket_walks.specs.Walk.{Hands}
@@ -24,7 +23,7 @@ behind_start o c t j e u h l =
     record { hands = u; before = omega arith; inside = h; deep = l; bound = omega arith; depth = omega arith; same = refl }
 
 module _ {o c : ℕ} {t : List ℕ} {j e i d : ℕ} (a : Behind o c t j e i d) where
-  pub behind_none : i ≤ 0 → open_below o c t j e ≡ Nothing
+  pub behind_none : i ≤ 0 → open_below o c t j e ≡ None
   behind_none h = a.same ∙ last_end (opens_at o c t j e) i h
 
   module _ (h : 0 < i) where
@@ -61,7 +60,7 @@ module _ {o c : ℕ} {t : List ℕ} {j e i d : ℕ} (a : Behind o c t j e i d) w
     pub behind_other : (get_or t (i - 1) 0 ≡ o → ⊥) → (get_or t (i - 1) 0 ≡ c → ⊥) → Behind o c t j e (i - 1) d
     behind_other x y = let by_miss = miss o c t (i - 1) within x y in prev d a.deep (omega arith) (omega (arith, a.depth, seam o, seam c))
 
-    pub behind_found : get_or t (i - 1) 0 ≡ o → d - 1 ≡ 0 → open_below o c t j e ≡ At (i - 1)
+    pub behind_found : get_or t (i - 1) 0 ≡ o → d - 1 ≡ 0 → open_below o c t j e ≡ Some (i - 1)
     behind_found x z =
         let by_hit = hit o c t (i - 1) within a.hands.differ x in
         let so = opens_so o c t j e (i - 1) (omega (arith, a.before)) x (omega (arith, a.depth, a.deep, seam o, seam c)) in

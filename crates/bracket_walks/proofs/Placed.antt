@@ -1,19 +1,17 @@
 -- Laws of a place as a row and a column: an offset that a walk has found.
 -- Assumes nothing.
-use Rattle.lists.proofs.Kit.{◌≡◌, ◌∙◌, ap, List, ℕ, ◌-◌, arith}
+use Rattle.lists.proofs.Kit.{◌≡◌, ◌∙◌, ap, List, ℕ, ◌-◌, arith, Option, Some, None}
 use Rattle.text.specs.Offsets.{row_start, Stands, line_at}
 use Rattle.text.specs.declared.Line.{Line}
 use Rattle.text.proofs.Stands.{stands_row, stands_at_lem, at_stands}
-use Rattle.row_search.specs.declared.Found.{Found}
-use Rattle.row_search.specs.declared.Found.TheVariants.{At, Nothing}
-use Rattle.bracket_walks.specs.declared.Partner.TheVariants.{There, None}
+use Rattle.bracket_walks.specs.declared.Partner.TheVariants.{There, None as Partner-as-None}
 use Rattle.bracket_walks.specs.Matching.{placed}
 
-pub placed_at : {t : List ℕ} {row start j : ℕ} {r : Found} → Stands t row start j → r ≡ At j → There (record { row = row; col = j - start }) ≡ placed t r
+pub placed_at : {t : List ℕ} {row start j : ℕ} {r : Option ℕ} → Stands t row start j → r ≡ Some j → There (record { row = row; col = j - start }) ≡ placed t r
 unfolding placed
 placed_at s e = rw (e, stands_row s, ← s.begins)
 
-pub placed_none : (t : List ℕ) {r : Found} → r ≡ Nothing → None ≡ placed t r
+pub placed_none : (t : List ℕ) {r : Option ℕ} → r ≡ None → Partner-as-None ≡ placed t r
 unfolding placed
 placed_none t e = rw e
 

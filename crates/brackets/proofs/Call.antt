@@ -1,6 +1,6 @@
 -- Laws of `matching_bracket_pos`: refused, outside the text, and inside it; the row that the call finds; and what the % key makes of it.
 -- Assumes nothing.
-use Rattle.lists.proofs.Kit.{◌≡◌, sym, ◌∙◌, ap, subst, List, and-false, ℕ, ◌+◌, ◌≤◌, ◌<◌, dec_lt, arith, get_or, eq-eqb, ne_eqb, lt-ltb, le-ltb}
+use Rattle.lists.proofs.Kit.{◌≡◌, sym, ◌∙◌, ap, subst, List, and-false, ℕ, ◌+◌, ◌≤◌, ◌<◌, dec_lt, arith, get_or, eq-eqb, ne_eqb, lt-ltb, le-ltb, Option, Some, None}
 use Rattle.text_check.specs.Accept.{text_refusal}
 use Rattle.text.specs.Text.{row_count, row_at, row_len}
 use Rattle.text.specs.Offsets.{row_start, line_at, IsLine}
@@ -8,10 +8,8 @@ use Rattle.text.specs.declared.Line.{Line}
 use Rattle.text_check.proofs.Accepted.{accepted_short}
 use Rattle.text.proofs.Parts.{row_fits}
 use Rattle.text.proofs.Stands.{line_there, stands_in}
-use Rattle.row_search.specs.declared.Found.{Found}
-use Rattle.row_search.specs.declared.Found.TheVariants.{At, Nothing}
 use Rattle.bracket_walks.specs.declared.Partner.{Partner}
-use Rattle.bracket_walks.specs.declared.Partner.TheVariants.{None, Refused}
+use Rattle.bracket_walks.specs.declared.Partner.TheVariants.{None as Partner-as-None, Refused}
 use Rattle.bracket_walks.specs.Matching.{partner_of, placed}
 use Rattle.brackets.specs.Matching.{matching_bracket_pos, Inside}
 use Rattle.bracket_walks.specs.Walk.{Starts}
@@ -32,11 +30,11 @@ module _ (t : List ℕ) (row col : ℕ) where
     unfolding matching_bracket_pos
     call_inside h = rw (eq-eqb _ _ ok, lt-ltb _ _ h.in_row, lt-ltb _ _ h.in_col)
 
-    pub call_outside : (Inside t row col → ⊥) → matching_bracket_pos t row col ≡ None
+    pub call_outside : (Inside t row col → ⊥) → matching_bracket_pos t row col ≡ Partner-as-None
     unfolding matching_bracket_pos
     call_outside n = on (dec_lt row (row_count t)) (dec_lt col (row_len t row))
       where
-        on : Dec (row < row_count t) → Dec (col < row_len t row) → matching_bracket_pos t row col ≡ None
+        on : Dec (row < row_count t) → Dec (col < row_len t row) → matching_bracket_pos t row col ≡ Partner-as-None
         on (yes p) (yes q) = absurd (n (record { in_row = p; in_col = q }))
         on (yes p) (no q) = rw (eq-eqb _ _ ok, le-ltb col (row_len t row) (omega arith), and-false)
         on (no p) d = rw (eq-eqb _ _ ok, le-ltb row (row_count t) (omega arith))
@@ -67,11 +65,11 @@ module _ (t : List ℕ) (n col : ℕ) {l : Line} (h : n < row_count t) (e : l �
   own : l.row ≡ n
   own = ap (λ (x : Line). x.row) e
 
-  module _ {f : Found} (g : f ≡ column_of t l.row col) where
-    pub no_col : f ≡ Nothing → Inside t n col → ⊥
+  module _ {f : Option ℕ} (g : f ≡ column_of t l.row col) where
+    pub no_col : f ≡ None → Inside t n col → ⊥
     no_col s i = omega (arith, column_none t l.row col (sym g ∙ s), ap (row_len t) own, i.in_col)
 
-    module _ (ok : text_refusal t ≡ 0) {at : ℕ} (s : f ≡ At at) where
+    module _ (ok : text_refusal t ≡ 0) {at : ℕ} (s : f ≡ Some at) where
       there : (col < row_len t l.row) × (l.start + col ≡ at)
       there = let by_column_told = column_told t l.row col at (sym g ∙ s) in (by_column_told.0, omega (arith, by_column_told.1, row_there.begins))
 
@@ -84,12 +82,12 @@ module _ (t : List ℕ) (n col : ℕ) {l : Line} (h : n < row_count t) (e : l �
           a ∙ sym same ∙ ap (λ (k : ℕ). matching_bracket_pos t k col) own
 
 -- what `match_bracket_from` finds in the row, and what it makes of it
-module _ (t : List ℕ) (ok : text_refusal t ≡ 0) {l : Line} (line : IsLine t l) (col : ℕ) {x : List ℕ} {f : Found}
+module _ (t : List ℕ) (ok : text_refusal t ≡ 0) {l : Line} (line : IsLine t l) (col : ℕ) {x : List ℕ} {f : Option ℕ}
     (e : x ≡ row_at t l.row) (g : f ≡ first_bracket x col) where
   found_in_lem : f ≡ first_bracket (row_at t l.row) col
   found_in_lem = g ∙ ap (λ (r : List ℕ). first_bracket r col) e
 
-  module _ (i : ℕ) (s : f ≡ At i) where
+  module _ (i : ℕ) (s : f ≡ Some i) where
     in_row : i < row_len t l.row
     in_row = (first_told (λ m. key_bracket (get_or (row_at t l.row) m 0)) col (row_len t l.row) i (sym found_in_lem ∙ s)).below
 
@@ -100,6 +98,6 @@ module _ (t : List ℕ) (ok : text_refusal t ≡ 0) {l : Line} (line : IsLine t 
     unfolding key_to
     jump_answer a = a ∙ sym (line_answer t ok line i in_row) ∙ ap (key_to t l.row) (sym s ∙ found_in_lem)
 
-  pub jump_none : f ≡ Nothing → None ≡ key_from t l.row col
+  pub jump_none : f ≡ None → Partner-as-None ≡ key_from t l.row col
   unfolding key_to
   jump_none s = ap (key_to t l.row) (sym s ∙ found_in_lem)

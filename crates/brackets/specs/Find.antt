@@ -1,21 +1,19 @@
 -- The place that the % key goes to. From motions.rs, `match_bracket`.
 -- Definitions only; the laws are in `proofs/Call.antt`. Assumes nothing.
-use Rattle.std.specs.Prelude.{◌≡◌, List, ℕ}
+use Rattle.std.specs.Prelude.{◌≡◌, List, ℕ, Option, Some, None}
 use Rattle.text_check.specs.Accept.{text_refusal}
 use Rattle.text.specs.Text.{row_at}
 use Rattle.text.specs.Offsets.{IsLine}
 use Rattle.text.specs.declared.Line.{Line}
-use Rattle.row_search.specs.declared.Found.{Found}
-use Rattle.row_search.specs.declared.Found.TheVariants.{At, Nothing}
 use Rattle.bracket_kinds.specs.Find.{first_bracket}
 use Rattle.bracket_walks.specs.declared.Partner.{Partner}
-use Rattle.bracket_walks.specs.declared.Partner.TheVariants.{None}
+use Rattle.bracket_walks.specs.declared.Partner.TheVariants.{None as Partner-as-None}
 use Rattle.brackets.specs.Matching.{matching_bracket_pos}
 
 -- the partner of what stands in the row at an index, where there is one
-unfoldable pub key_to : List ℕ → ℕ → Found → Partner
-key_to t row (At i) = matching_bracket_pos t row i
-key_to t row Nothing = None
+unfoldable pub key_to : List ℕ → ℕ → Option ℕ → Partner
+key_to t row (Some i) = matching_bracket_pos t row i
+key_to t row None = Partner-as-None
 
 -- where the % key goes to from a row and a column: none where it stays
 abbrev pub key_from : List ℕ → ℕ → ℕ → Partner

@@ -9,26 +9,25 @@ ghost use Rattle.brackets.specs.Find.{key_from, ClearLine};
 
 use bracket_kinds::find;
 use bracket_walks::{Partner, walks};
-use row_search::Found;
 use text::Line;
 
 // The offset of a column of row `row`, which starts at `start`, or nothing where the row is too
 // short. It reads no further than the column.
-fn offset_of(t: &[u32], row: usize, start: usize, col: usize) -> Found
+fn offset_of(t: &[u32], row: usize, start: usize, col: usize) -> Option<usize>
     requires { Stands t.now row start start }
     ensures { result ≡ column_of t.now row col }
 {
     let mut left = col;
     for i in start..t.len() {
         if t[i] == 10 {
-            return Found::Nothing;
+            return None;
         }
         if left == 0 {
-            return Found::At(i);
+            return Some(i);
         }
         left -= 1;
     }
-    Found::Nothing
+    None
 }
 
 // `matching_bracket_pos` of the Rust, with the refusals of a text: where the partner stands, or
@@ -48,8 +47,8 @@ pub fn matching_bracket_pos(t: &[u32], row: u32, col: u32) -> Partner
     let l = text::offsets::row_line(t, rows, wanted);
     let f = offset_of(t, l.row, l.start, col as usize);
     match f {
-        Found::At(at) => walks::partner(t, l, at),
-        Found::Nothing => Partner::None,
+        Some(at) => walks::partner(t, l, at),
+        None => Partner::None,
     }
 }
 
@@ -61,10 +60,10 @@ pub fn match_bracket_from(t: &[u32], l: Line, col: usize) -> Partner
 {
     let f = find::first_bracket(text::offsets::row(t, l), col);
     match f {
-        Found::At(i) => {
+        Some(i) => {
             let start = l.start;
             walks::partner(t, l, start + i)
         }
-        Found::Nothing => Partner::None,
+        None => Partner::None,
     }
 }

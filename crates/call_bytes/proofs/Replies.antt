@@ -1,9 +1,10 @@
 -- What the checks of a call on bytes show, and what each way out of it leaves. Assumes nothing.
 use Rattle.lists.proofs.Kit.{◌≡◌, refl, ap, sym, subst, ◌∙◌, List, Bool, true, false, cond, ℕ, ◌/◌, ◌≤◌, arith, length, take, length-take-le, leb, eq-eqb}
 use Rattle.lists.proofs.Kit.{ne_eqb, leb-true}
+use Rattle.std.specs.Int.{from_bool}
 use Rattle.call_points.specs.Points.{points}
 use Rattle.call_bytes.specs.declared.Told.{Told}
-use Rattle.call_bytes.specs.Reply.{Reply, told, Replied, unfit, unfit_one, Filled, fitting, Answered}
+use Rattle.call_bytes.specs.Reply.{Reply, bit, told, Replied, unfit, unfit_one, Filled, fitting, Answered}
 
 -- nothing is unfit: the room is enough
 pub fit_room : (whole : Bool) (points room : ℕ) → unfit whole points room ≡ 0 → points ≤ room
@@ -20,6 +21,11 @@ fits f a b e = rw (eq-eqb f 0 e)
 
 fits_not : {A : Type 0} (f : ℕ) (a b : A) → (f ≡ 0 → ⊥) → fitting f a b ≡ b
 fits_not f a b n = rw (ne_eqb f 0 n)
+
+-- `u32::from` of a flag
+pub from_bit : (b : Bool) → from_bool b ≡ bit b
+from_bit true = refl
+from_bit false = refl
 
 -- the reply to what the call was found to answer
 pub replied_of : {A : Type 0} (f : A → Reply) {m m' : A} {out out' : List ℕ} {r : ℕ} → m ≡ m' → Replied (f m) out r out' → Replied (f m') out r out'

@@ -7,9 +7,6 @@
 mod joined;
 mod lend;
 
-ghost use Rattle.std.specs.Prelude.{◌≡◌};
-ghost use Rattle.call_bytes.specs.Reply.{bit};
-
 pub use joined::{fill_three, fill_two};
 pub use lend::{fill, reply};
 
@@ -18,14 +15,4 @@ pub use lend::{fill, reply};
 pub enum Told {
     Value(u32),
     Refused(u32),
-}
-
-// 1 for true.
-pub fn bit_of(b: bool) -> u32
-    ensures { result ≡ bit b }
-{
-    if b {
-        return 1;
-    }
-    0
 }

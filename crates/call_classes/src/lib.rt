@@ -10,10 +10,3 @@ mod written;
 pub use terms::{term_of, word_by_class};
 use word_rounds::Motion;
 pub use written::word_classes;
-
-// What a number asks for: a word motion, and whether it may stay in the first round.
-#[derive(Clone, Copy)]
-pub enum Term {
-    Of(Motion, bool),
-    Nothing,
-}

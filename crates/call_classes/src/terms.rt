@@ -5,29 +5,28 @@ ghost use Rattle.call_texts.specs.Carets.{caret_of};
 ghost use Rattle.call_folds.specs.Terms.{is_big};
 ghost use Rattle.call_classes.specs.ByTerm.{term_of, by_term, left_by, words_by_class, slices_left};
 
-use crate::Term;
 use call_texts::{caret_of, place};
 use motions::{Caret, Moved};
 use word_rounds::Motion;
 
 // The word motion that a number stands for, as in `tsivareza_word`: 0 `w`, 1 `b`, 2 and 3 `e` with
 // stop off and on, 4 `ge`, which takes no folds.
-pub fn term_of(op: u32) -> Term
+pub fn term_of(op: u32) -> Option<(Motion, bool)>
     ensures { result ≡ term_of op }
 {
     match op {
-        0 => Term::Of(Motion::Fwd, false),
-        1 => Term::Of(Motion::Back, false),
-        2 => Term::Of(Motion::End, false),
-        3 => Term::Of(Motion::End, true),
-        4 => Term::Of(Motion::EndBack, false),
-        _ => Term::Nothing,
+        0 => Some((Motion::Fwd, false)),
+        1 => Some((Motion::Back, false)),
+        2 => Some((Motion::End, false)),
+        3 => Some((Motion::End, true)),
+        4 => Some((Motion::EndBack, false)),
+        _ => None,
     }
 }
 
 // The answer; 100 where the number stands for none, and then the slice stays.
 fn by_term(
-    a: Term,
+    a: Option<(Motion, bool)>,
     big: bool,
     count: u32,
     k: Caret,
@@ -42,10 +41,10 @@ fn by_term(
         list.now classes.old }
 {
     match a {
-        Term::Of(m, stop) => {
+        Some((m, stop)) => {
             caret_by_class::word_by_class(k, text, folds, list, m, big, stop, count, classes)
         }
-        Term::Nothing => Moved::Refused(100),
+        None => Moved::Refused(100),
     }
 }
 

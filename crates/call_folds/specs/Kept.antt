@@ -1,6 +1,7 @@
 -- The screen moves that remember, by the number that stands for each. Cited by `call_folds::kept`; number by number in `proofs/Numbers.antt`.
 -- Assumes nothing.
-use Rattle.std.specs.Prelude.{ℕ, List, [], true, false, cond, eqb, leb}
+use Rattle.std.specs.Prelude.{ℕ, List, [], true, false, cond, eqb, leb, Option, Some, None}
+use Rattle.motions.specs.declared.Move.{Move}
 use Rattle.widths.specs.declared.Ambiguous.{Ambiguous}
 use Rattle.row_wrap.specs.declared.Wrap.{Wrap}
 use Rattle.motions.specs.declared.Caret.{Caret}
@@ -8,18 +9,16 @@ use Rattle.motions.specs.declared.Move.TheVariants.{ScreenKept}
 use Rattle.motions.specs.declared.Moved.{Moved}
 use Rattle.motions.specs.declared.Moved.TheVariants.{Refused}
 use Rattle.call_bytes.specs.Reply.{Reply}
-use Rattle.call_texts.specs.declared.Asked.{Asked}
-use Rattle.call_texts.specs.declared.Asked.TheVariants.{For, Nothing}
 use Rattle.call_texts.specs.Asks.{move_as}
 use Rattle.call_texts.specs.Carets.{moved_six}
 use Rattle.call_rows.specs.Flags.{setting_of, plain_of}
 use Rattle.call_rows.specs.Wraps.{mode_of}
 
-unfoldable pub kept_of : Ambiguous → ℕ → Wrap → ℕ → Asked
+unfoldable pub kept_of : Ambiguous → ℕ → Wrap → ℕ → Option Move
 kept_of a op mode width =
-    cond (eqb op 0) (For (ScreenKept mode width false a))
-    (cond (eqb op 1) (For (ScreenKept mode width true a))
-    Nothing)
+    cond (eqb op 0) (Some (ScreenKept mode width false a))
+    (cond (eqb op 1) (Some (ScreenKept mode width true a))
+    None)
 
 -- the answer of the move, n its count, by a number with or without the flag for wide; 100 where the number stands for none
 unfoldable pub remembered : ℕ → Wrap → ℕ → ℕ → ℕ → Caret → List ℕ → List ℕ → Moved

@@ -1,6 +1,7 @@
 -- Up, down and the screen by the number that stands for each. Cited by `call_folds::upright`; number by number in `proofs/Numbers.antt`.
 -- Assumes nothing.
-use Rattle.std.specs.Prelude.{ℕ, List, [], true, false, cond, eqb, leb}
+use Rattle.std.specs.Prelude.{ℕ, List, [], true, false, cond, eqb, leb, Option, Some, None}
+use Rattle.motions.specs.declared.Move.{Move}
 use Rattle.widths.specs.declared.Ambiguous.{Ambiguous}
 use Rattle.row_wrap.specs.declared.Wrap.{Wrap}
 use Rattle.motions.specs.declared.Caret.{Caret}
@@ -8,20 +9,18 @@ use Rattle.motions.specs.declared.Move.TheVariants.{Rows, Screen}
 use Rattle.motions.specs.declared.Moved.{Moved}
 use Rattle.motions.specs.declared.Moved.TheVariants.{Refused}
 use Rattle.call_bytes.specs.Reply.{Reply}
-use Rattle.call_texts.specs.declared.Asked.{Asked}
-use Rattle.call_texts.specs.declared.Asked.TheVariants.{For, Nothing}
 use Rattle.call_texts.specs.Asks.{move_as}
 use Rattle.call_texts.specs.Carets.{moved}
 use Rattle.call_rows.specs.Flags.{setting_of, plain_of}
 use Rattle.call_rows.specs.Wraps.{mode_of}
 
-unfoldable pub upright_of : Ambiguous → ℕ → Wrap → ℕ → Asked
+unfoldable pub upright_of : Ambiguous → ℕ → Wrap → ℕ → Option Move
 upright_of a op mode width =
-    cond (eqb op 0) (For (Rows false a))
-    (cond (eqb op 1) (For (Rows true a))
-    (cond (eqb op 2) (For (Screen mode width false a))
-    (cond (eqb op 3) (For (Screen mode width true a))
-    Nothing)))
+    cond (eqb op 0) (Some (Rows false a))
+    (cond (eqb op 1) (Some (Rows true a))
+    (cond (eqb op 2) (Some (Screen mode width false a))
+    (cond (eqb op 3) (Some (Screen mode width true a))
+    None)))
 
 -- the answer of the motion, n its count, by a number with or without the flag for wide; 100 where the number stands for none
 unfoldable pub upright : ℕ → Wrap → ℕ → ℕ → ℕ → Caret → List ℕ → List ℕ → Moved

@@ -1,21 +1,21 @@
 // The screen moves that remember.
-ghost use Rattle.std.specs.Prelude.{◌≡◌};
+ghost use Rattle.std.specs.Prelude.{◌≡◌, Some};
 ghost use Rattle.call_bytes.specs.Reply.{Replied};
 ghost use Rattle.call_texts.specs.Carets.{caret_six};
 ghost use Rattle.call_folds.specs.Kept.{kept_of, screen_kept, screens_kept};
 
 use crate::upright::mode_of;
 use call_rows::{plain_of, setting_of};
-use call_texts::{Asked, caret_six, move_as, place_six};
+use call_texts::{caret_six, move_as, place_six};
 use motions::{Caret, Move, Moved};
 use row_wrap::Wrap;
 use widths::Ambiguous;
 
 // A screen move that remembers.
-fn asked(mode: Wrap, width: u16, down: bool, ambiguous: Ambiguous) -> Asked
-    ensures { result ≡ Asked.For (Move.ScreenKept mode width down ambiguous) }
+fn asked(mode: Wrap, width: u16, down: bool, ambiguous: Ambiguous) -> Option<Move>
+    ensures { result ≡ Some (Move.ScreenKept mode width down ambiguous) }
 {
-    Asked::For(Move::ScreenKept {
+    Some(Move::ScreenKept {
         mode: mode,
         width: width,
         down: down,
@@ -25,13 +25,13 @@ fn asked(mode: Wrap, width: u16, down: bool, ambiguous: Ambiguous) -> Asked
 
 // The move that a number stands for under a setting: 0 `move_screen_up_kept`, 1
 // `move_screen_down_kept`.
-pub fn kept_of(op: u32, ambiguous: Ambiguous, mode: Wrap, width: u16) -> Asked
+pub fn kept_of(op: u32, ambiguous: Ambiguous, mode: Wrap, width: u16) -> Option<Move>
     ensures { result ≡ kept_of ambiguous op mode width }
 {
     match op {
         0 => asked(mode, width, false, ambiguous),
         1 => asked(mode, width, true, ambiguous),
-        _ => Asked::Nothing,
+        _ => None,
     }
 }
 

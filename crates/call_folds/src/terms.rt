@@ -1,18 +1,18 @@
 // Word motions.
-ghost use Rattle.std.specs.Prelude.{◌≡◌};
+ghost use Rattle.std.specs.Prelude.{◌≡◌, Some};
 ghost use Rattle.call_bytes.specs.Reply.{Replied};
 ghost use Rattle.call_texts.specs.Carets.{caret_of};
 ghost use Rattle.call_folds.specs.Terms.{is_big, word_of, words};
 
-use call_texts::{Asked, caret_of, move_as, place};
+use call_texts::{caret_of, move_as, place};
 use motions::Move;
 use word_rounds::Motion;
 
 // A word motion.
-fn by(motion: Motion, big: bool, stop: bool) -> Asked
-    ensures { result ≡ Asked.For (Move.Word motion big stop) }
+fn by(motion: Motion, big: bool, stop: bool) -> Option<Move>
+    ensures { result ≡ Some (Move.Word motion big stop) }
 {
-    Asked::For(Move::Word {
+    Some(Move::Word {
         motion: motion,
         big: big,
         stop: stop,
@@ -21,7 +21,7 @@ fn by(motion: Motion, big: bool, stop: bool) -> Asked
 
 // The word motion that a number stands for: 0 `move_word_fwd`, 1 `move_word_back`, 2 and 3
 // `move_word_end` with stop off and on, 4 `move_word_end_back`, which takes no folds.
-pub fn word_of(op: u32, big: bool) -> Asked
+pub fn word_of(op: u32, big: bool) -> Option<Move>
     ensures { result ≡ word_of op big }
 {
     match op {
@@ -30,7 +30,7 @@ pub fn word_of(op: u32, big: bool) -> Asked
         2 => by(Motion::End, big, false),
         3 => by(Motion::End, big, true),
         4 => by(Motion::EndBack, big, false),
-        _ => Asked::Nothing,
+        _ => None,
     }
 }
 

@@ -1,5 +1,5 @@
 // Up, down and the screen.
-ghost use Rattle.std.specs.Prelude.{◌≡◌};
+ghost use Rattle.std.specs.Prelude.{◌≡◌, Some};
 ghost use Rattle.call_bytes.specs.Reply.{Replied};
 ghost use Rattle.call_texts.specs.Carets.{caret_of};
 ghost use Rattle.call_rows.specs.Wraps.{mode_of};
@@ -7,7 +7,7 @@ ghost use Rattle.call_folds.specs.Upright.{upright_of, verticals};
 ghost use Rattle.call_folds.specs.Upright.{vertical as vertical_of};
 
 use call_rows::{plain_of, setting_of};
-use call_texts::{Asked, caret_of, move_as, place};
+use call_texts::{caret_of, move_as, place};
 use motions::{Caret, Move, Moved};
 use row_wrap::Wrap;
 use widths::Ambiguous;
@@ -24,10 +24,10 @@ pub fn mode_of(mode: u32) -> Wrap
 }
 
 // A screen motion.
-fn screen(mode: Wrap, width: u16, down: bool, ambiguous: Ambiguous) -> Asked
-    ensures { result ≡ Asked.For (Move.Screen mode width down ambiguous) }
+fn screen(mode: Wrap, width: u16, down: bool, ambiguous: Ambiguous) -> Option<Move>
+    ensures { result ≡ Some (Move.Screen mode width down ambiguous) }
 {
-    Asked::For(Move::Screen {
+    Some(Move::Screen {
         mode: mode,
         width: width,
         down: down,
@@ -36,10 +36,10 @@ fn screen(mode: Wrap, width: u16, down: bool, ambiguous: Ambiguous) -> Asked
 }
 
 // Up or down.
-fn rows(down: bool, ambiguous: Ambiguous) -> Asked
-    ensures { result ≡ Asked.For (Move.Rows down ambiguous) }
+fn rows(down: bool, ambiguous: Ambiguous) -> Option<Move>
+    ensures { result ≡ Some (Move.Rows down ambiguous) }
 {
-    Asked::For(Move::Rows {
+    Some(Move::Rows {
         down: down,
         ambiguous: ambiguous,
     })
@@ -47,7 +47,7 @@ fn rows(down: bool, ambiguous: Ambiguous) -> Asked
 
 // The motion that a number stands for under a setting: 0 `move_up`, 1 `move_down`, 2
 // `move_screen_up`, 3 `move_screen_down`.
-pub fn upright_of(op: u32, ambiguous: Ambiguous, mode: Wrap, width: u16) -> Asked
+pub fn upright_of(op: u32, ambiguous: Ambiguous, mode: Wrap, width: u16) -> Option<Move>
     ensures { result ≡ upright_of ambiguous op mode width }
 {
     match op {
@@ -55,7 +55,7 @@ pub fn upright_of(op: u32, ambiguous: Ambiguous, mode: Wrap, width: u16) -> Aske
         1 => rows(true, ambiguous),
         2 => screen(mode, width, false, ambiguous),
         3 => screen(mode, width, true, ambiguous),
-        _ => Asked::Nothing,
+        _ => None,
     }
 }
 

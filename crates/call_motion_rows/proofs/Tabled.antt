@@ -1,6 +1,7 @@
 -- The calls with a table against those without: whatever a number asks for, the reply is that of the call without one, and then 15, 16.
 -- Assumes nothing.
-use Rattle.lists.proofs.Kit.{◌≡◌, refl, ap, ◌∙◌, List, [], Bool, true, false, cond, ℕ, eqb, leb}
+use Rattle.lists.proofs.Kit.{◌≡◌, refl, ap, ◌∙◌, List, [], Bool, true, false, cond, ℕ, eqb, leb, Option, Some, None}
+use Rattle.motions.specs.declared.Move.{Move}
 use Rattle.text.specs.Text.{row_count}
 use Rattle.row_table.specs.Table.{table_refusal}
 use Rattle.motions.specs.declared.Caret.{Caret}
@@ -10,8 +11,6 @@ use Rattle.motions.specs.declared.Sought.TheVariants.{Found, Missing, Refused}
 use Rattle.motions.specs.Going.{landed, goes}
 use Rattle.motions.proofs.Every.{landed_goes}
 use Rattle.motion_rows.specs.Going.{or_table}
-use Rattle.call_texts.specs.declared.Asked.{Asked}
-use Rattle.call_texts.specs.declared.Asked.TheVariants.{For, Nothing}
 use Rattle.call_texts.specs.Asks.{move_as, seek_as}
 use Rattle.call_texts.specs.Carets.{moved, moved_six}
 use Rattle.call_texts.specs.Seeks.{sought}
@@ -46,51 +45,51 @@ sought_by g (Missing k) = split sought (eqb g 0) (Missing k) (Refused g)
 
 -- whatever is asked for, the call with a table replies as the one without, and then 15, 16
 module _ (t starts : List ℕ) (content : ℕ) (folds list : List ℕ) (tabstop n : ℕ) where
-  moved_rows : (a : Asked) (k : Caret) →
+  moved_rows : (a : Option Move) (k : Caret) →
       moved (landed (rows_as a n k t starts content folds list tabstop)) ≡ by_table t starts content (moved (move_as a n k t folds list tabstop))
   unfolding rows_as move_as moved replied_by
-  moved_rows (For m) k = moved_by_lem (table_refusal (row_count t) t starts content) (goes t folds list tabstop m n k)
+  moved_rows (Some m) k = moved_by_lem (table_refusal (row_count t) t starts content) (goes t folds list tabstop m n k)
       ∙ ap (λ (x : Moved). by_table t starts content (moved x)) (landed_goes t folds list tabstop n k m)
-  moved_rows Nothing k = refl
+  moved_rows None k = refl
 
-  six_rows : (a : Asked) (k : Caret) →
+  six_rows : (a : Option Move) (k : Caret) →
       moved_six (landed (rows_as a n k t starts content folds list tabstop)) ≡ by_table t starts content (moved_six (move_as a n k t folds list tabstop))
   unfolding rows_as move_as moved_six replied_by
-  six_rows (For m) k = six_by (table_refusal (row_count t) t starts content) (goes t folds list tabstop m n k)
+  six_rows (Some m) k = six_by (table_refusal (row_count t) t starts content) (goes t folds list tabstop m n k)
       ∙ ap (λ (x : Moved). by_table t starts content (moved_six x)) (landed_goes t folds list tabstop n k m)
-  six_rows Nothing k = refl
+  six_rows None k = refl
 
   -- the same from what a call finds out: what its number asks for, the caret, the answer, and where that lands
-  module _ {a a' : Asked} {k k' : Caret} {s : Sought} {m : Moved} (asked : a ≡ a') (caret : k ≡ k')
+  module _ {a a' : Option Move} {k k' : Caret} {s : Sought} {m : Moved} (asked : a ≡ a') (caret : k ≡ k')
       (answered : s ≡ rows_as a n k t starts content folds list tabstop) (lands : m ≡ landed s) where
     pub moves_by_table : moved m ≡ by_table t starts content (moved (move_as a' n k' t folds list tabstop))
     moves_by_table = ap moved (lands ∙ ap landed answered) ∙ moved_rows a k
-        ∙ ap (λ (x : Asked). by_table t starts content (moved (move_as x n k t folds list tabstop))) asked
+        ∙ ap (λ (x : Option Move). by_table t starts content (moved (move_as x n k t folds list tabstop))) asked
         ∙ ap (λ (x : Caret). by_table t starts content (moved (move_as a' n x t folds list tabstop))) caret
 
     pub six_by_table : moved_six m ≡ by_table t starts content (moved_six (move_as a' n k' t folds list tabstop))
     six_by_table = ap moved_six (lands ∙ ap landed answered) ∙ six_rows a k
-        ∙ ap (λ (x : Asked). by_table t starts content (moved_six (move_as x n k t folds list tabstop))) asked
+        ∙ ap (λ (x : Option Move). by_table t starts content (moved_six (move_as x n k t folds list tabstop))) asked
         ∙ ap (λ (x : Caret). by_table t starts content (moved_six (move_as a' n x t folds list tabstop))) caret
 
 -- a search likewise
 module _ (t starts : List ℕ) (content : ℕ) where
-  sought_rows : (a : Asked) (k : Caret) → sought (rows_as a 1 k t starts content [] [] 0) ≡ by_table t starts content (sought (seek_as a k t))
+  sought_rows : (a : Option Move) (k : Caret) → sought (rows_as a 1 k t starts content [] [] 0) ≡ by_table t starts content (sought (seek_as a k t))
   unfolding rows_as seek_as sought replied_by
-  sought_rows (For m) k = sought_by (table_refusal (row_count t) t starts content) (goes t [] [] 0 m 1 k)
-  sought_rows Nothing k = refl
+  sought_rows (Some m) k = sought_by (table_refusal (row_count t) t starts content) (goes t [] [] 0 m 1 k)
+  sought_rows None k = refl
 
-  pub seeks_by_table : {a a' : Asked} {k k' : Caret} {s : Sought} → a ≡ a' → k ≡ k' → s ≡ rows_as a 1 k t starts content [] [] 0 →
+  pub seeks_by_table : {a a' : Option Move} {k k' : Caret} {s : Sought} → a ≡ a' → k ≡ k' → s ≡ rows_as a 1 k t starts content [] [] 0 →
       sought s ≡ by_table t starts content (sought (seek_as a' k' t))
   seeks_by_table {a} {a'} {k} {k'} asked caret answered = ap sought answered ∙ sought_rows a k
-      ∙ ap (λ (x : Asked). by_table t starts content (sought (seek_as x k t))) asked ∙ ap (λ (x : Caret). by_table t starts content (sought (seek_as a' x t))) caret
+      ∙ ap (λ (x : Option Move). by_table t starts content (sought (seek_as x k t))) asked ∙ ap (λ (x : Caret). by_table t starts content (sought (seek_as a' x t))) caret
 
 -- a mode by another number than 0 to 2 asks for nothing, and is refused with 100
 module _ (op mode width n tabstop : ℕ) (k : Caret) (t folds : List ℕ) where
   pub vertical_asked : move_as (upright_by op mode width) n k t folds [] tabstop ≡ vertical op mode width n tabstop k t folds
   unfolding upright_by vertical upright move_as
-  vertical_asked = split (λ (a : Asked). move_as a n k t folds [] tabstop) (leb mode 2) (upright_of (setting_of op) (plain_of op) (mode_of mode) width) Nothing
+  vertical_asked = split (λ (a : Option Move). move_as a n k t folds [] tabstop) (leb mode 2) (upright_of (setting_of op) (plain_of op) (mode_of mode) width) None
 
   pub kept_asked : move_as (kept_by op mode width) n k t folds [] tabstop ≡ screen_kept op mode width n tabstop k t folds
   unfolding kept_by screen_kept remembered move_as
-  kept_asked = split (λ (a : Asked). move_as a n k t folds [] tabstop) (leb mode 2) (kept_of (setting_of op) (plain_of op) (mode_of mode) width) Nothing
+  kept_asked = split (λ (a : Option Move). move_as a n k t folds [] tabstop) (leb mode 2) (kept_of (setting_of op) (plain_of op) (mode_of mode) width) None

@@ -2,12 +2,11 @@
 ghost use Rattle.std.specs.Prelude.{◌≡◌};
 ghost use Rattle.call_motion_rows.specs.Asks.{rows_as};
 
-use call_texts::Asked;
-use motions::{Caret, Sought};
+use motions::{Caret, Move, Sought};
 
 // The answer of the move; 100 where the number stands for none.
 pub(crate) fn go_as(
-    a: Asked,
+    a: Option<Move>,
     k: Caret,
     t: &[u32],
     starts: &[u32],
@@ -21,9 +20,7 @@ pub(crate) fn go_as(
         folds.now list.now tabstop }
 {
     match a {
-        Asked::For(m) => {
-            motion_rows::go_rows(k, t, starts, content, folds, list, tabstop, m, count)
-        }
-        Asked::Nothing => Sought::Refused(100),
+        Some(m) => { motion_rows::go_rows(k, t, starts, content, folds, list, tabstop, m, count) }
+        None => Sought::Refused(100),
     }
 }

@@ -9,15 +9,16 @@ ghost use Rattle.call_motion_rows.specs.Asks.{by_table, upright_by, kept_by};
 use crate::asks::go_as;
 use call_folds::{kept_of, mode_of, upright_of};
 use call_rows::{plain_of, setting_of};
-use call_texts::{Asked, caret_of, caret_six, place, place_six};
+use call_texts::{caret_of, caret_six, place, place_six};
+use motions::Move;
 
 // The motion by its number, which may have the flag for wide, and the number of a mode; nothing for
 // another mode, also where the motion has none.
-fn upright_by(op: u32, mode: u32, width: u16) -> Asked
+fn upright_by(op: u32, mode: u32, width: u16) -> Option<Move>
     ensures { result ≡ upright_by op mode width }
 {
     if mode > 2 {
-        return Asked::Nothing;
+        return None;
     }
     let w = mode_of(mode);
     let plain = plain_of(op);
@@ -25,11 +26,11 @@ fn upright_by(op: u32, mode: u32, width: u16) -> Asked
 }
 
 // The move that remembers, likewise.
-fn kept_by(op: u32, mode: u32, width: u16) -> Asked
+fn kept_by(op: u32, mode: u32, width: u16) -> Option<Move>
     ensures { result ≡ kept_by op mode width }
 {
     if mode > 2 {
-        return Asked::Nothing;
+        return None;
     }
     let w = mode_of(mode);
     let plain = plain_of(op);

@@ -4,14 +4,6 @@
 
 ghost use Rattle.std.specs.Prelude.{◌≡◌, ◌+◌, ◌/◌, ◌≤◌, length};
 ghost use Rattle.call_points.specs.Points.{Decoded, Two, Three};
-ghost use Rattle.call_points.specs.Points.{word as word_of};
-
-// The number that four bytes make.
-fn word(a: u8, b: u8, c: u8, d: u8) -> u32
-    ensures { result ≡ word_of a b c d }
-{
-    a as u32 + 0x100 * (b as u32) + 0x10000 * (c as u32) + 0x1000000 * (d as u32)
-}
 
 // Puts the code points of `bytes` at the start of `room`, and answers how many there are.
 pub fn decode(bytes: &[u8], room: &mut [u32]) -> usize
@@ -20,12 +12,8 @@ pub fn decode(bytes: &[u8], room: &mut [u32]) -> usize
 {
     let n = bytes.len() / 4;
     for i in 0..n {
-        room[i] = word(
-            bytes[4 * i],
-            bytes[4 * i + 1],
-            bytes[4 * i + 2],
-            bytes[4 * i + 3],
-        );
+        let at = 4 * i;
+        room[i] = u32::from_le_bytes([bytes[at], bytes[at + 1], bytes[at + 2], bytes[at + 3]]);
     }
     n
 }

@@ -4,7 +4,7 @@ ghost use Rattle.call_bytes.specs.Reply.{Replied, told};
 ghost use Rattle.call_rows.specs.Characters.{fact};
 ghost use Rattle.call_rows.specs.Characters.{tested as tested_of};
 
-use call_bytes::{Told, bit_of, reply};
+use call_bytes::{Told, reply};
 use widths::Ambiguous;
 
 // What is told of a character that is tested: n, or 2 where it is no scalar value.
@@ -24,9 +24,9 @@ fn fact_of(op: u32, x: u32) -> Told
     ensures { result ≡ fact op x }
 {
     match op {
-        0 => Told::Value(bit_of(chars::is_scalar(x))),
-        1 => tested(x, bit_of(chars::is_white(x))),
-        2 => tested(x, bit_of(letters::is_letter(x))),
+        0 => Told::Value(u32::from(chars::is_scalar(x))),
+        1 => tested(x, u32::from(chars::is_white(x))),
+        2 => tested(x, u32::from(letters::is_letter(x))),
         3 => tested(x, widths::width(Ambiguous::Narrow, x)),
         259 => tested(x, widths::width(Ambiguous::Wide, x)),
         _ => Told::Refused(100),

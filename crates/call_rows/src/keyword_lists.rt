@@ -4,7 +4,7 @@ ghost use Rattle.call_bytes.specs.Reply.{Replied};
 ghost use Rattle.call_rows.specs.Lists.{told_matched, token_count, by_table, in_table, keyword};
 ghost use Rattle.call_rows.specs.Lists.{keywords as keywords_of};
 
-use call_bytes::{Told, bit_of, reply};
+use call_bytes::{Told, reply};
 use keywords::{KeywordSpec, Matched, Parsed};
 
 // Whether the list holds the character, 1 or 0, or the number it is refused with.
@@ -12,7 +12,7 @@ fn told_matched(m: Matched) -> Told
     ensures { result ≡ told_matched m }
 {
     match m {
-        Matched::Is(b) => Told::Value(bit_of(b)),
+        Matched::Is(b) => Told::Value(u32::from(b)),
         Matched::Refused(f) => Told::Refused(f),
     }
 }

@@ -5,7 +5,6 @@ ghost use Rattle.call_signs.specs.Entry.{placed, placed_reply, placed_matched, b
 ghost use Rattle.call_signs.specs.Entry.{entered_count, entered_matches, entering};
 
 use crate::Placed;
-use call_bytes::bit_of;
 use keywords::Matched;
 use list_signs::Entered;
 
@@ -22,7 +21,7 @@ fn placed_matched(m: Matched) -> Placed
     ensures { result ≡ placed_matched m }
 {
     match m {
-        Matched::Is(b) => Placed::Value(bit_of(b)),
+        Matched::Is(b) => Placed::Value(u32::from(b)),
         Matched::Refused(f) => Placed::Refused(f as u64),
     }
 }

@@ -1,21 +1,20 @@
 -- The motion that a number stands for, in the order of motions.rs. Cited by `call_texts::moves`; number by number in `proofs/Numbers.antt`.
 -- Assumes nothing.
-use Rattle.std.specs.Prelude.{ℕ, List, [], cond, eqb}
+use Rattle.std.specs.Prelude.{ℕ, List, [], cond, eqb, Option, Some, None}
+use Rattle.motions.specs.declared.Move.{Move}
 use Rattle.text_moves.specs.declared.Way.{Way}
 use Rattle.text_moves.specs.declared.Way.TheVariants as way
 use Rattle.motions.specs.declared.Caret.{Caret}
 use Rattle.motions.specs.declared.Move.TheVariants.{By}
 use Rattle.motions.specs.declared.Moved.{Moved}
 use Rattle.call_bytes.specs.Reply.{Reply}
-use Rattle.call_texts.specs.declared.Asked.{Asked}
-use Rattle.call_texts.specs.declared.Asked.TheVariants.{For, Nothing}
 use Rattle.call_texts.specs.Asks.{move_as}
 use Rattle.call_texts.specs.Carets.{moved}
 
-abbrev by : Way → Asked
-by w = For (By w)
+abbrev by : Way → Option Move
+by w = Some (By w)
 
-unfoldable pub way_of : ℕ → Asked
+unfoldable pub way_of : ℕ → Option Move
 way_of op =
     cond (eqb op 0) (by way.Left)
     (cond (eqb op 1) (by way.RightInLine)
@@ -38,7 +37,7 @@ way_of op =
     (cond (eqb op 18) (by way.ThisLine)
     (cond (eqb op 19) (by way.Top)
     (cond (eqb op 20) (by way.Bottom)
-    Nothing))))))))))))))))))))
+    None))))))))))))))))))))
 
 -- the answer of the motion; 100 where the number stands for none
 unfoldable pub motion : ℕ → ℕ → Caret → List ℕ → Moved

@@ -2,12 +2,11 @@
 ghost use Rattle.std.specs.Prelude.{◌≡◌};
 ghost use Rattle.call_texts.specs.Asks.{move_as, seek_as};
 
-use crate::Asked;
-use motions::{Caret, Moved, Sought};
+use motions::{Caret, Move, Moved, Sought};
 
 // The caret after the move; 100 where the number stands for none.
 pub fn move_as(
-    a: Asked,
+    a: Option<Move>,
     k: Caret,
     t: &[u32],
     folds: &[u32],
@@ -19,18 +18,18 @@ pub fn move_as(
         list.now tabstop }
 {
     match a {
-        Asked::For(m) => k.moved_by(t, folds, list, tabstop, m, count),
-        Asked::Nothing => Moved::Refused(100),
+        Some(m) => k.moved_by(t, folds, list, tabstop, m, count),
+        None => Moved::Refused(100),
     }
 }
 
 // The answer of a search, likewise.
-pub(crate) fn seek_as(a: Asked, k: Caret, t: &[u32]) -> Sought
+pub(crate) fn seek_as(a: Option<Move>, k: Caret, t: &[u32]) -> Sought
     ensures { result ≡ seek_as a k t.now }
 {
     let none = &t[..0];
     match a {
-        Asked::For(m) => k.go(t, none, none, 0, m, 1),
-        Asked::Nothing => Sought::Refused(100),
+        Some(m) => k.go(t, none, none, 0, m, 1),
+        None => Sought::Refused(100),
     }
 }

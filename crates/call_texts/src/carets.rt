@@ -6,16 +6,15 @@ ghost use Rattle.call_texts.specs.Carets.{offset_of, caret_six, keeps, within, m
 
 use crate::moves::{column_of, held_of, sticky_of};
 use motions::{Caret, Moved};
-use screen::Offset;
 
 // The offset within a segment that a host keeps, where its first number says that it keeps one.
-fn offset_of(kept: u32, offset: u32) -> Offset
+fn offset_of(kept: u32, offset: u32) -> Option<u32>
     ensures { result ≡ offset_of kept offset }
 {
     if kept == 0 {
-        return Offset::Absent;
+        return None;
     }
-    Offset::At(offset)
+    Some(offset)
 }
 
 // A caret of six numbers; it keeps no offset where `kept` is 0.
@@ -28,22 +27,22 @@ pub fn caret_six(row: u32, col: u32, held: u32, sticky: u32, kept: u32, offset: 
 }
 
 // 1 where an offset within the segment is kept, else 0.
-fn keeps_of(o: Offset) -> u32
+fn keeps_of(o: Option<u32>) -> u32
     ensures { result ≡ keeps o }
 {
     match o {
-        Offset::Absent => 0,
-        Offset::At(_) => 1,
+        None => 0,
+        Some(_) => 1,
     }
 }
 
 // The offset that is kept, 0 where there is none.
-fn within_of(o: Offset) -> u32
+fn within_of(o: Option<u32>) -> u32
     ensures { result ≡ within o }
 {
     match o {
-        Offset::Absent => 0,
-        Offset::At(x) => x,
+        None => 0,
+        Some(x) => x,
     }
 }
 

@@ -23,10 +23,3 @@ pub use pairs::matching_bracket_pos;
 pub use rows::content_row_count;
 pub use seeks::{seek, seek_of, tell};
 pub use viewports::{edge_of, viewport};
-
-// What a number asks for: a move, or nothing where it stands for none.
-#[derive(Clone, Copy)]
-pub enum Asked {
-    For(Move),
-    Nothing,
-}

@@ -4,11 +4,9 @@ ghost use Rattle.call_bytes.specs.Reply.{Replied};
 ghost use Rattle.call_texts.specs.Carets.{sticky_of, caret_of, held, column, moved};
 ghost use Rattle.call_texts.specs.Moves.{way_of, motions};
 
-use crate::Asked;
 use crate::asks::move_as;
 use motions::{Caret, Move, Moved};
 use text_moves::Way;
-use vertical::Sticky;
 
 // A caret of four numbers; it has no sticky column where `held` is 0.
 pub fn caret_of(row: u32, col: u32, held: u32, sticky: u32) -> Caret
@@ -18,32 +16,32 @@ pub fn caret_of(row: u32, col: u32, held: u32, sticky: u32) -> Caret
     Caret::at(row, col, s)
 }
 
-pub(crate) fn sticky_of(held: u32, sticky: u32) -> Sticky
+pub(crate) fn sticky_of(held: u32, sticky: u32) -> Option<u32>
     ensures { result ≡ sticky_of held sticky }
 {
     if held == 0 {
-        return Sticky::Absent;
+        return None;
     }
-    Sticky::At(sticky)
+    Some(sticky)
 }
 
 // 1 where a column is remembered, else 0.
-pub fn held_of(s: Sticky) -> u32
+pub fn held_of(s: Option<u32>) -> u32
     ensures { result ≡ held s }
 {
     match s {
-        Sticky::Absent => 0,
-        Sticky::At(_) => 1,
+        None => 0,
+        Some(_) => 1,
     }
 }
 
 // The column that is remembered, 0 where there is none.
-pub fn column_of(s: Sticky) -> u32
+pub fn column_of(s: Option<u32>) -> u32
     ensures { result ≡ column s }
 {
     match s {
-        Sticky::Absent => 0,
-        Sticky::At(x) => x,
+        None => 0,
+        Some(x) => x,
     }
 }
 
@@ -62,32 +60,32 @@ pub fn place(m: Moved, out: &mut [u32; 4]) -> u32
 }
 
 // The move that a number stands for, in the order of motions.rs.
-pub fn way_of(op: u32) -> Asked
+pub fn way_of(op: u32) -> Option<Move>
     ensures { result ≡ way_of op }
 {
     match op {
-        0 => Asked::For(Move::By(Way::Left)),
-        1 => Asked::For(Move::By(Way::RightInLine)),
-        2 => Asked::For(Move::By(Way::RightToEnd)),
-        3 => Asked::For(Move::By(Way::SpaceFwd)),
-        4 => Asked::For(Move::By(Way::BackspaceBack)),
-        5 => Asked::For(Move::By(Way::LineStart)),
-        6 => Asked::For(Move::By(Way::FirstNonBlank)),
-        7 => Asked::For(Move::By(Way::LineEnd)),
-        8 => Asked::For(Move::By(Way::GotoColumn)),
-        9 => Asked::For(Move::By(Way::LastNonBlank)),
-        10 => Asked::For(Move::By(Way::ParagraphPrev)),
-        11 => Asked::For(Move::By(Way::ParagraphNext)),
-        12 => Asked::For(Move::By(Way::SectionBackward)),
-        13 => Asked::For(Move::By(Way::SectionForward)),
-        14 => Asked::For(Move::By(Way::SectionEndBackward)),
-        15 => Asked::For(Move::By(Way::SectionEndForward)),
-        16 => Asked::For(Move::By(Way::NextLine)),
-        17 => Asked::For(Move::By(Way::PrevLine)),
-        18 => Asked::For(Move::By(Way::ThisLine)),
-        19 => Asked::For(Move::By(Way::Top)),
-        20 => Asked::For(Move::By(Way::Bottom)),
-        _ => Asked::Nothing,
+        0 => Some(Move::By(Way::Left)),
+        1 => Some(Move::By(Way::RightInLine)),
+        2 => Some(Move::By(Way::RightToEnd)),
+        3 => Some(Move::By(Way::SpaceFwd)),
+        4 => Some(Move::By(Way::BackspaceBack)),
+        5 => Some(Move::By(Way::LineStart)),
+        6 => Some(Move::By(Way::FirstNonBlank)),
+        7 => Some(Move::By(Way::LineEnd)),
+        8 => Some(Move::By(Way::GotoColumn)),
+        9 => Some(Move::By(Way::LastNonBlank)),
+        10 => Some(Move::By(Way::ParagraphPrev)),
+        11 => Some(Move::By(Way::ParagraphNext)),
+        12 => Some(Move::By(Way::SectionBackward)),
+        13 => Some(Move::By(Way::SectionForward)),
+        14 => Some(Move::By(Way::SectionEndBackward)),
+        15 => Some(Move::By(Way::SectionEndForward)),
+        16 => Some(Move::By(Way::NextLine)),
+        17 => Some(Move::By(Way::PrevLine)),
+        18 => Some(Move::By(Way::ThisLine)),
+        19 => Some(Move::By(Way::Top)),
+        20 => Some(Move::By(Way::Bottom)),
+        _ => None,
     }
 }
 

@@ -1,10 +1,9 @@
 // `%` and the finds within a row.
-ghost use Rattle.std.specs.Prelude.{◌≡◌};
+ghost use Rattle.std.specs.Prelude.{◌≡◌, Some};
 ghost use Rattle.call_bytes.specs.Reply.{Replied};
 ghost use Rattle.call_texts.specs.Carets.{caret_of};
 ghost use Rattle.call_texts.specs.Seeks.{sought, seek_of, seeks};
 
-use crate::Asked;
 use crate::asks::seek_as;
 use crate::moves::{caret_of, column_of, held_of};
 use motions::{Move, Sought};
@@ -29,10 +28,10 @@ pub fn tell(m: Sought, out: &mut [u32; 5]) -> u32
 }
 
 // A find within the row.
-fn find(x: u32, forward: bool, till: bool, skip: bool) -> Asked
-    ensures { result ≡ Asked.For (Move.Find x forward till skip) }
+fn find(x: u32, forward: bool, till: bool, skip: bool) -> Option<Move>
+    ensures { result ≡ Some (Move.Find x forward till skip) }
 {
-    Asked::For(Move::Find {
+    Some(Move::Find {
         x: x,
         forward: forward,
         till: till,
@@ -42,11 +41,11 @@ fn find(x: u32, forward: bool, till: bool, skip: bool) -> Asked
 
 // What a number stands for: 0 `match_bracket`, which seeks no character; 1 and on
 // `find_char_on_line`, 1 more for forward, 2 more for till, 4 more for skip_adjacent.
-pub fn seek_of(op: u32, x: u32) -> Asked
+pub fn seek_of(op: u32, x: u32) -> Option<Move>
     ensures { result ≡ seek_of op x }
 {
     match op {
-        0 => Asked::For(Move::Bracket),
+        0 => Some(Move::Bracket),
         1 => find(x, false, false, false),
         2 => find(x, true, false, false),
         3 => find(x, false, true, false),
@@ -55,7 +54,7 @@ pub fn seek_of(op: u32, x: u32) -> Asked
         6 => find(x, true, false, true),
         7 => find(x, false, true, true),
         8 => find(x, true, true, true),
-        _ => Asked::Nothing,
+        _ => None,
     }
 }
 

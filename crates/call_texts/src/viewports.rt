@@ -1,20 +1,19 @@
 // The edges of a viewport.
-ghost use Rattle.std.specs.Prelude.{◌≡◌};
+ghost use Rattle.std.specs.Prelude.{◌≡◌, Some};
 ghost use Rattle.call_bytes.specs.Reply.{Replied};
 ghost use Rattle.call_texts.specs.Carets.{caret_of};
 ghost use Rattle.call_texts.specs.Viewports.{edge_of, viewports};
 
-use crate::Asked;
 use crate::asks::move_as;
 use crate::moves::{caret_of, place};
 use motions::Move;
 use vertical::Edge;
 
 // A motion to an edge.
-fn to(edge: Edge, top: u32, height: u16, offset: u32) -> Asked
-    ensures { result ≡ Asked.For (Move.Viewport edge top height offset) }
+fn to(edge: Edge, top: u32, height: u16, offset: u32) -> Option<Move>
+    ensures { result ≡ Some (Move.Viewport edge top height offset) }
 {
-    Asked::For(Move::Viewport {
+    Some(Move::Viewport {
         edge: edge,
         top: top,
         height: height,
@@ -24,14 +23,14 @@ fn to(edge: Edge, top: u32, height: u16, offset: u32) -> Asked
 
 // The viewport motion that a number stands for: 0 `move_viewport_top`, which takes no height, 1
 // `move_viewport_middle`, which takes no offset, 2 `move_viewport_bottom`.
-pub fn edge_of(op: u32, top: u32, height: u16, offset: u32) -> Asked
+pub fn edge_of(op: u32, top: u32, height: u16, offset: u32) -> Option<Move>
     ensures { result ≡ edge_of op top height offset }
 {
     match op {
         0 => to(Edge::Top, top, 0, offset),
         1 => to(Edge::Middle, top, height, 0),
         2 => to(Edge::Bottom, top, height, offset),
-        _ => Asked::Nothing,
+        _ => None,
     }
 }
 

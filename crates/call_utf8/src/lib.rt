@@ -8,7 +8,7 @@ ghost use Rattle.call_utf8.specs.Utf8.{decodes, decodes_in, encodes};
 ghost use Rattle.utf8.specs.Calls.{encoded_in};
 
 use call_bytes::{Told, reply};
-use utf8::{Decoded, Encoded};
+use utf8::DecodeError;
 
 // Puts the code points of `bytes` at the start of `points`, and how many there are into `out`.
 // Answers 0, or a number in the low half, and for 13 the place of the first byte that can't stand
@@ -22,12 +22,17 @@ pub fn utf8_decode(bytes: &[u8], points: &mut [u32], out: &mut [u32; 1]) -> u64
         return 103;
     }
     match utf8::decode(bytes, points) {
-        Decoded::Text(n) => {
+        Ok(n) => {
             *out = [n as u32];
             0
         }
-        Decoded::Bad(place) => 13 + 4294967296 * (place as u64),
-        Decoded::Refused(f) => f as u64,
+        Err(e) => {
+            let number = e.number() as u64;
+            match e {
+                DecodeError::Bad(at) => number + 4294967296 * (at.place as u64),
+                DecodeError::NoRoom => number,
+            }
+        }
     }
 }
 
@@ -39,7 +44,7 @@ pub fn utf8_encode(points: &[u32], bytes: &mut [u8], out: &mut [u32; 1]) -> u32
     ensures bytes_after { bytes.new ≡ encoded_in points.now bytes.old }
 {
     match utf8::encode(points, bytes) {
-        Encoded::Bytes(n) => reply(Told::Value(n as u32), out),
-        Encoded::Refused(f) => reply(Told::Refused(f), out),
+        Ok(n) => reply(Told::Value(n as u32), out),
+        Err(e) => reply(Told::Refused(e.number()), out),
     }
 }

@@ -4,7 +4,6 @@ ghost use Rattle.call_bytes.specs.Reply.{Replied};
 ghost use Rattle.call_signs.specs.Entry.{placed, placed_reply};
 ghost use Rattle.call_vim.specs.Vim.{vim_count, vim_matches, vim_by, vim_writing, vim_left};
 
-use call_bytes::bit_of;
 use call_signs::Placed;
 use vim_reader::{VimSpec, VimTested};
 use vim_writer::VimWritten;
@@ -33,7 +32,7 @@ fn vim_matches(list: &[u32], x: u32) -> Placed
     ensures { result ≡ vim_matches list.now x }
 {
     match vim_reader::is_vim_char(x, list) {
-        VimTested::Is(b) => Placed::Value(bit_of(b)),
+        VimTested::Is(b) => Placed::Value(u32::from(b)),
         VimTested::Bad(place) => Placed::Refused(placed_at(17, place)),
         VimTested::Refused(f) => Placed::Refused(f as u64),
     }

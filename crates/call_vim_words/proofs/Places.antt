@@ -1,5 +1,5 @@
 -- The place of 17 is one of a list of at most 1,024 code points. Assumes nothing.
-use Rattle.lists.proofs.Kit.{List, Bool, true, false, cond, ℕ, eqb}
+use Rattle.lists.proofs.Kit.{List, Bool, true, false, cond, ℕ, eqb, Option, Some, None}
 use Rattle.positions.specs.Positions.{refusal_folds}
 use Rattle.vim_reader.specs.Table.{read_of}
 use Rattle.word_rounds.specs.declared.Motion.{Motion}
@@ -9,8 +9,6 @@ use Rattle.motions.specs.WordMoves.{folds_of, word_caret}
 use Rattle.vim_words.specs.declared.VimMoved.TheVariants.{To, Bad, Refused}
 use Rattle.vim_words.specs.ByVim.{in_vim_list, by_read, word_by_vim}
 use Rattle.call_vim.proofs.Bounds.{read_place}
-use Rattle.call_classes.specs.declared.Term.{Term}
-use Rattle.call_classes.specs.declared.Term.TheVariants.{Of, Nothing}
 use Rattle.call_vim_words.specs.ByTerm.{by_vim_term, PlaceIn}
 
 module _ (list : List ℕ) (k : Caret) where
@@ -31,7 +29,7 @@ word_in t folds list big m stop n k = go (eqb (refusal_folds t folds (here k)) 0
     go true = read_in list (word_caret t folds (in_vim_list list) big m stop n k)
     go false = tt
 
-pub place_in : (a : Term) (big : Bool) (n : ℕ) (k : Caret) (t folds list : List ℕ) → PlaceIn (by_vim_term a big n k t folds list)
+pub place_in : (a : Option (Motion × Bool)) (big : Bool) (n : ℕ) (k : Caret) (t folds list : List ℕ) → PlaceIn (by_vim_term a big n k t folds list)
 unfolding by_vim_term
-place_in (Of m stop) big n k t folds list = word_in t (folds_of m folds) list big m stop n k
-place_in Nothing big n k t folds list = tt
+place_in (Some (m, stop)) big n k t folds list = word_in t (folds_of m folds) list big m stop n k
+place_in None big n k t folds list = tt

@@ -6,14 +6,14 @@ ghost use Rattle.call_texts.specs.Carets.{caret_of};
 ghost use Rattle.call_folds.specs.Terms.{is_big};
 ghost use Rattle.call_vim_words.specs.ByTerm.{by_vim_term, vim_moved, PlaceIn, words_vim};
 
-use call_classes::Term;
 use call_texts::{caret_of, place};
 use motions::{Caret, Moved};
 use vim_words::VimMoved;
+use word_rounds::Motion;
 
 // The answer; 100 where the number stands for no motion.
 fn by_term(
-    a: Term,
+    a: Option<(Motion, bool)>,
     big: bool,
     count: u32,
     k: Caret,
@@ -25,8 +25,8 @@ fn by_term(
         list.now }
 {
     match a {
-        Term::Of(m, stop) => vim_words::word_by_vim(k, text, folds, list, m, big, stop, count),
-        Term::Nothing => VimMoved::Refused(100),
+        Some((m, stop)) => vim_words::word_by_vim(k, text, folds, list, m, big, stop, count),
+        None => VimMoved::Refused(100),
     }
 }
 

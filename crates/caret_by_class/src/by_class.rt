@@ -12,15 +12,6 @@ use motions::{Caret, Moved};
 use text::Position;
 use word_rounds::Motion;
 
-// The caret at another row and column: its sticky column stays.
-fn placed(k: Caret, p: Position) -> Caret
-    requires { (p.row < 2 ^ 32) × (p.col < 2 ^ 32) }
-    ensures { result ≡ placed k p.row p.col }
-{
-    let s = k.sticky;
-    Caret::at(p.row as u32, p.col as u32, s)
-}
-
 // Where a motion leads to, of inputs that were accepted: the classes are written, and from there on
 // the text and the list are read no more.
 fn by_classes(
@@ -46,7 +37,7 @@ fn by_classes(
         col: k.col as usize,
     };
     let to = word_by_class::word_by_class(&c[..n], own, m, big, stop, count, at);
-    placed(k, to)
+    motions::placed(k, to.row, to.col)
 }
 
 // A word motion by the classes: where it leads to, or the number that the call is refused with. By

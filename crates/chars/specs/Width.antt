@@ -2,6 +2,7 @@
 -- Document 01, "Character facts". Definitions only; that no width is above 4 is `width_most` in `proofs/Facts.antt`, and that the generated
 -- tables are as `Widths` says is `widths_lent` in `proofs/Lent.antt`. Assumes nothing.
 use Rattle.std.specs.Prelude.{ℕ, ◌<◌, ◌≡◌, List, [], ◌∷◌, Bool, false, cond, T, eqb, ltb}
+use Rattle.chars.specs.declared.Measure.{Measure}
 use Rattle.ranges.specs.Ranges.{in_table, ascending}
 unfoldable pub use Rattle.chars.specs.WidthTables.{zero_widths, double_widths}
 
@@ -27,3 +28,10 @@ pub record Widths (zeros doubles : List ℕ) : Type 0 where
   pub zeros_ascend : T (ascending zeros)
   pub doubles_ascend : T (ascending doubles)
   pub low : (x : ℕ) → x < 0x300 → in_table x zeros ≡ eqb x 0
+
+-- the same by what is lent, as a whole
+abbrev pub width_with : Measure → ℕ → ℕ
+width_with m = width_by m.zeros.now m.doubles.now
+
+abbrev pub Measures : Measure → Type 0
+Measures m = Widths m.zeros.now m.doubles.now

@@ -1,7 +1,8 @@
 // Width in cells: what unicode-width gives, with None read as 1. Document 01, "Character facts".
 ghost use Rattle.std.specs.Prelude.{◌≡◌};
-ghost use Rattle.chars.specs.Width.{width_by, width_of, low_width, starts_after, Widths};
+ghost use Rattle.chars.specs.Width.{width_of, low_width, starts_after, Measures, width_with};
 
+use crate::Measure;
 use crate::width_tables::{DOUBLE_WIDTH, ZERO_WIDTH};
 
 // 0 for U+0000 and 1 for any other: the width of a low code point.
@@ -26,17 +27,17 @@ fn is_before(table: &[u32], x: u32) -> bool
 
 // The width of x by the tables that are lent: of what has no cell, and of what has two. What lies
 // below U+0300 and before all that has two cells, as most letters, is decided without a search.
-pub fn width_in(zeros: &[u32], doubles: &[u32], x: u32) -> u32
-    requires { Widths zeros.now doubles.now }
-    ensures { result ≡ width_by zeros.now doubles.now x }
+pub fn width_in(by: Measure<'_>, x: u32) -> u32
+    requires { Measures by }
+    ensures { result ≡ width_with by.entry x }
 {
-    if (x < 0x300) & is_before(doubles, x) {
+    if (x < 0x300) & is_before(by.doubles, x) {
         return low_width(x);
     }
-    if ranges::in_table(zeros, x) {
+    if ranges::in_table(by.zeros, x) {
         return 0;
     }
-    if ranges::in_table(doubles, x) {
+    if ranges::in_table(by.doubles, x) {
         return 2;
     }
     1
@@ -46,7 +47,13 @@ pub fn width_in(zeros: &[u32], doubles: &[u32], x: u32) -> u32
 fn high_width(x: u32) -> u32
     ensures { result ≡ width_of x }
 {
-    width_in(&ZERO_WIDTH, &DOUBLE_WIDTH, x)
+    width_in(
+        Measure {
+            zeros: &ZERO_WIDTH,
+            doubles: &DOUBLE_WIDTH,
+        },
+        x,
+    )
 }
 
 // The width of x: 0, 1 or 2.

@@ -14,3 +14,11 @@ pub use cell_widths::{width, width_in};
 pub use scalar::{all_scalar, is_scalar};
 pub use white::{WHITE, is_white, white_in};
 pub use width_tables::{DOUBLE_WIDTH, ZERO_WIDTH};
+
+// What tells the width of a character, lent: the table of what has no cell, and that of what has two.
+// A walk takes it whole.
+#[derive(Clone, Copy)]
+pub struct Measure<'a> {
+    pub zeros: &'a [u32],
+    pub doubles: &'a [u32],
+}

@@ -1,8 +1,7 @@
 -- A caret after an edit of its text. From document 02, #102. Definitions only; that `corrected_by` is `caret_after` is a law of `proofs/Follows.antt`.
 -- Assumes nothing.
-use Rattle.std.specs.Prelude.{ℕ, ◌≤◌, List}
+use Rattle.std.specs.Prelude.{ℕ, ◌≤◌, List, None}
 use Rattle.text.specs.declared.Position.{Position}
-use Rattle.vertical.specs.declared.Sticky.TheVariants.{Absent}
 use Rattle.motions.specs.declared.Caret.{Caret}
 use Rattle.motions.specs.Carets.{here, caret_at}
 use Rattle.edit_positions.specs.declared.Change.{Change}
@@ -12,7 +11,7 @@ use Rattle.edit_positions.specs.Change.{moved_by}
 
 -- a caret that keeps nothing but its position: every caret that an edit answers with
 abbrev pub cleared_at : Position → Caret
-cleared_at p = caret_at p.row p.col Absent
+cleared_at p = caret_at p.row p.col None
 
 -- the caret once the stretch from p up to q of its text t has given way to c: it goes where its offset goes
 abbrev pub caret_after : List ℕ → Position → Position → List ℕ → Caret → Caret

@@ -9,14 +9,13 @@ ghost use Rattle.edit_carets.specs.Carets.{cleared_at, Fits, corrected_by};
 use edit_positions::Change;
 use motions::Caret;
 use text::Position;
-use vertical::Sticky;
 
 // Every caret that an edit answers with is made here: it keeps nothing but its position.
 pub fn cleared(p: Position) -> Caret
     requires { (p.row ≤ 4294967295) × (p.col ≤ 4294967295) }
     ensures { result ≡ cleared_at p }
 {
-    Caret::at(p.row as u32, p.col as u32, Sticky::Absent)
+    Caret::at(p.row as u32, p.col as u32, None)
 }
 
 // A caret after the change: before it the caret stays, inside it goes to its start, behind it it

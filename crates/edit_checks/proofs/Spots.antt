@@ -1,6 +1,6 @@
 -- Laws of a position that stands in a text or outside it, and of a stretch between two. Long by the ends of a stretch: the laws of each. Assumes
 -- nothing.
-use Rattle.lists.proofs.Kit.{◌≡◌, refl, sym, ap, ◌∙◌, List, Bool, true, false, cond, ◌&&◌, not, ℕ, ◌+◌, ◌≤◌, ◌<◌, arith, length, eqb, ltb, leb, eq-eqb, ne_eqb}
+use Rattle.lists.proofs.Kit.{◌≡◌, refl, sym, ap, ◌∙◌, List, Bool, true, false, cond, ◌&&◌, not, ℕ, ◌+◌, ◌≤◌, ◌<◌, arith, length, eqb, ltb, leb, eq-eqb, ne_eqb, Option, Some, None}
 use Rattle.lists.proofs.Kit.{eqb-true, lt-ltb, le-ltb, le-leb, lt-leb, ltb-true, ltb-false, leb-true}
 use Rattle.text.specs.Text.{row_count, row_len}
 use Rattle.text.specs.Offsets.{line_at, IsLine}
@@ -13,8 +13,6 @@ use Rattle.edit_positions.specs.After.{offset_of}
 use Rattle.edit_positions.specs.Change.{is_before}
 use Rattle.edit_positions.proofs.Places.{Stays}
 use Rattle.edit_positions.proofs.Going.{before_offset}
-use Rattle.edit_checks.specs.declared.Spot.{Spot}
-use Rattle.edit_checks.specs.declared.Spot.TheVariants.{In, Out}
 use Rattle.edit_checks.specs.declared.Checked.{Checked}
 use Rattle.edit_checks.specs.Refusals.{stretch_refusal}
 use Rattle.edit_checks.specs.Checks.{spot_of, refused_by, checked_by, stretch_of}
@@ -23,17 +21,17 @@ apart : ◌≡◌ {A = Bool} false true → ⊥
 apart e = let never : ◌≡◌ {A = ℕ} 0 1 = ap (λ (b : Bool). cond b 1 0) e in omega arith
 
 module _ (t : List ℕ) (p : Position) where
-  pub spot_row : row_count t ≤ p.row → Out ≡ spot_of t p
+  pub spot_row : row_count t ≤ p.row → None ≡ spot_of t p
   unfolding spot_of
   spot_row h = rw (le-ltb p.row (row_count t) h)
 
-  pub spot_col : p.row < row_count t → row_len t p.row < p.col → Out ≡ spot_of t p
+  pub spot_col : p.row < row_count t → row_len t p.row < p.col → None ≡ spot_of t p
   unfolding spot_of
   spot_col h l = rw (lt-ltb p.row (row_count t) h, lt-leb p.col (row_len t p.row) l)
 
-  pub spot_there : (l : Line) → l ≡ line_at t p.row → p.row < row_count t → p.col ≤ row_len t p.row → In l ≡ spot_of t p
+  pub spot_there : (l : Line) → l ≡ line_at t p.row → p.row < row_count t → p.col ≤ row_len t p.row → Some l ≡ spot_of t p
   unfolding spot_of
-  spot_there l e h c = rw (lt-ltb p.row (row_count t) h, le-leb p.col (row_len t p.row) c) (ap In e)
+  spot_there l e h c = rw (lt-ltb p.row (row_count t) h, le-leb p.col (row_len t p.row) c) (ap Some e)
 
   pub is_inside_lem : is_inside t p ≡ true → Inside t p
   is_inside_lem e = go (ltb p.row (row_count t)) (leb p.col (row_len t p.row)) refl refl e
@@ -46,27 +44,27 @@ module _ (t : List ℕ) (p : Position) where
   pub inside_stays : Inside t p → Stays t p (offset_of t p)
   inside_stays i = record { in_row = i.in_row; in_col = i.in_col; offset = refl }
 
-  pub out_outside : spot_of t p ≡ Out → is_inside t p ≡ false
+  pub out_outside : spot_of t p ≡ None → is_inside t p ≡ false
   unfolding spot_of
   out_outside e = go (is_inside t p) refl e
     where
-      go : (b : Bool) → is_inside t p ≡ b → cond b (In (line_at t p.row)) Out ≡ Out → is_inside t p ≡ false
-      go true u v = let never : ◌≡◌ {A = Spot} (In (line_at t p.row)) Out = v in cc
+      go : (b : Bool) → is_inside t p ≡ b → cond b (Some (line_at t p.row)) None ≡ None → is_inside t p ≡ false
+      go true u v = let never : ◌≡◌ {A = Option Line} (Some (line_at t p.row)) None = v in cc
       go false u v = u
 
-  pub in_inside : (l : Line) → spot_of t p ≡ In l → (is_inside t p ≡ true) × (l ≡ line_at t p.row)
+  pub in_inside : (l : Line) → spot_of t p ≡ Some l → (is_inside t p ≡ true) × (l ≡ line_at t p.row)
   unfolding spot_of
   in_inside l e = go (is_inside t p) refl e
     where
-      go : (b : Bool) → is_inside t p ≡ b → cond b (In (line_at t p.row)) Out ≡ In l → (is_inside t p ≡ true) × (l ≡ line_at t p.row)
+      go : (b : Bool) → is_inside t p ≡ b → cond b (Some (line_at t p.row)) None ≡ Some l → (is_inside t p ≡ true) × (l ≡ line_at t p.row)
       go true u v = (u, cc)
-      go false u v = let never : ◌≡◌ {A = Spot} Out (In l) = v in (cc, cc)
+      go false u v = let never : ◌≡◌ {A = Option Line} None (Some l) = v in (cc, cc)
 
   -- its row, found, and how long that is
-  pub in_line : (l : Line) → spot_of t p ≡ In l → IsLine t l
+  pub in_line : (l : Line) → spot_of t p ≡ Some l → IsLine t l
   in_line l e = line_there t l p.row (in_inside l e).1 (is_inside_lem (in_inside l e).0).in_row
 
-  pub in_fits : (l : Line) → spot_of t p ≡ In l → l.start + p.col ≤ length t
+  pub in_fits : (l : Line) → spot_of t p ≡ Some l → l.start + p.col ≤ length t
   in_fits l e = omega (arith, at_le (inside_stays (is_inside_lem (in_inside l e).0)), ap (λ (x : Line). x.start) (in_inside l e).1)
 
   pub long : (l : Line) (n : ℕ) → l ≡ line_at t p.row → n ≡ row_len t l.row → n ≡ row_len t p.row

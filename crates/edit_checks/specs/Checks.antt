@@ -1,19 +1,17 @@
 -- What the checks of an edit find out: its refusal, or the offsets of the stretch and the rows of the text. Definitions only. Assumes nothing.
-use Rattle.std.specs.Prelude.{ℕ, ◌≤◌, ◌≡◌, List, cond, length, take, eqb}
+use Rattle.std.specs.Prelude.{ℕ, ◌≤◌, ◌≡◌, List, cond, length, take, eqb, Option, Some, None}
 use Rattle.text.specs.Text.{row_count}
 use Rattle.text.specs.Offsets.{line_at, IsLine}
 use Rattle.text.specs.declared.Line.{Line}
 use Rattle.text.specs.declared.Position.{Position}
 use Rattle.positions.specs.Positions.{is_inside}
 use Rattle.edit_positions.specs.After.{offset_of}
-use Rattle.edit_checks.specs.declared.Spot.{Spot}
-use Rattle.edit_checks.specs.declared.Spot.TheVariants.{In, Out}
 use Rattle.edit_checks.specs.declared.Checked.{Checked}
 use Rattle.edit_checks.specs.declared.Sizes.{Sizes}
 use Rattle.edit_checks.specs.Refusals.{stretch_refusal, edit_refusal}
 
-unfoldable pub spot_of : List ℕ → Position → Spot
-spot_of t p = cond (is_inside t p) (In (line_at t p.row)) Out
+unfoldable pub spot_of : List ℕ → Position → Option Line
+spot_of t p = cond (is_inside t p) (Some (line_at t p.row)) None
 
 -- what the search for a position requires: a row to go from, in a text of so many rows
 pub record SoughtFrom (t : List ℕ) (rows : ℕ) (from : Line) : Type 0 where

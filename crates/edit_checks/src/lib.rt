@@ -10,13 +10,6 @@ ghost use Rattle.edit_checks.specs.Checks.{refused_by, stretch_of, check_of};
 
 use text::{Line, Position};
 
-// The row of a position that stands in the text, or that it doesn't.
-#[derive(Clone, Copy)]
-pub enum Spot {
-    In(Line),
-    Out,
-}
-
 // What the checks of an edit find out: its refusal, the offsets at which the stretch starts and
 // ends, and how many rows the text has. They are 0 beside a refusal.
 #[derive(Clone, Copy)]
@@ -72,19 +65,19 @@ fn held_folds(folds: &[u32], count: usize, rows: usize) -> u32
 }
 
 // The row of a position, sought from the row `from`, in a text of so many rows.
-fn spot_in(t: &[u32], rows: usize, from: Line, p: Position) -> Spot
+fn spot_in(t: &[u32], rows: usize, from: Line, p: Position) -> Option<Line>
     requires { SoughtFrom t.now rows from }
     ensures { result ≡ spot_of t.now p }
 {
     if p.row >= rows {
-        return Spot::Out;
+        return None;
     }
     let l = text::offsets::line_from(t, rows, from, p.row);
     let n = text::offsets::row_len(t, l);
     if p.col > n {
-        return Spot::Out;
+        return None;
     }
-    Spot::In(l)
+    Some(l)
 }
 
 // The offsets of a stretch from p up to q; 11 where one of them stands outside the text, or q
@@ -94,10 +87,10 @@ fn stretch(t: &[u32], rows: usize, p: Position, q: Position) -> Checked
     ensures { result ≡ stretch_of t.now p q }
 {
     let first = Line { row: 0, start: 0 };
-    let Spot::In(l) = spot_in(t, rows, first, p) else {
+    let Some(l) = spot_in(t, rows, first, p) else {
         return refused(11);
     };
-    let Spot::In(m) = spot_in(t, rows, l, q) else {
+    let Some(m) = spot_in(t, rows, l, q) else {
         return refused(11);
     };
     if edit_positions::is_before(q, p) {

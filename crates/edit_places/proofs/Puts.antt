@@ -1,33 +1,10 @@
--- Laws of writing over a part of a list: at once, and place by place upwards (`Up`), an invariant of loops.
+-- Laws of writing over a part of a list, place by place: upwards (`Up`) and downwards (`Down`). They are the invariants of the loops.
 -- Assumes nothing.
-use Rattle.lists.proofs.Kit.{◌≡◌, refl, ap, sym, ◌∙◌, List, ◌++◌, ℕ, ◌+◌, ◌-◌, ◌≤◌, ◌<◌, add-one, arith}
-use Rattle.lists.proofs.Kit.{length, get_or, set, take, drop, length-set, length-replicate}
-use Rattle.lists.proofs.Kit.{take_all, get_or-append-add, get_or-take, get_or-drop, paste-zero}
-use Rattle.lists.proofs.Kit.{paste-suc, length_paste_head, length-drop, length-paste, length-slice, paste}
-use Rattle.std.proofs.lemmas.Slice.{put_mid-paste, between_is}
-use Rattle.std.specs.List.{copy_within}
-use borrow.Rule.Slice.PartMut.{put_mid}
+use Rattle.lists.proofs.Kit.{◌≡◌, refl, ap, sym, ◌∙◌, List, ◌∷◌, ◌++◌, append_assoc, append-nil, ℕ, suc, ◌+◌, ◌-◌, ◌≤◌, ◌<◌, add-zero, add-suc, add-one, arith}
+use Rattle.lists.proofs.Kit.{length, get_or, set, take, drop, length-set, length-replicate, get_or-replicate, take-append-drop, get_or-append, take-suc}
+use Rattle.lists.proofs.Kit.{drop-cons, append_snoc, set_at, take_all, length-take-le, drop-length, get_or-append-add, get_or-take, get_or-drop, paste-zero}
+use Rattle.lists.proofs.Kit.{paste-suc, length_paste_head}
 use Rattle.edit_places.specs.Replaced.{replaced, zeros, Over}
-
--- s written over a part of e at once: ys is what the part of k places holds then
-pub over_put : (e : List ℕ) (at k : ℕ) (s ys : List ℕ) → ys ≡ s → length s ≡ k → at + length s ≤ length e → Over e at s (put_mid at k e ys)
-unfolding replaced
-over_put e at k s ys q n h =
-    let pasted : put_mid at k e ys ≡ paste e at s (length s) = put_mid-paste at k e ys s (length s) q n refl in
-    record {
-      left = pasted ∙ ap (λ (x : List ℕ). take at e ++ x ++ drop (at + length s) e) (take_all (length s) s (omega arith));
-      size = ap length pasted ∙ length-paste e at s (length s) h (omega arith);
-    }
-
--- the part of e from i up to j copied to the places from at on
-pub over_copied : (e : List ℕ) (i j at : ℕ) → i ≤ j → j ≤ length e → at + (j - i) ≤ length e → Over e at (drop i (take j e)) (copy_within e i j at)
-unfolding replaced
-over_copied e i j at h k l =
-    let size_is = length-slice i j e k in
-    record {
-      left = rw (size_is, ← between_is) refl;
-      size = length-paste e at (drop i e) (j - i) l (rw length-drop (omega arith));
-    }
 
 -- the first k of s stand in e from place at on
 pub record Up (e : List ℕ) (at : ℕ) (s : List ℕ) (k : ℕ) (buf : List ℕ) : Type 0 where
@@ -70,6 +47,67 @@ module _ {e s buf : List ℕ} {at k : ℕ} (u : Up e at s k buf) where
       ∙ get_or-drop (at + k) e (j - (at + k)) 0 ∙ ap (λ (i : ℕ). get_or e i 0) (sym sum_is)
       )
 
+-- s stands in e from place at on, but for its first k
+pub record Down (e : List ℕ) (at : ℕ) (s : List ℕ) (k : ℕ) (buf : List ℕ) : Type 0 where
+  pub some : k ≤ length s
+  pub fits : at + length s ≤ length e
+  pub left : buf ≡ take (at + k) e ++ drop k s ++ drop (at + length s) e
+  pub size : length buf ≡ length e
+
+pub down_none : (e : List ℕ) (at : ℕ) (s : List ℕ) (k : ℕ) → k ≡ length s → at + length s ≤ length e → Down e at s k e
+down_none e at s k q h =
+    record {
+      some = omega arith;
+      fits = h;
+      left = rw (q, drop-length s, append-nil (take (at + length s) e)) (sym (take-append-drop (at + length s) e));
+      size = refl;
+    }
+
+-- a store below what is written already
+set_below : (e s r : List ℕ) (at j : ℕ) → j < length s → at + length s ≤ length e →
+    set (take (at + suc j) e ++ drop (suc j) s ++ r) (at + j) (get_or s j 0) ≡ take (at + j) e ++ drop j s ++ r
+set_below e s r at j h k =
+    let front = take (at + j) e in
+    let value = get_or e (at + j) 0 in
+    let value_there = get_or s j 0 in
+    let rest = drop (suc j) s in
+    rw (
+      add-suc at j,
+      take-suc e (at + j) 0 (omega arith),
+      drop-cons s j 0 h,
+      append_snoc front value rest,
+      append_assoc front (value ∷ rest) r,
+      append_assoc front (value_there ∷ rest) r,
+    ) (set_at front value (rest ++ r) value_there (at + j) (length-take-le (at + j) e (omega arith)))
+
+module _ {e s buf : List ℕ} {at k : ℕ} (d : Down e at s k buf) where
+  pub down_next : {v : ℕ} → 0 < k → v ≡ get_or s (k - 1) 0 → Down e at s (k - 1) (set buf (at + (k - 1)) v)
+  down_next {v} h q =
+      let k_is : k ≡ suc (k - 1) = omega arith in
+      record {
+        some = omega (arith, d.some);
+        fits = d.fits;
+        left = rw (d.left, q) (
+            ap (λ (i : ℕ). set (take (at + i) e ++ drop i s ++ drop (at + length s) e) (at + (k - 1)) (get_or s (k - 1) 0)) k_is
+            ∙ set_below e s (drop (at + length s) e) at (k - 1) (omega (arith, d.some)) d.fits
+            );
+        size = length-set buf (at + (k - 1)) v ∙ d.size;
+      }
+
+  pub down_all : k ≤ 0 → Over e at s buf
+  unfolding replaced
+  down_all h =
+      let k_is : k ≡ 0 = omega arith in
+      record { left = rw (k_is, add-zero at) at d.left; size = d.size }
+
+  -- what lies before is as it was
+  pub down_read : (j : ℕ) → j < at + k → get_or buf j 0 ≡ get_or e j 0
+  down_read j h =
+      let by_length_take_le = length-take-le (at + k) e (omega (arith, d.some, d.fits)) in
+      rw (d.left, append_assoc (take (at + k) e) (drop k s) (drop (at + length s) e)) (
+      get_or-append (take (at + k) e) (drop k s ++ drop (at + length s) e) 0 j (omega arith) ∙ get_or-take (at + k) e j 0 h
+      )
+
 -- what stands at place k of a part
 pub part_read : (e : List ℕ) (len b k : ℕ) → b + k < len → get_or (drop b (take len e)) k 0 ≡ get_or e (b + k) 0
 part_read e len b k h = get_or-drop b (take len e) k 0 ∙ get_or-take len e (b + k) 0 h
@@ -77,3 +115,7 @@ part_read e len b k h = get_or-drop b (take len e) k 0 ∙ get_or-take len e (b 
 pub length_zeros : (n : ℕ) → length (zeros n) ≡ n
 unfolding zeros
 length_zeros n = length-replicate n 0
+
+pub zeros_read : (n k : ℕ) → k < n → 0 ≡ get_or (zeros n) k 0
+unfolding zeros
+zeros_read n k h = sym (get_or-replicate n k 0 0 h)

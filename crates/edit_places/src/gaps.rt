@@ -1,27 +1,41 @@
 // A text edited in place: it is the first `len` places of a buffer. What stands behind an edit
-// moves up or down by `copy_within`, which writes over nothing that it has yet to read.
+// moves up from its end, and down from its start, so that nothing is written over before it is
+// read.
 ghost use Rattle.std.specs.Prelude.{◌+◌, ◌-◌, ◌≤◌, length, take, drop};
 ghost use Rattle.edit_places.specs.Replaced.{replaced, Over, Deleted, Refilled};
 
 use crate::put::{put_at, put_zeros};
 
-// Moves what stands from a up to len up by m places. The gap keeps what stood there.
+// Moves what stands from a up to len up by m places, the last first. The gap keeps what stood
+// there.
 pub fn open_gap(buf: &mut [u32], len: usize, a: usize, m: usize)
     requires { (a ≤ len) × (len + m ≤ length buf.old) }
     ensures { Over buf.old (a + m) (drop a (take len buf.old))
         buf.new }
 {
-    buf.copy_within(a..len, a + m);
+    let mut k = len - a;
+    // `copy_within` was tried: it is slower in a long text, and a delete in WebAssembly traps
+    while 0 < k {
+        k -= 1;
+        buf[a + m + k] = buf[a + k];
+    }
 }
 
-// Moves what stands from b up to len down to a. What follows keeps what stood there.
+// Moves what stands from b up to len down to a, the first first. What follows keeps what stood
+// there.
 pub fn close_up(buf: &mut [u32], len: usize, a: usize, b: usize)
     requires a_le_b { (a ≤ b) × (b ≤ len) }
     requires len_in_bounds { len ≤ length buf.old }
     ensures { Over buf.old a (drop b (take len buf.old))
         buf.new }
 {
-    buf.copy_within(b..len, a);
+    let n = len - b;
+    let mut k: usize = 0;
+    // `copy_within` was tried, as above
+    while k < n {
+        buf[a + k] = buf[b + k];
+        k += 1;
+    }
 }
 
 // Deletes what stands from a up to b; the freed places, the last of the old text, become zeros.

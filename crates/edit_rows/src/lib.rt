@@ -60,7 +60,7 @@ fn check_rows(
 {
     let t = &text[..len];
     let after = before - (q.row - p.row) + text::separators(points);
-    let need = text::most(before, after);
+    let need = before.max(after);
     let refusal = row_table::check::table_refusal(t, before, need, starts, content);
     Rows {
         refusal: refusal,

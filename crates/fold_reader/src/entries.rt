@@ -1,18 +1,9 @@
 // The folds of a file whose layout is whole.
-ghost use Rattle.std.specs.Prelude.{[], ◌∷◌, ◌<◌, length, drop};
+ghost use Rattle.std.specs.Prelude.{drop};
 ghost use Rattle.print.specs.Print.{Wrote};
 ghost use Rattle.fold_blocks.specs.Bytes.{entry_at, entries_in};
 ghost use Rattle.fold_blocks.specs.Listed.{folds_in};
 ghost use Rattle.fold_reader.specs.Rooms.{EntryRoom, EntriesRoom, FileRoom};
-
-// Puts a number into `out` at an index, and answers the next one.
-fn put(out: &mut [u32], at: usize, x: u32) -> usize
-    requires { at < length out.old }
-    ensures { Wrote out.old at (x ∷ []) result out.new }
-{
-    out[at] = x;
-    at + 1
-}
 
 // Puts the fold of the entry at an index of a block into `out`, and answers the next index of that.
 fn take_entry(block: &[u8], from: usize, out: &mut [u32], at: usize) -> usize
@@ -23,9 +14,9 @@ fn take_entry(block: &[u8], from: usize, out: &mut [u32], at: usize) -> usize
     let start = fold_blocks::four_at(block, from);
     let end = fold_blocks::four_at(block, from + 4);
     let closed = fold_blocks::one_at(block, from + 8);
-    let second = put(out, at, start);
-    let third = put(out, second, end);
-    put(out, third, closed)
+    let second = print::put(out, at, start);
+    let third = print::put(out, second, end);
+    print::put(out, third, closed)
 }
 
 // Puts the folds of the first `count` entries of a block into `out` from an index on.

@@ -1,12 +1,10 @@
 -- What an input prints, by the check of its text and by its first row. Assumes nothing.
-use Rattle.lists.proofs.Kit.{◌≡◌, ◌∙◌, List, [], ◌∷◌, Bool, true, false, cond, ℕ, suc, ◌+◌, ◌-◌, ◌≤◌, ◌<◌, arith, length, get_or, take, drop, length-drop}
+use Rattle.lists.proofs.Kit.{◌≡◌, ◌∙◌, List, [], ◌∷◌, Bool, true, false, cond, ℕ, suc, ◌+◌, ◌-◌, ◌≤◌, ◌<◌, arith, length, get_or, take, drop, length-drop, Option, Some, None}
 use Rattle.lists.proofs.Kit.{take_all, eqb, lt-ltb, le-ltb, le-leb, lt-leb, eq-eqb, ne_eqb}
 use Rattle.utf8.specs.Decoding.{decoding}
 use Rattle.utf8.specs.Walks.{points_of}
 use Rattle.session_input.specs.Parts.{is_bad}
 use Rattle.replay_rows.specs.Cases.{part}
-use Rattle.replay_rows.specs.declared.Numbers.{Numbers}
-use Rattle.replay_rows.specs.declared.Numbers.TheVariants.{Count, Malformed}
 use Rattle.replay_rows.specs.Rows.{these, malformed, read_row, row_length, RowRead}
 use Rattle.fold_trial.specs.Runs.{unread, file_shown, folds_shown, store_in, load_in, by_key, by_row, run_of}
 
@@ -80,18 +78,18 @@ module _ (input : List ℕ) {e : ℕ} (row : e ≡ 0 + row_length (drop 0 input)
       let is : e ≡ row_length input = omega (arith, row) in
       rw (is, le-ltb 32768 (length input) short, le-ltb (row_length input) 2 (omega arith))
 
-  module _ (long : 2 ≤ e) {room room' : List ℕ} {r : Numbers} (w : RowRead (part 2 e input) room r room') (size : length room ≡ 1024) where
-    pub run_count : (n : ℕ) → r ≡ Count n → run_of input ≡ by_key (get_or input 0 0) (take n room') (take (length input - e) (drop e input))
+  module _ (long : 2 ≤ e) {room room' : List ℕ} {r : Option ℕ} (w : RowRead (part 2 e input) room r room') (size : length room ≡ 1024) where
+    pub run_count : (n : ℕ) → r ≡ Some n → run_of input ≡ by_key (get_or input 0 0) (take n room') (take (length input - e) (drop e input))
     unfolding by_row
     run_count n k =
         let read : these (take n room') ≡ read_row 1024 (part 2 e input) = rw (k, size) at w.numbers in
         run_row long ∙ rw (← read, rest_whole input e)
 
-    pub run_malformed : r ≡ Malformed → run_of input ≡ unread
+    pub run_malformed : r ≡ None → run_of input ≡ unread
     unfolding by_row
     run_malformed k =
         let read : malformed ≡ read_row 1024 (part 2 e input) = rw (k, size) at w.numbers in
         run_row long ∙ rw (← read)
 
-pub count_within : {row room room' : List ℕ} {r : Numbers} → RowRead row room r room' → (n : ℕ) → r ≡ Count n → n ≤ length room'
+pub count_within : {row room room' : List ℕ} {r : Option ℕ} → RowRead row room r room' → (n : ℕ) → r ≡ Some n → n ≤ length room'
 count_within w n k = rw k at w.within

@@ -10,8 +10,6 @@ ghost use Rattle.fold_trial.specs.Runs.{store_in, load_in, by_key, run_of, Print
 use fold_reader::Loaded;
 use fold_writer::Written;
 use print::{put, put_bytes, put_decimal};
-use replay_rows::Numbers;
-use utf8::Checked;
 
 // What an input prints that can't be read.
 fn not_read(out: &mut [u8]) -> usize
@@ -79,14 +77,12 @@ fn store_in(bytes: &[u8], folds: &[u32], out: &mut [u8]) -> usize
     ensures { Prints (store_in bytes.now folds.now) result
         out.new }
 {
-    match utf8::check(bytes) {
-        Checked::Points(_) => {
-            let mut room = [0u32; 32768];
-            let n = session_input::read_text(bytes, 0, &mut room);
-            store(&room[..n], folds, out)
-        }
-        Checked::Bad(_) => not_read(out),
+    if utf8::check(bytes).is_err() {
+        return not_read(out);
     }
+    let mut room = [0u32; 32768];
+    let n = session_input::read_text(bytes, 0, &mut room);
+    store(&room[..n], folds, out)
 }
 
 // The folds of a file of n bytes over the text in UTF-8 behind it.
@@ -97,14 +93,12 @@ fn load_in(bytes: &[u8], n: usize, out: &mut [u8]) -> usize
     if n > bytes.len() {
         return not_read(out);
     }
-    match utf8::check(&bytes[n..]) {
-        Checked::Points(_) => {
-            let mut room = [0u32; 32768];
-            let m = session_input::read_text(bytes, n, &mut room);
-            load(&room[..m], &bytes[..n], out)
-        }
-        Checked::Bad(_) => not_read(out),
+    if utf8::check(&bytes[n..]).is_err() {
+        return not_read(out);
     }
+    let mut room = [0u32; 32768];
+    let m = session_input::read_text(bytes, n, &mut room);
+    load(&room[..m], &bytes[..n], out)
 }
 
 // By the first byte of an input, the numbers of its first row, and what stands behind that.
@@ -140,7 +134,7 @@ pub fn run(input: &[u8], out: &mut [u8; 8450]) -> usize
     let mut numbers = [0u32; 1024];
     let from: usize = 2;
     match replay_rows::read_row(&input[from..end], &mut numbers) {
-        Numbers::Count(n) => by_key(input[0], &numbers[..n], &input[end..], out),
-        Numbers::Malformed => not_read(out),
+        Some(n) => by_key(input[0], &numbers[..n], &input[end..], out),
+        None => not_read(out),
     }
 }

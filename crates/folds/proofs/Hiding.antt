@@ -1,11 +1,9 @@
 -- Laws of folds: a loop over them three numbers at a time, and what the first fold that hides a row says.
 -- Assumes nothing.
-use Rattle.lists.proofs.Kit.{◌≡◌, refl, List, [], ◌∷◌, ◌++◌, Bool, true, false, cond, ◌&&◌, ◌||◌, or-true, ℕ, ◌≤◌, ◌<◌, arith, length, get_or}
+use Rattle.lists.proofs.Kit.{◌≡◌, refl, List, [], ◌∷◌, ◌++◌, Bool, true, false, cond, ◌&&◌, ◌||◌, or-true, ℕ, ◌≤◌, ◌<◌, arith, length, get_or, Option, Some, None}
 use Rattle.lists.proofs.Kit.{eqb, ltb, leb, ltb-true, leb-true, leb-false, lt-ltb, le-leb}
 use Rattle.folds.specs.Folds.{any_fold, bad_fold, fold_hides, hidden}
 use Rattle.folds.specs.Cover.{cover_of}
-use Rattle.folds.specs.declared.Span.{Span}
-use Rattle.folds.specs.declared.Span.TheVariants.{Of, NoSpan}
 use Rattle.lists.proofs.Both.{both}
 
 -- fewer than three numbers are no fold
@@ -16,7 +14,7 @@ any_fold_few p (s ∷ []) h = refl
 any_fold_few p (s ∷ e ∷ []) h = refl
 any_fold_few p (s ∷ e ∷ k ∷ l) h = absurd (omega arith)
 
-pub cover_few : (l : List ℕ) (row : ℕ) → length l ≤ 2 → cover_of l row ≡ NoSpan
+pub cover_few : (l : List ℕ) (row : ℕ) → length l ≤ 2 → cover_of l row ≡ None
 unfolding cover_of
 cover_few [] row h = refl
 cover_few (s ∷ []) row h = refl
@@ -37,12 +35,12 @@ module _ (l x rest : List ℕ) (next : l ≡ x ++ rest) (three : length x ≡ 3)
       go (s ∷ e ∷ k ∷ y ∷ x) h = absurd (omega arith)
 
   pub cover_next : (row : ℕ) →
-      cover_of l row ≡ cond (fold_hides row (get_or x 0 0) (get_or x 1 0) (get_or x 2 0)) (Of (get_or x 0 0) (get_or x 1 0)) (cover_of rest row)
+      cover_of l row ≡ cond (fold_hides row (get_or x 0 0) (get_or x 1 0) (get_or x 2 0)) (Some (get_or x 0 0, get_or x 1 0)) (cover_of rest row)
   unfolding cover_of
   cover_next row = rw next (go x three)
     where
       go : (x : List ℕ) → length x ≡ 3 →
-          cover_of (x ++ rest) row ≡ cond (fold_hides row (get_or x 0 0) (get_or x 1 0) (get_or x 2 0)) (Of (get_or x 0 0) (get_or x 1 0)) (cover_of rest row)
+          cover_of (x ++ rest) row ≡ cond (fold_hides row (get_or x 0 0) (get_or x 1 0) (get_or x 2 0)) (Some (get_or x 0 0, get_or x 1 0)) (cover_of rest row)
       go [] h = absurd (omega arith)
       go (s ∷ []) h = absurd (omega arith)
       go (s ∷ e ∷ []) h = absurd (omega arith)
@@ -50,9 +48,9 @@ module _ (l x rest : List ℕ) (next : l ≡ x ++ rest) (three : length x ≡ 3)
       go (s ∷ e ∷ k ∷ y ∷ x) h = absurd (omega arith)
 
 -- what the answer of `cover_of` says: no fold hides the row, or all rows of that fold are hidden, and it ends inside the rows
-abbrev pub Covers : List ℕ → ℕ → Span → Type 0
-Covers folds row NoSpan = hidden folds row ≡ false
-Covers folds row (Of s e) =
+abbrev pub Covers : List ℕ → ℕ → Option (ℕ × ℕ) → Type 0
+Covers folds row None = hidden folds row ≡ false
+Covers folds row (Some (s, e)) =
     (s < row) × (row ≤ e) × ((x : ℕ) → s < x → x ≤ e → hidden folds x ≡ true) × ((rows : ℕ) → any_fold (bad_fold rows) folds ≡ false → e < rows)
 
 -- the parts of a join that are false
@@ -78,7 +76,7 @@ cover_covers (s ∷ []) row = refl
 cover_covers (s ∷ e ∷ []) row = refl
 cover_covers (s ∷ e ∷ k ∷ folds) row = go (fold_hides row s e k) refl (cover_of folds row) (cover_covers folds row)
   where
-    go : (b : Bool) → fold_hides row s e k ≡ b → (r : Span) → Covers folds row r → Covers (s ∷ e ∷ k ∷ folds) row (cond b (Of s e) r)
+    go : (b : Bool) → fold_hides row s e k ≡ b → (r : Option (ℕ × ℕ)) → Covers folds row r → Covers (s ∷ e ∷ k ∷ folds) row (cond b (Some (s, e)) r)
     go true h r ih =
         let by_fold_hides = fold_hides_lem row s e k h in (
           by_fold_hides.0,
@@ -86,5 +84,5 @@ cover_covers (s ∷ e ∷ k ∷ folds) row = go (fold_hides row s e k) refl (cov
           (λ x l m. rw (by_fold_hides.2 x l m)),
           λ rows g. leb-false rows e (or_left _ (ltb 1 k) (or_right (ltb e s) _ (or_left _ (any_fold (bad_fold rows) folds) g))),
         )
-    go false h NoSpan ih = rw (h, ih)
-    go false h (Of a b) ih = (ih.0, ih.1, (λ x l m. rw (ih.2 x l m, or-true)), λ rows g. ih.3 rows (or_right (bad_fold rows s e k) _ g))
+    go false h None ih = rw (h, ih)
+    go false h (Some (a, b)) ih = (ih.0, ih.1, (λ x l m. rw (ih.2 x l m, or-true)), λ rows g. ih.3 rows (or_right (bad_fold rows s e k) _ g))

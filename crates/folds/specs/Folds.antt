@@ -1,11 +1,7 @@
 -- Folds over the rows of a text, as a list of three numbers each: start, end, closed (0 or 1). The rows that they hide, and those still to be seen.
 -- From document 01, "Text, rows, carets" and refusal 5; `Fold::hides` of folds.rs, the visible rows of `SnapshotFoldProvider` (buffer_impl.rs) over all rows,
 -- and `closed_fold_at` of motions.rs. Definitions only; the laws are in `proofs/Hiding.antt`. Assumes nothing.
-use Rattle.std.specs.Prelude.{ℕ, zero, suc, ◌+◌, ◌-◌, ◌/◌, ◌%◌, List, [], ◌∷◌, Bool, false, cond, ◌&&◌, ◌||◌, not, length, eqb, ltb, leb}
-use Rattle.folds.specs.declared.Visible.{Visible}
-use Rattle.folds.specs.declared.Visible.TheVariants.{Row, NoRow}
-use Rattle.folds.specs.declared.Span.{Span}
-use Rattle.folds.specs.declared.Span.TheVariants.{Of, NoSpan}
+use Rattle.std.specs.Prelude.{ℕ, zero, suc, ◌+◌, ◌-◌, ◌/◌, ◌%◌, List, [], ◌∷◌, Bool, false, cond, ◌&&◌, ◌||◌, not, length, eqb, ltb, leb, Option, Some, None}
 
 -- some fold is such
 unfoldable pub any_fold : (ℕ → ℕ → ℕ → Bool) → List ℕ → Bool
@@ -30,28 +26,28 @@ abbrev pub hidden : List ℕ → ℕ → Bool
 hidden folds row = any_fold (fold_hides row) folds
 
 -- the first of the n rows from `row` on that no fold hides. n is exact: for the next visible row it is the rows behind, `rows - (row + 1)`
-unfoldable pub visible_from : List ℕ → ℕ → ℕ → Visible
-visible_from folds row zero = NoRow
-visible_from folds row (suc n) = cond (hidden folds row) (visible_from folds (row + 1) n) (Row row)
+unfoldable pub visible_from : List ℕ → ℕ → ℕ → Option ℕ
+visible_from folds row zero = None
+visible_from folds row (suc n) = cond (hidden folds row) (visible_from folds (row + 1) n) (Some row)
 
-abbrev pub next_visible : List ℕ → ℕ → ℕ → Visible
+abbrev pub next_visible : List ℕ → ℕ → ℕ → Option ℕ
 next_visible folds rows row = visible_from folds (row + 1) (rows - (row + 1))
 
 -- the last row before `row` that no fold hides
-unfoldable pub prev_visible : List ℕ → ℕ → Visible
-prev_visible folds zero = NoRow
-prev_visible folds (suc row) = cond (hidden folds row) (prev_visible folds row) (Row row)
+unfoldable pub prev_visible : List ℕ → ℕ → Option ℕ
+prev_visible folds zero = None
+prev_visible folds (suc row) = cond (hidden folds row) (prev_visible folds row) (Some row)
 
 -- the closed fold whose first row is given: up to the row before the next one seen, or to the last row with content
-abbrev pub last_before : ℕ → Visible → ℕ
-last_before content (Row next) = next - 1
-last_before content NoRow = content - 1
+abbrev pub last_before : ℕ → Option ℕ → ℕ
+last_before content (Some next) = next - 1
+last_before content None = content - 1
 
-abbrev pub closed_from : List ℕ → ℕ → ℕ → Visible → Span
-closed_from folds rows content NoRow = NoSpan
-closed_from folds rows content (Row first) =
-    cond (hidden folds (first + 1)) (Of first (last_before content (next_visible folds rows first))) NoSpan
+abbrev pub closed_from : List ℕ → ℕ → ℕ → Option ℕ → Option (ℕ × ℕ)
+closed_from folds rows content None = None
+closed_from folds rows content (Some first) =
+    cond (hidden folds (first + 1)) (Some (first, last_before content (next_visible folds rows first))) None
 
 -- the closed fold at a row: its first row is the row itself, or the one seen before it where it is hidden
-abbrev pub closed_fold_at : List ℕ → ℕ → ℕ → ℕ → Span
-closed_fold_at folds rows content row = closed_from folds rows content (cond (hidden folds row) (prev_visible folds row) (Row row))
+abbrev pub closed_fold_at : List ℕ → ℕ → ℕ → ℕ → Option (ℕ × ℕ)
+closed_fold_at folds rows content row = closed_from folds rows content (cond (hidden folds row) (prev_visible folds row) (Some row))

@@ -1,12 +1,10 @@
 // Folds over the rows of a text, lent as three numbers each: start, end, closed (0 or 1).
 // From document 01, refusal 5; `Fold::hides`, the visible rows of `SnapshotFoldProvider`, and
 // `closed_fold_at` of motions.rs.
-ghost use Rattle.std.specs.Prelude.{◌≡◌, ◌<◌};
+ghost use Rattle.std.specs.Prelude.{◌≡◌, ◌<◌, Some};
 ghost use Rattle.folds.specs.Folds.{bad_fold, fold_refusal, fold_hides, hidden};
 ghost use Rattle.folds.specs.Folds.{next_visible, prev_visible, closed_from, closed_fold_at};
 ghost use Rattle.folds.specs.Cover.{cover_of};
-
-use crate::{Span, Visible};
 
 // A fold that runs backwards, ends outside the rows, or is neither open nor closed.
 fn bad_fold(rows: usize, s: u32, e: u32, closed: u32) -> bool
@@ -42,17 +40,17 @@ fn fold_hides(row: usize, s: u32, e: u32, closed: u32) -> bool
 }
 
 // The first closed fold that hides the row: where it starts and ends.
-fn cover(folds: &[u32], row: usize) -> Span
+fn cover(folds: &[u32], row: usize) -> Option<(usize, usize)>
     ensures { result ≡ cover_of folds.now row }
 {
     for fold in folds.chunks_exact(3) {
         let s = fold[0];
         let e = fold[1];
         if fold_hides(row, s, e, fold[2]) {
-            return Span::Of(s as usize, e as usize);
+            return Some((s as usize, e as usize));
         }
     }
-    Span::NoSpan
+    None
 }
 
 // Whether some closed fold hides the row.
@@ -60,69 +58,74 @@ pub fn is_row_hidden(folds: &[u32], row: usize) -> bool
     ensures { result ≡ hidden folds.now row }
 {
     match cover(folds, row) {
-        Span::Of(s, e) => true,
-        Span::NoSpan => false,
+        Some((s, e)) => true,
+        None => false,
     }
 }
 
 // The first row after `row` that no fold hides. From a hidden row it goes on behind the end of a
 // fold that hides it, so that each fold is passed at most once: a pass over the folds for each
 // fold, not for each row. A `while`: the step differs from turn to turn.
-pub fn next_visible_row(folds: &[u32], rows: usize, row: usize) -> Visible
+pub fn next_visible_row(folds: &[u32], rows: usize, row: usize) -> Option<usize>
     requires { (fold_refusal folds.now rows ≡ 0) × (row < rows) }
     ensures { result ≡ next_visible folds.now rows row }
 {
     let mut r = row + 1;
     while r < rows {
         match cover(folds, r) {
-            Span::Of(s, e) => {
+            Some((s, e)) => {
                 r = e + 1;
             }
-            Span::NoSpan => {
-                return Visible::Row(r);
+            None => {
+                return Some(r);
             }
         }
     }
-    Visible::NoRow
+    None
 }
 
 // The last row before `row` that no fold hides. From a hidden row it goes on at the start of a fold
 // that hides it. A `while`: the step differs from turn to turn.
-pub fn prev_visible_row(folds: &[u32], row: usize) -> Visible
+pub fn prev_visible_row(folds: &[u32], row: usize) -> Option<usize>
     ensures { result ≡ prev_visible folds.now row }
 {
     let mut r = row;
     while r > 0 {
         let b = r - 1;
         match cover(folds, b) {
-            Span::Of(s, e) => {
+            Some((s, e)) => {
                 r = s + 1;
             }
-            Span::NoSpan => {
-                return Visible::Row(b);
+            None => {
+                return Some(b);
             }
         }
     }
-    Visible::NoRow
+    None
 }
 
 // The closed fold at a row that shows: its first row is that row, and it ends before the next row
 // that shows, or with the last row with content.
-fn closed_from(folds: &[u32], rows: usize, content: usize, first: usize) -> Span
+fn closed_from(folds: &[u32], rows: usize, content: usize, first: usize) -> Option<(usize, usize)>
     requires { (fold_refusal folds.now rows ≡ 0) × (first < rows) × (0 < content) }
-    ensures { result ≡ closed_from folds.now rows content (Visible.Row first) }
+    ensures { result ≡ closed_from folds.now rows content (Some first) }
 {
     if !is_row_hidden(folds, first + 1) {
-        return Span::NoSpan;
+        return None;
     }
     match next_visible_row(folds, rows, first) {
-        Visible::Row(next) => Span::Of(first, next - 1),
-        Visible::NoRow => Span::Of(first, content - 1),
+        Some(next) => Some((first, next - 1)),
+        None => Some((first, content - 1)),
     }
 }
 
 // `closed_fold_at`: the closed fold at a row, whether it shows or is hidden.
-pub fn closed_fold_at(folds: &[u32], rows: usize, content: usize, row: usize) -> Span
+pub fn closed_fold_at(
+    folds: &[u32],
+    rows: usize,
+    content: usize,
+    row: usize,
+) -> Option<(usize, usize)>
     requires { (fold_refusal folds.now rows ≡ 0) × (row < rows) × (0 < content) }
     ensures { result ≡ closed_fold_at folds.now rows content row }
 {
@@ -130,7 +133,7 @@ pub fn closed_fold_at(folds: &[u32], rows: usize, content: usize, row: usize) ->
         return closed_from(folds, rows, content, row);
     }
     match prev_visible_row(folds, row) {
-        Visible::Row(first) => closed_from(folds, rows, content, first),
-        Visible::NoRow => Span::NoSpan,
+        Some(first) => closed_from(folds, rows, content, first),
+        None => None,
     }
 }

@@ -1,5 +1,6 @@
 -- What the functions of `src/` require: a text with its table, and what a jump, a run and the call's end stand on. Definitions only. Assumes nothing.
 use Rattle.std.specs.Prelude.{ℕ, ◌+◌, ◌≤◌, ◌<◌, ◌≡◌, List, false, length}
+use Rattle.word_kinds.specs.declared.Alphabet.{Alphabet}
 use Rattle.text_check.specs.Accept.{text_refusal}
 use Rattle.text.specs.Text.{row_count}
 use Rattle.text.specs.declared.Position.{Position}
@@ -36,11 +37,11 @@ pub record TabledSpot (t table : List ℕ) (p : Spot) : Type 0 where
   pub spot : IsSpot t p
 
 -- what jumps from a place require: a text that is accepted with its table, and what a round of small words requires
-pub record Footing (t table folds bounds starts lengths : List ℕ) (s : Setting) (p : Spot) : Type 0 where
+pub record Footing (t table folds : List ℕ) (k : Alphabet) (p : Spot) : Type 0 where
   pub clear : text_refusal t ≡ 0
   pub tabled : IsTable t table
-  pub small : s.big ≡ false
-  pub round : Set t folds bounds starts lengths s p
+  pub small : k.setting.big ≡ false
+  pub round : Set t folds k p
 
 -- and of their list and the places for their answers
 pub record Course (jumps answers : List ℕ) : Type 0 where
@@ -48,20 +49,20 @@ pub record Course (jumps answers : List ℕ) : Type 0 where
   pub room : length jumps ≤ length answers
 
 -- one jump, with a stretch of rows without closed folds
-pub record LeapFooting (t table folds bounds starts lengths : List ℕ) (s : Setting) (w : Stretch) (p : Spot) : Type 0 where
-  pub footing : Footing t table folds bounds starts lengths s p
+pub record LeapFooting (t table folds : List ℕ) (k : Alphabet) (w : Stretch) (p : Spot) : Type 0 where
+  pub footing : Footing t table folds k p
   pub bare : NoFold folds w
 
 -- the jump at place i of a list, with two places for its answers
-pub record JumpFooting (t table folds bounds starts lengths : List ℕ) (s : Setting) (jumps : List ℕ) (i : ℕ) (answers : List ℕ) (w : Stretch) (p : Spot) :
+pub record JumpFooting (t table folds : List ℕ) (k : Alphabet) (jumps : List ℕ) (i : ℕ) (answers : List ℕ) (w : Stretch) (p : Spot) :
     Type 0 where
-  pub leap : LeapFooting t table folds bounds starts lengths s w p
+  pub leap : LeapFooting t table folds k w p
   pub listed : i + 1 < length jumps
   pub room : i + 1 < length answers
 
 -- all jumps of a list
-pub record RunFooting (t table folds bounds starts lengths : List ℕ) (s : Setting) (jumps answers : List ℕ) (p : Spot) : Type 0 where
-  pub footing : Footing t table folds bounds starts lengths s p
+pub record RunFooting (t table folds : List ℕ) (k : Alphabet) (jumps answers : List ℕ) (p : Spot) : Type 0 where
+  pub footing : Footing t table folds k p
   pub course : Course jumps answers
 
 -- the same where the ranges of the letters are still to be named

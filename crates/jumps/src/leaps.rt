@@ -3,14 +3,14 @@ ghost use Rattle.std.specs.Prelude.{◌≡◌, max};
 ghost use Rattle.text.specs.Offsets.{row_start};
 ghost use Rattle.brackets.specs.Find.{key_from};
 ghost use Rattle.word_kinds.specs.Spots.{place_of, Lands};
-ghost use Rattle.word_kinds.specs.Lent.{kind_by};
+ghost use Rattle.word_kinds.specs.Lent.{kinds_by};
 ghost use Rattle.jumps.specs.Leaps.{motion_of, on_partner, Leaps};
 ghost use Rattle.jumps.specs.Footings.{TabledRow, TabledPlace, TabledSpot, LeapFooting};
 
 use bracket_walks::Partner;
 use fold_stretches::Stretch;
 use text::{Line, Position};
-use word_kinds::{Setting, Spot};
+use word_kinds::{Alphabet, Spot};
 use word_rounds::Motion;
 use words::Walked;
 
@@ -25,16 +25,6 @@ fn motion_of(kind: u32) -> Motion
         return Motion::Back;
     }
     Motion::End
-}
-
-// Count 0 acts as 1.
-fn rounds_of(count: u32) -> u32
-    ensures { result ≡ max count 1 }
-{
-    if count == 0 {
-        return 1;
-    }
-    count
 }
 
 // Where a row starts, by the table.
@@ -83,18 +73,14 @@ pub fn leap(
     t: &[u32],
     table: &[u32],
     folds: &[u32],
-    bounds: &[u32; 256],
-    starts: &[u32],
-    lengths: &[u16],
-    s: Setting,
+    by: Alphabet<'_>,
     kind: u32,
     count: u32,
     w: Stretch,
     p: Spot,
 ) -> Walked
-    requires { LeapFooting t.now table.now folds.now bounds.now starts.now
-        lengths.now s w p }
-    ensures { Leaps t.now folds.now (kind_by bounds.now s)
+    requires { LeapFooting t.now table.now folds.now by w p }
+    ensures { Leaps t.now folds.now (kinds_by by.entry)
         kind count (place_of t.now p) result }
 {
     if kind == 3 {
@@ -103,16 +89,5 @@ pub fn leap(
             stretch: w,
         };
     }
-    words::rounds_from(
-        t,
-        folds,
-        bounds,
-        starts,
-        lengths,
-        s,
-        motion_of(kind),
-        w,
-        rounds_of(count),
-        p,
-    )
+    words::rounds_from(t, folds, by, motion_of(kind), w, count.max(1), p)
 }

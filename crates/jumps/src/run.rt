@@ -2,7 +2,7 @@
 // before it.
 ghost use Rattle.std.specs.Prelude.{false};
 ghost use Rattle.word_kinds.specs.Spots.{place_of};
-ghost use Rattle.word_kinds.specs.Lent.{kind_by};
+ghost use Rattle.word_kinds.specs.Lent.{kind_by, kinds_by};
 ghost use Rattle.list_tokens.specs.Tokens.{any_token};
 ghost use Rattle.keywords.specs.Table.{kept};
 ghost use Rattle.word_kinds.specs.Places.{kind_of};
@@ -12,7 +12,7 @@ ghost use Rattle.jumps.specs.Footings.{JumpFooting, RunFooting, LettersFooting, 
 use crate::leaps::{leap, start_of};
 use fold_stretches::Stretch;
 use keywords::KeywordSpec;
-use word_kinds::{Setting, Spot};
+use word_kinds::{Alphabet, Setting, Spot};
 use words::Walked;
 
 // The jump whose kind is at place i of the list, and its row and column in the answers' places i
@@ -21,35 +21,19 @@ fn jump(
     t: &[u32],
     table: &[u32],
     folds: &[u32],
-    bounds: &[u32; 256],
-    starts: &[u32],
-    lengths: &[u16],
-    s: Setting,
+    by: Alphabet<'_>,
     jumps: &[u32],
     i: usize,
     answers: &mut [u32],
     w: Stretch,
     p: Spot,
 ) -> Walked
-    requires { JumpFooting t.now table.now folds.now bounds.now starts.now
-        lengths.now s jumps.now i answers.old w p }
-    ensures { Jumped t.now folds.now (kind_by bounds.now s)
+    requires { JumpFooting t.now table.now folds.now by jumps.now i answers.old w p }
+    ensures { Jumped t.now folds.now (kinds_by by.entry)
         jumps.now i answers.old (place_of t.now p) result
         answers.new }
 {
-    let r = leap(
-        t,
-        table,
-        folds,
-        bounds,
-        starts,
-        lengths,
-        s,
-        jumps[i],
-        jumps[i + 1],
-        w,
-        p,
-    );
+    let r = leap(t, table, folds, by, jumps[i], jumps[i + 1], w, p);
     let to = r.spot;
     let start = start_of(t, table, to.row);
     answers[i] = to.row as u32;
@@ -62,26 +46,20 @@ fn run(
     t: &[u32],
     table: &[u32],
     folds: &[u32],
-    bounds: &[u32; 256],
-    starts: &[u32],
-    lengths: &[u16],
-    s: Setting,
+    by: Alphabet<'_>,
     jumps: &[u32],
     answers: &mut [u32],
     p: Spot,
 ) -> Spot
-    requires { RunFooting t.now table.now folds.now bounds.now starts.now
-        lengths.now s jumps.now answers.old p }
-    ensures { Ran t.now folds.now (kind_by bounds.now s)
+    requires { RunFooting t.now table.now folds.now by jumps.now answers.old p }
+    ensures { Ran t.now folds.now (kinds_by by.entry)
         jumps.now answers.old (place_of t.now p) result
         answers.new }
 {
     let mut cur = p;
-    let mut w = fold_stretches::around(folds, s.rows, p.row);
+    let mut w = fold_stretches::around(folds, by.setting.rows, p.row);
     for i in (0..jumps.len()).step_by(2) {
-        let r = jump(
-            t, table, folds, bounds, starts, lengths, s, jumps, i, answers, w, cur,
-        );
+        let r = jump(t, table, folds, by, jumps, i, answers, w, cur);
         cur = r.spot;
         w = r.stretch;
     }
@@ -109,10 +87,12 @@ fn run_with_letters(
         t,
         table,
         folds,
-        bounds,
-        &letters::LETTER_STARTS,
-        &letters::LETTER_LENGTHS,
-        s,
+        Alphabet {
+            bounds: bounds,
+            starts: &letters::LETTER_STARTS,
+            lengths: &letters::LETTER_LENGTHS,
+            setting: s,
+        },
         jumps,
         answers,
         p,
@@ -146,6 +126,17 @@ pub fn run_by(
     let starts = [0u32; 1];
     let lengths = [0u16; 1];
     run(
-        t, table, folds, &bounds, &starts, &lengths, s, jumps, answers, p,
+        t,
+        table,
+        folds,
+        Alphabet {
+            bounds: &bounds,
+            starts: &starts,
+            lengths: &lengths,
+            setting: s,
+        },
+        jumps,
+        answers,
+        p,
     )
 }

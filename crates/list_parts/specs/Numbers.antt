@@ -1,9 +1,7 @@
 -- What the contracts of `src/numbers.rt` cite: which parts of a list are numbers. Document 01, "Keyword lists".
 -- Definitions only; the laws are in `proofs/NumberLaws.antt`. Assumes nothing.
-use Rattle.std.specs.Prelude.{ℕ, ◌+◌, ◌*◌, ◌-◌, List, [], ◌∷◌, Bool, true, cond, ◌&&◌, eqb, ltb}
+use Rattle.std.specs.Prelude.{ℕ, ◌+◌, ◌*◌, ◌-◌, List, [], ◌∷◌, Bool, true, cond, ◌&&◌, eqb, ltb, Option, Some, None}
 use Rattle.lists.specs.Codes.{is_digit}
-use Rattle.list_parts.specs.declared.numbers.Number.{Number}
-use Rattle.list_parts.specs.declared.numbers.Number.TheVariants.{Value, Not}
 
 unfoldable pub all_digits : List ℕ → Bool
 all_digits [] = true
@@ -15,15 +13,15 @@ value n [] = n
 value n (x ∷ p) = value (n * 10 + (x - 48)) p
 
 -- digits alone, and a value below 2^32
-abbrev pub number_from : ℕ → List ℕ → Number
-number_from n p = cond (all_digits p && ltb (value n p) 0x100000000) (Value (value n p)) Not
+abbrev pub number_from : ℕ → List ℕ → Option ℕ
+number_from n p = cond (all_digits p && ltb (value n p) 0x100000000) (Some (value n p)) None
 
 -- at least one digit
-abbrev pub digits_of : List ℕ → Number
-digits_of [] = Not
+abbrev pub digits_of : List ℕ → Option ℕ
+digits_of [] = None
 digits_of (x ∷ p) = number_from 0 (x ∷ p)
 
 -- one `+` may stand before them
-abbrev pub number_of : List ℕ → Number
-number_of [] = Not
+abbrev pub number_of : List ℕ → Option ℕ
+number_of [] = None
 number_of (x ∷ p) = cond (eqb x 43) (digits_of p) (digits_of (x ∷ p))

@@ -7,6 +7,6 @@ mod numbers;
 mod parts;
 mod refusals;
 
-pub use numbers::{Number, read_number};
+pub use numbers::read_number;
 pub use parts::{find, trimmed};
 pub use refusals::{refused_char, refused_list};

@@ -9,42 +9,35 @@ const ZERO: u32 = 48;
 
 const NINE: u32 = 57;
 
-// What a part says as a number: its value, or that it is none.
-#[derive(Clone, Copy)]
-pub enum Number {
-    Value(u32),
-    Not,
-}
-
 // The value of one or more digits, if all are digits and it is below 2^32.
-fn digits(p: &[u32]) -> Number
+fn digits(p: &[u32]) -> Option<u32>
     ensures { result ≡ digits_of p.now }
 {
     if p.len() == 0 {
-        return Number::Not;
+        return None;
     }
     let mut sum: u64 = 0;
     for x in p {
         if *x < ZERO {
-            return Number::Not;
+            return None;
         }
         if NINE < *x {
-            return Number::Not;
+            return None;
         }
         sum = sum * 10 + (*x - ZERO) as u64;
         if 0xffff_ffff < sum {
-            return Number::Not;
+            return None;
         }
     }
-    Number::Value(sum as u32)
+    Some(sum as u32)
 }
 
 // The number that p is: one optional `+`, then digits.
-pub fn read_number(p: &[u32]) -> Number
+pub fn read_number(p: &[u32]) -> Option<u32>
     ensures { result ≡ number_of p.now }
 {
     if p.len() == 0 {
-        return Number::Not;
+        return None;
     }
     if p[0] == PLUS {
         return digits(&p[1..]);

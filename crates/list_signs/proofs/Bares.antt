@@ -1,18 +1,16 @@
 -- The parts of a converted list: those of the list without their signs, read as the same tokens, with none left. Assumes nothing.
-use Rattle.lists.proofs.Kit.{◌≡◌, refl, ap, sym, ◌∙◌, List, [], ◌∷◌, ◌++◌, append-nil, Bool, true, false, not, true≢false, ℕ, suc, ◌+◌, length, replicate}
+use Rattle.lists.proofs.Kit.{◌≡◌, refl, ap, sym, ◌∙◌, List, [], ◌∷◌, ◌++◌, append-nil, Bool, true, false, not, true≢false, ℕ, suc, ◌+◌, length, replicate, Option, Some, None}
 use Rattle.lists.proofs.Kit.{length-replicate, replicate-append-replicate, eqb}
 use Rattle.lists.proofs.Both.{both}
 use Rattle.lists.specs.Lists.{split}
 use Rattle.list_parts.specs.Parts.{trim_start, trim}
-use Rattle.list_parts.specs.declared.numbers.Number.{Number}
-use Rattle.list_parts.specs.declared.numbers.Number.TheVariants.{Value, Not}
 use Rattle.list_parts.specs.Numbers.{number_of}
 use Rattle.list_tokens.specs.Grammar.{is_token, is_at, range_of, token_of}
 use Rattle.list_tokens.specs.Tokens.{tokens_in}
 use Rattle.list_signs.specs.Signs.{none, kept_signs, before, behind, part_signs, signs_in, signs}
 use Rattle.list_signs.specs.Plain.{without, plain}
 use Rattle.list_signs.specs.Converted.{bare, bares}
-use Rattle.list_signs.proofs.Joins.{joined, Some, no_cons, split_some, joined_split, no_comma, no_commas, split_no_commas, split_joined}
+use Rattle.list_signs.proofs.Joins.{joined, Filled, no_cons, split_some, joined_split, no_comma, no_commas, split_no_commas, split_joined}
 use Rattle.list_signs.proofs.MarkLaws.{none_append, kept_length}
 use Rattle.list_signs.proofs.PartMarks.{part_length}
 use Rattle.list_signs.proofs.PartLaws.{Same}
@@ -56,11 +54,11 @@ part_bare p =
 dropped_none : (t : List ℕ) → is_token (token_of t) ≡ false → kept_signs t ≡ none t
 dropped_none t h = go (is_at t) refl (is_token (range_of t)) refl (number_of t) refl
   where
-    go : (a : Bool) → is_at t ≡ a → (r : Bool) → is_token (range_of t) ≡ r → (n : Number) → number_of t ≡ n → kept_signs t ≡ none t
+    go : (a : Bool) → is_at t ≡ a → (r : Bool) → is_token (range_of t) ≡ r → (n : Option ℕ) → number_of t ≡ n → kept_signs t ≡ none t
     go true a r s n e = absurd (true≢false (rw a at h))
     go false a true s n e = absurd (true≢false (sym s ∙ (rw (a, s) at h)))
-    go false a false s (Value n) e = absurd (true≢false (rw (a, s, e) at h))
-    go false a false s Not e = rw (s, e)
+    go false a false s (Some n) e = absurd (true≢false (rw (a, s, e) at h))
+    go false a false s None e = rw (s, e)
 
 pub dropped_stays : (p : List ℕ) → is_token (token_of (trim p)) ≡ false → bare p ≡ p
 dropped_stays p h =
@@ -76,8 +74,8 @@ part_comma (x ∷ p) [] h = h
 part_comma (x ∷ p) (true ∷ ms) h = part_comma p ms (both (not (eqb x 44)) (no_comma p) h).1
 part_comma (x ∷ p) (false ∷ ms) h = let by_both = both (not (eqb x 44)) (no_comma p) h in rw by_both.0 (part_comma p ms by_both.1)
 
-bares_some : (ps : List (List ℕ)) → Some ps → Some (bares ps)
-unfolding bares Some
+bares_some : (ps : List (List ℕ)) → Filled ps → Filled (bares ps)
+unfolding bares Filled
 bares_some [] s = absurd (s refl)
 bares_some (p ∷ ps) s = no_cons _ _
 

@@ -1,11 +1,10 @@
 -- Numbers without their sign: digits alone, of the same value, with no white space, comma or `-` among them. Assumes nothing.
-use Rattle.lists.proofs.Kit.{◌≡◌, refl, ap, sym, List, [], ◌∷◌, ◌++◌, Bool, true, false, and-false, true≢false, ℕ, suc, ◌≤◌, ◌<◌, arith, length, eqb, leb}
+use Rattle.lists.proofs.Kit.{◌≡◌, refl, ap, sym, List, [], ◌∷◌, ◌++◌, Bool, true, false, and-false, true≢false, ℕ, suc, ◌≤◌, ◌<◌, arith, length, eqb, leb, Some, None}
 use Rattle.lists.proofs.Kit.{ne_eqb, leb-true, le-ltb, lt-leb}
 use Rattle.lists.proofs.Both.{both}
 use Rattle.lists.specs.Codes.{is_digit}
 use Rattle.lists.specs.Lists.{up_to}
 use Rattle.chars.specs.White.{whites, is_white}
-use Rattle.list_parts.specs.declared.numbers.Number.TheVariants.{Value, Not}
 use Rattle.list_parts.specs.Numbers.{all_digits, digits_of, number_of}
 use Rattle.list_signs.specs.Signs.{none, leading, is_value}
 use Rattle.list_signs.specs.Plain.{without}
@@ -61,22 +60,22 @@ pub record Plain (p : List ℕ) (n : ℕ) : Type 0 where
   pub digits : List ℕ
   pub are : all_digits digits ≡ true
   pub some : 0 < length digits
-  pub same : number_of digits ≡ Value n
+  pub same : number_of digits ≡ Some n
   pub bare : leading digits ≡ none digits
   pub is : without p (leading p) ≡ digits
 
-value_digits : (p : List ℕ) (n : ℕ) → digits_of p ≡ Value n → (all_digits p ≡ true) × (0 < length p)
+value_digits : (p : List ℕ) (n : ℕ) → digits_of p ≡ Some n → (all_digits p ≡ true) × (0 < length p)
 value_digits [] n e = absurd (true≢false (sym (ap is_value e)))
 value_digits (x ∷ p) n e = go (all_digits (x ∷ p)) refl
   where
     go : (b : Bool) → all_digits (x ∷ p) ≡ b → (all_digits (x ∷ p) ≡ true) × (0 < length (x ∷ p))
     go true w = (w, omega arith)
     go false w =
-        let never : Not ≡ Value n = rw w at e in
+        let never : None ≡ Some n = rw w at e in
         absurd (true≢false (sym (ap is_value never)))
 
 -- the first of digits is no sign
-first_digit : (p : List ℕ) (n : ℕ) → digits_of p ≡ Value n → (number_of p ≡ Value n) × (leading p ≡ none p)
+first_digit : (p : List ℕ) (n : ℕ) → digits_of p ≡ Some n → (number_of p ≡ Some n) × (leading p ≡ none p)
 unfolding all_digits
 first_digit [] n e = absurd (true≢false (sym (ap is_value e)))
 first_digit (x ∷ p) n e =
@@ -85,14 +84,14 @@ first_digit (x ∷ p) n e =
     let other = ne_eqb x 43 (λ (w : x ≡ 43). omega (arith, by_digit_bounds.0)) in
     (rw other e, rw other)
 
-pub plain_number : (p : List ℕ) (n : ℕ) → number_of p ≡ Value n → Plain p n
+pub plain_number : (p : List ℕ) (n : ℕ) → number_of p ≡ Some n → Plain p n
 unfolding without
 plain_number [] n e = absurd (true≢false (sym (ap is_value e)))
 plain_number (x ∷ p) n e = go (eqb x 43) refl
   where
     go : (b : Bool) → eqb x 43 ≡ b → Plain (x ∷ p) n
     go true w =
-        let digits_is : digits_of p ≡ Value n = rw w at e in
+        let digits_is : digits_of p ≡ Some n = rw w at e in
         let by_value_digits = value_digits p n digits_is in
         let by_first_digit = first_digit p n digits_is in
         record {
@@ -104,7 +103,7 @@ plain_number (x ∷ p) n e = go (eqb x 43) refl
           is = rw w (without_none p (length p));
         }
     go false w =
-        let digits_is : digits_of (x ∷ p) ≡ Value n = rw w at e in
+        let digits_is : digits_of (x ∷ p) ≡ Some n = rw w at e in
         let by_value_digits = value_digits (x ∷ p) n digits_is in
         let by_first_digit = first_digit (x ∷ p) n digits_is in
         record {

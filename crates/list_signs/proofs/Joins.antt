@@ -12,14 +12,14 @@ joined (p ∷ []) = p
 joined (p ∷ q ∷ ps) = p ++ (44 ∷ joined (q ∷ ps))
 
 -- there is always a part
-unfoldable pub Some : List (List ℕ) → Type 0
-Some ps = ps ≡ [] → ⊥
+unfoldable pub Filled : List (List ℕ) → Type 0
+Filled ps = ps ≡ [] → ⊥
 
 pub no_cons : {A : Type 0} (x : A) (l : List A) → x ∷ l ≡ [] → ⊥
 no_cons x l e = let same_size = ap length e in omega arith
 
-pub split_some : (l : List ℕ) → Some (split 44 l)
-unfolding split on_first Some
+pub split_some : (l : List ℕ) → Filled (split 44 l)
+unfolding split on_first Filled
 split_some [] = no_cons _ _
 split_some (y ∷ l) = go (eqb y 44) (split 44 l)
   where
@@ -28,14 +28,14 @@ split_some (y ∷ l) = go (eqb y 44) (split 44 l)
     go false [] = no_cons _ _
     go false (p ∷ ps) = no_cons _ _
 
-joined_first : (y : ℕ) (ps : List (List ℕ)) → Some ps → joined (on_first y ps) ≡ y ∷ joined ps
-unfolding joined on_first Some
+joined_first : (y : ℕ) (ps : List (List ℕ)) → Filled ps → joined (on_first y ps) ≡ y ∷ joined ps
+unfolding joined on_first Filled
 joined_first y [] s = absurd (s refl)
 joined_first y (p ∷ []) s = refl
 joined_first y (p ∷ q ∷ ps) s = refl
 
-joined_comma : (ps : List (List ℕ)) → Some ps → joined ([] ∷ ps) ≡ 44 ∷ joined ps
-unfolding joined Some
+joined_comma : (ps : List (List ℕ)) → Filled ps → joined ([] ∷ ps) ≡ 44 ∷ joined ps
+unfolding joined Filled
 joined_comma [] s = absurd (s refl)
 joined_comma (p ∷ ps) s = refl
 
@@ -44,7 +44,7 @@ unfolding split joined
 joined_split [] = refl
 joined_split (y ∷ l) = go (eqb y 44) refl (split_some l) (joined_split l)
   where
-    go : (b : Bool) → eqb y 44 ≡ b → Some (split 44 l) → joined (split 44 l) ≡ l → joined (cond b ([] ∷ split 44 l) (on_first y (split 44 l))) ≡ y ∷ l
+    go : (b : Bool) → eqb y 44 ≡ b → Filled (split 44 l) → joined (split 44 l) ≡ l → joined (cond b ([] ∷ split 44 l) (on_first y (split 44 l))) ≡ y ∷ l
     go true e s h = joined_comma (split 44 l) s ∙ ap (λ (q : List ℕ). 44 ∷ q) h ∙ ap (λ (x : ℕ). x ∷ l) (sym (eqb-true y 44 e))
     go false e s h = joined_first y (split 44 l) s ∙ ap (λ (q : List ℕ). y ∷ q) h
 
@@ -81,8 +81,8 @@ split_part_end (x ∷ p) h =
     let by_both = both (not (eqb x 44)) (no_comma p) h in
     rw (not-true (eqb x 44) by_both.0) (ap (on_first x) (split_part_end p by_both.1))
 
-pub split_joined : (ps : List (List ℕ)) → Some ps → no_commas ps ≡ true → split 44 (joined ps) ≡ ps
-unfolding joined no_commas Some
+pub split_joined : (ps : List (List ℕ)) → Filled ps → no_commas ps ≡ true → split 44 (joined ps) ≡ ps
+unfolding joined no_commas Filled
 split_joined [] s h = absurd (s refl)
 split_joined (p ∷ []) s h = split_part_end p (both (no_comma p) true h).0
 split_joined (p ∷ q ∷ ps) s h =
@@ -90,8 +90,8 @@ split_joined (p ∷ q ∷ ps) s h =
     split_part_comma p (joined (q ∷ ps)) by_both.0 ∙ ap (λ (r : List (List ℕ)). p ∷ r) (split_joined (q ∷ ps) (no_cons q ps) by_both.1)
 
 -- a mark for each code point of parts that are joined, and for their end
-joined_length : (ps : List (List ℕ)) → Some ps → length (signs_in ps) ≡ length (joined ps) + 1
-unfolding joined signs_in Some
+joined_length : (ps : List (List ℕ)) → Filled ps → length (signs_in ps) ≡ length (joined ps) + 1
+unfolding joined signs_in Filled
 joined_length [] s = absurd (s refl)
 joined_length (p ∷ []) s = length-append (part_signs p) (false ∷ []) ∙ ap (λ (n : ℕ). n + 1) (part_length p)
 joined_length (p ∷ q ∷ ps) s = length-append (part_signs p) (false ∷ signs_in (q ∷ ps))

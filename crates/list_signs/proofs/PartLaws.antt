@@ -1,9 +1,7 @@
 -- A trimmed part without its signs is the same token, has none left and is trimmed. Assumes nothing.
-use Rattle.lists.proofs.Kit.{◌≡◌, refl, ap, sym, ◌∙◌, List, [], ◌∷◌, ◌++◌, Bool, true, false, cond, true≢false, ℕ, suc, ◌<◌, arith, length, get_or, length-append}
+use Rattle.lists.proofs.Kit.{◌≡◌, refl, ap, sym, ◌∙◌, List, [], ◌∷◌, ◌++◌, Bool, true, false, cond, true≢false, ℕ, suc, ◌<◌, arith, length, get_or, length-append, Option, Some, None}
 use Rattle.lists.proofs.Kit.{length-replicate, take-append_seam, drop-append-add, eqb, eqb-true, lt-ltb}
 use Rattle.lists.specs.Lists.{up_to}
-use Rattle.list_parts.specs.declared.numbers.Number.{Number}
-use Rattle.list_parts.specs.declared.numbers.Number.TheVariants.{Value, Not}
 use Rattle.list_parts.specs.Numbers.{all_digits, number_of}
 use Rattle.list_parts.specs.Parts.{trim_start, trim}
 use Rattle.list_tokens.specs.Grammar.{codes, is_token, is_at, range_of, token_of}
@@ -23,12 +21,12 @@ up_to_found x (y ∷ l) h = go (eqb y x) refl (λ (m : up_to x l < length l). up
     go true e f = rw e (eqb-true y x e)
     go false e f = let one_more_below : suc (up_to x l) < suc (length l) = rw e at h in rw e (f (omega arith))
 
-pub value_of : (n : Number) → is_value n ≡ true → (v : ℕ) × (n ≡ Value v)
-value_of (Value v) e = (v, refl)
-value_of Not e = absurd (true≢false (sym e))
+pub value_of : (n : Option ℕ) → is_value n ≡ true → (v : ℕ) × (n ≡ Some v)
+value_of (Some v) e = (v, refl)
+value_of None e = absurd (true≢false (sym e))
 
 -- two numbers with a `-` between them
-module _ (a b : List ℕ) (lo hi : ℕ) (u : up_to 45 (a ++ (45 ∷ b)) ≡ length a) (x : number_of a ≡ Value lo) (y : number_of b ≡ Value hi) where
+module _ (a b : List ℕ) (lo hi : ℕ) (u : up_to 45 (a ++ (45 ∷ b)) ≡ length a) (x : number_of a ≡ Some lo) (y : number_of b ≡ Some hi) where
   whole : List ℕ
   whole = a ++ (45 ∷ b)
 
@@ -40,7 +38,7 @@ module _ (a b : List ℕ) (lo hi : ℕ) (u : up_to 45 (a ++ (45 ∷ b)) ≡ leng
   not_at : is_at (a ++ (45 ∷ b)) ≡ false
   not_at = go a x
     where
-      go : (a : List ℕ) → number_of a ≡ Value lo → is_at (a ++ (45 ∷ b)) ≡ false
+      go : (a : List ℕ) → number_of a ≡ Some lo → is_at (a ++ (45 ∷ b)) ≡ false
       go [] e = absurd (true≢false (sym (ap is_value e)))
       go (z ∷ []) e = refl
       go (z ∷ w ∷ c) e = refl
@@ -52,7 +50,7 @@ module _ (a b : List ℕ) (lo hi : ℕ) (u : up_to 45 (a ++ (45 ∷ b)) ≡ leng
   range_signs = rw (range_codes, u, take-append_seam a (45 ∷ b), drop-append-add a (45 ∷ b) 1)
 
 -- a number, which is no range
-number_not_at : (a : List ℕ) (n : ℕ) → number_of a ≡ Value n → is_at a ≡ false
+number_not_at : (a : List ℕ) (n : ℕ) → number_of a ≡ Some n → is_at a ≡ false
 unfolding all_digits
 number_not_at [] n e = refl
 number_not_at (x ∷ []) n e = go (eqb x 64) refl
@@ -62,7 +60,7 @@ number_not_at (x ∷ []) n e = go (eqb x 64) refl
     go true w = absurd (true≢false (sym (ap is_value (ap (λ (z : ℕ). number_of (z ∷ [])) (sym (eqb-true x 64 w)) ∙ e))))
 number_not_at (x ∷ y ∷ a) n e = refl
 
-pub number_token : (a : List ℕ) (n : ℕ) → number_of a ≡ Value n → is_token (range_of a) ≡ false → token_of a ≡ codes n n
+pub number_token : (a : List ℕ) (n : ℕ) → number_of a ≡ Some n → is_token (range_of a) ≡ false → token_of a ≡ codes n n
 number_token a n e r = rw (number_not_at a n e, r, e)
 
 -- t without its signs

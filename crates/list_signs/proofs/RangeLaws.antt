@@ -1,19 +1,17 @@
 -- Laws of a part as a range, and of its signs as the code tests them. Assumes nothing.
-use Rattle.lists.proofs.Kit.{◌≡◌, refl, ap, ◌∙◌, List, true, false, ◌&&◌, ℕ, ◌+◌, ◌-◌, ◌≤◌, ◌<◌, arith, length, get_or, take, drop, length-drop}
+use Rattle.lists.proofs.Kit.{◌≡◌, refl, ap, ◌∙◌, List, true, false, ◌&&◌, ℕ, ◌+◌, ◌-◌, ◌≤◌, ◌<◌, arith, length, get_or, take, drop, length-drop, Option, Some, None}
 use Rattle.lists.proofs.Kit.{get_or-eq_default, take_all, eqb, le-ltb, lt-ltb}
 use Rattle.lists.specs.Lists.{up_to}
-use Rattle.list_parts.specs.declared.numbers.Number.{Number}
-use Rattle.list_parts.specs.declared.numbers.Number.TheVariants.{Value, Not}
 use Rattle.list_parts.specs.Numbers.{number_of}
 use Rattle.list_tokens.specs.Grammar.{is_token, between, range_of}
 use Rattle.list_signs.specs.Signs.{is_value}
 use Rattle.list_signs.specs.Marks.{leads, seconds}
 
 -- two numbers are a token
-pub between_both : (a b : Number) → is_token (between a b) ≡ (is_value a && is_value b)
-between_both (Value lo) (Value hi) = refl
-between_both (Value lo) Not = refl
-between_both Not b = refl
+pub between_both : (a b : Option ℕ) → is_token (between a b) ≡ (is_value a && is_value b)
+between_both (Some lo) (Some hi) = refl
+between_both (Some lo) None = refl
+between_both None b = refl
 
 -- d is the place of the first `-`, or the part's length
 module _ (p : List ℕ) (d : ℕ) (k : d ≡ 0 + up_to 45 (drop 0 p)) where

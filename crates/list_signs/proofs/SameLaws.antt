@@ -1,10 +1,9 @@
 -- Every trimmed part stays the same token without its signs, and so does a part with white space around it. Assumes nothing.
-use Rattle.lists.proofs.Kit.{◌≡◌, refl, ap, sym, ◌∙◌, List, [], ◌∷◌, ◌++◌, Bool, true, false, not, ℕ, ◌+◌, add-one, arith, length, take, drop, split_at}
+use Rattle.lists.proofs.Kit.{◌≡◌, refl, ap, sym, ◌∙◌, List, [], ◌∷◌, ◌++◌, Bool, true, false, not, ℕ, ◌+◌, add-one, arith, length, take, drop, split_at, Some}
 use Rattle.lists.proofs.Kit.{length-take-le}
 use Rattle.lists.proofs.Both.{both}
 use Rattle.lists.specs.Lists.{up_to}
 use Rattle.chars.specs.White.{is_white}
-use Rattle.list_parts.specs.declared.numbers.Number.TheVariants.{Value}
 use Rattle.list_parts.specs.Numbers.{number_of}
 use Rattle.list_parts.specs.Parts.{trim_start, trim}
 use Rattle.list_tokens.specs.Grammar.{is_token, range_of, token_of}
@@ -29,7 +28,7 @@ no_white_range [] b h k = rw minus_not_white k
 no_white_range (x ∷ a) b h k = let by_both = both (not (is_white x)) (no_white a) h in rw by_both.0 (no_white_range a b by_both.1 k)
 
 -- a range a-b
-same_range : (a b : List ℕ) (lo hi : ℕ) → up_to 45 (a ++ (45 ∷ b)) ≡ length a → number_of a ≡ Value lo → number_of b ≡ Value hi → Same (a ++ (45 ∷ b))
+same_range : (a b : List ℕ) (lo hi : ℕ) → up_to 45 (a ++ (45 ∷ b)) ≡ length a → number_of a ≡ Some lo → number_of b ≡ Some hi → Same (a ++ (45 ∷ b))
 unfolding without
 same_range a b lo hi u x y =
     let by_plain_number = plain_number a lo x in
@@ -48,7 +47,7 @@ same_range a b lo hi u x y =
     (range_token by_plain_number.digits by_plain_number_b.digits lo hi by_digits_no_minus by_plain_number.same by_plain_number_b.same
     ∙ sym (range_token a b lo hi u x y)) bare (trim_none joined clear) (start_none joined clear)
 
-same_number : (t : List ℕ) (n : ℕ) → is_token (range_of t) ≡ false → number_of t ≡ Value n → Same t
+same_number : (t : List ℕ) (n : ℕ) → is_token (range_of t) ≡ false → number_of t ≡ Some n → Same t
 same_number t n r e =
     let by_plain_number = plain_number t n e in
     let digits = by_plain_number.digits in

@@ -1,10 +1,8 @@
 -- What a retired sign is: the leading `+` of a number, in a part that the first reader keeps as a number or a range. Document 02, #112.
 -- Definitions only; the laws are in `proofs/`. Assumes nothing.
-use Rattle.std.specs.Prelude.{ℕ, ◌+◌, List, [], ◌∷◌, ◌++◌, Bool, true, false, cond, eqb, length, take, drop, replicate}
+use Rattle.std.specs.Prelude.{ℕ, ◌+◌, List, [], ◌∷◌, ◌++◌, Bool, true, false, cond, eqb, length, take, drop, replicate, Option, Some, None}
 use Rattle.chars.specs.White.{is_white}
 use Rattle.lists.specs.Lists.{up_to}
-use Rattle.list_parts.specs.declared.numbers.Number.{Number}
-use Rattle.list_parts.specs.declared.numbers.Number.TheVariants.{Value, Not}
 use Rattle.list_parts.specs.Numbers.{number_of}
 use Rattle.list_parts.specs.Parts.{parts, trim_start, trim}
 use Rattle.list_tokens.specs.Grammar.{is_token, range_of}
@@ -20,9 +18,9 @@ abbrev pub leading : List ℕ → List Bool
 leading [] = []
 leading (x ∷ p) = eqb x 43 ∷ none p
 
-abbrev pub is_value : Number → Bool
-is_value (Value n) = true
-is_value Not = false
+abbrev pub is_value : Option ℕ → Bool
+is_value (Some n) = true
+is_value None = false
 
 -- of a trimmed part: both numbers of a range, split at the first `-`, or a number; any other part, kept or dropped, has none
 abbrev pub kept_signs : List ℕ → List Bool

@@ -5,8 +5,6 @@ ghost use Rattle.list_tokens.specs.Grammar.{is_token, range_of};
 ghost use Rattle.list_signs.specs.Signs.{is_value, signs};
 ghost use Rattle.list_signs.specs.Marks.{leads, seconds, marked, part_marked};
 
-use list_parts::Number;
-
 // `+`, `,` and `-`.
 const PLUS: u32 = 43;
 
@@ -19,8 +17,8 @@ fn is_number(p: &[u32]) -> bool
     ensures { result ≡ is_value (number_of p.now) }
 {
     match list_parts::read_number(p) {
-        Number::Value(n) => true,
-        Number::Not => false,
+        Some(n) => true,
+        None => false,
     }
 }
 

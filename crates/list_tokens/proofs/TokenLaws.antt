@@ -1,9 +1,8 @@
 -- Laws of tokens: what a part is, and the tokens of one part more. Assumes nothing.
-use Rattle.lists.proofs.Kit.{◌≡◌, refl, ap, ◌∙◌, List, [], ◌∷◌, Bool, false, ◌||◌, ℕ, ◌+◌, ◌-◌, ◌≤◌, ◌<◌, ℕ_discrete, arith, length, get_or, take, drop}
+use Rattle.lists.proofs.Kit.{◌≡◌, refl, ap, ◌∙◌, List, [], ◌∷◌, Bool, false, ◌||◌, ℕ, ◌+◌, ◌-◌, ◌≤◌, ◌<◌, ℕ_discrete, arith, length, get_or, take, drop, Option}
 use Rattle.lists.proofs.Kit.{length-drop, drop_of_length-le, take_all, length-take-le, eqb, eq-eqb, ne_eqb, le-ltb, lt-ltb}
 use Rattle.list_tokens.specs.declared.Token.{Token}
 use Rattle.list_tokens.specs.declared.tokens.Step.{Step}
-use Rattle.list_parts.specs.declared.numbers.Number.{Number}
 use Rattle.list_parts.specs.Numbers.{number_of}
 use Rattle.lists.specs.Lists.{up_to, any}
 use Rattle.list_parts.specs.Parts.{trim}
@@ -37,7 +36,7 @@ module _ (p : List ℕ) (d : ℕ) (k : d ≡ 0 + up_to 45 (drop 0 p)) where
   pub range_none : length p ≤ d → no_token ≡ range_of p
   range_none h = let up_to_is : up_to 45 p ≡ d = omega arith in rw (up_to_is, le-ltb _ _ h)
 
-  pub range_is : d < length p → (a b : Number) → a ≡ number_of (take d p) → b ≡ number_of (take (length p - (d + 1)) (drop (d + 1) p)) → between a b ≡ range_of p
+  pub range_is : d < length p → (a b : Option ℕ) → a ≡ number_of (take d p) → b ≡ number_of (take (length p - (d + 1)) (drop (d + 1) p)) → between a b ≡ range_of p
   range_is h a b f g =
       let up_to_is : up_to 45 p ≡ d = omega arith in
       let size_at_most : length (drop (d + 1) p) ≤ length p - (d + 1) = omega (arith, length-drop (d + 1) p) in

@@ -1,9 +1,7 @@
 -- What the contracts of `src/tokens.rt` cite: which token a part of a list is. Document 01, "Keyword lists".
 -- Definitions only; the laws are in `proofs/TokenLaws.antt`. Assumes nothing.
-use Rattle.std.specs.Prelude.{ℕ, ◌+◌, List, [], ◌∷◌, Bool, false, cond, not, eqb, ltb, length, take, drop}
+use Rattle.std.specs.Prelude.{ℕ, ◌+◌, List, [], ◌∷◌, Bool, false, cond, not, eqb, ltb, length, take, drop, Option, Some, None}
 use Rattle.list_tokens.specs.declared.Token.{Token}
-use Rattle.list_parts.specs.declared.numbers.Number.{Number}
-use Rattle.list_parts.specs.declared.numbers.Number.TheVariants.{Value, Not}
 use Rattle.list_parts.specs.Numbers.{number_of}
 use Rattle.lists.specs.Lists.{up_to}
 
@@ -34,18 +32,18 @@ single (x ∷ []) = codes x x
 single (x ∷ y ∷ p) = no_token
 
 -- a number is that code, and else t
-abbrev pub code_or : Number → Token → Token
-code_or (Value n) t = codes n n
-code_or Not t = t
+abbrev pub code_or : Option ℕ → Token → Token
+code_or (Some n) t = codes n n
+code_or None t = t
 
 abbrev pub code_of : List ℕ → Token
 code_of p = code_or (number_of p) (single p)
 
 -- two numbers are a range
-abbrev pub between : Number → Number → Token
-between (Value lo) (Value hi) = codes lo hi
-between (Value lo) Not = no_token
-between Not n = no_token
+abbrev pub between : Option ℕ → Option ℕ → Token
+between (Some lo) (Some hi) = codes lo hi
+between (Some lo) None = no_token
+between None n = no_token
 
 -- split at the first `-`
 abbrev pub range_of : List ℕ → Token

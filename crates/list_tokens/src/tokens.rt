@@ -5,7 +5,6 @@ ghost use Rattle.list_tokens.specs.Grammar.{codes, is_at, single, code_of, range
 ghost use Rattle.list_tokens.specs.Tokens.{token_holds, low_of, high_of, step_of};
 
 use crate::Token;
-use list_parts::Number;
 
 // `,`, `-` and `@`.
 const COMMA: u32 = 44;
@@ -87,8 +86,8 @@ fn code_of(p: &[u32]) -> Token
     ensures { result ≡ code_of p.now }
 {
     match list_parts::read_number(p) {
-        Number::Value(n) => range(n, n),
-        Number::Not => single_of(p),
+        Some(n) => range(n, n),
+        None => single_of(p),
     }
 }
 
@@ -102,11 +101,11 @@ fn range_of(p: &[u32]) -> Token
     }
     let e = d + 1;
     match list_parts::read_number(&p[..d]) {
-        Number::Value(lo) => match list_parts::read_number(&p[e..]) {
-            Number::Value(hi) => range(lo, hi),
-            Number::Not => EMPTY,
+        Some(lo) => match list_parts::read_number(&p[e..]) {
+            Some(hi) => range(lo, hi),
+            None => EMPTY,
         },
-        Number::Not => EMPTY,
+        None => EMPTY,
     }
 }
 

@@ -20,3 +20,4 @@ pub use lib.Dec.{T, eqb, leb, ltb, ltb→lt, lt→ltb}
 pub use borrow.Author.Rules.{rules}
 pub use borrow.Author.Tests.{eq-eqb, eqb-false, eqb-true, le-leb, le-ltb, leb-false, leb-true, lt-leb, lt-ltb, ltb-false, ltb-true, ne_eqb, not-false}
 pub use borrow.Author.Tests.{not-true}
+pub use Rattle.std.specs.Prelude.{Option, Some, None}

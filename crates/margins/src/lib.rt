@@ -8,7 +8,7 @@ ghost use Rattle.chars.specs.White.{whites};
 ghost use Rattle.margins.specs.Margins.{is_blank, indent_of, first_non_blank};
 ghost use Rattle.margins.specs.Margins.{solid_of, last_non_blank, BriefLine, ColumnIs};
 
-use text::{Line, least, minus};
+use text::Line;
 
 // Whether x is a space or a tab.
 fn is_blank(x: u32) -> bool
@@ -35,7 +35,7 @@ pub fn first_non_blank(t: &[u32], l: Line) -> usize
     ensures { ColumnIs (first_non_blank t.now l.row) result }
 {
     let row = text::offsets::row(t, l);
-    least(indent(row), minus(row.len(), 1))
+    indent(row).min(row.len().saturating_sub(1))
 }
 
 // How many characters a row has up to the last that is no white space.
@@ -57,5 +57,5 @@ pub fn last_non_blank(t: &[u32], l: Line) -> usize
     ensures { ColumnIs (last_non_blank t.now l.row) result }
 {
     let row = text::offsets::row(t, l);
-    minus(solid(&chars::WHITE, row), 1)
+    solid(&chars::WHITE, row).saturating_sub(1)
 }

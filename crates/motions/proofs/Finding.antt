@@ -1,7 +1,5 @@
 -- What a search answers, from what its checks found out. Assumes nothing.
-use Rattle.lists.proofs.Kit.{◌≡◌, sym, ◌∙◌, List, Bool, ℕ, ◌≤◌, ◌<◌, ◌^◌, arith, length, eq-eqb, ne_eqb}
-use Rattle.row_search.specs.declared.Found.{Found}
-use Rattle.row_search.specs.declared.Found.TheVariants.{At}
+use Rattle.lists.proofs.Kit.{◌≡◌, sym, ◌∙◌, List, Bool, ℕ, ◌≤◌, ◌<◌, ◌^◌, arith, length, eq-eqb, ne_eqb, Option, Some}
 use Rattle.row_search.specs.Find.{find_on_row}
 use Rattle.row_search.proofs.Finds.{find_within}
 use Rattle.motions.specs.declared.Sought.{Sought}
@@ -18,6 +16,6 @@ module _ {f g : ℕ} (q : f ≡ g) where
   seek_found m n z e = rw (← q, eq-eqb f 0 z) e
 
 -- the column that was found is one of the row's, and so fits a u32
-pub found_fits : (row : List ℕ) (col x : ℕ) (forward till skip : Bool) {f : Found} {i : ℕ} → f ≡ find_on_row row col x forward till skip → f ≡ At i →
+pub found_fits : (row : List ℕ) (col x : ℕ) (forward till skip : Bool) {f : Option ℕ} {i : ℕ} → f ≡ find_on_row row col x forward till skip → f ≡ Some i →
     col ≤ length row → length row ≤ 1048576 → i < 2 ^ 32
 found_fits row col x forward till skip e q h l = omega (arith, find_within row col x forward till skip h (sym e ∙ q))

@@ -1,5 +1,5 @@
 -- What a vertical motion goes by once its checks are done, and the caret that it answers with. Assumes nothing.
-use Rattle.lists.proofs.Kit.{◌≡◌, ap, List, Bool, ℕ, arith}
+use Rattle.lists.proofs.Kit.{◌≡◌, ap, List, Bool, ℕ, arith, Option}
 use Rattle.widths.specs.declared.Ambiguous.{Ambiguous}
 use Rattle.widths.specs.Widths.{width_as}
 use Rattle.text.proofs.Parts.{count_le, row_fits}
@@ -7,7 +7,6 @@ use Rattle.row_wrap.specs.declared.Wrap.{Wrap}
 use Rattle.vertical.specs.Moves
 use Rattle.vertical.proofs.Inside.{Inside}
 use Rattle.screen.specs.declared.Kept.{Kept}
-use Rattle.screen.specs.declared.Offset.{Offset}
 use Rattle.screen.specs.Keeping.{move_screen_kept}
 use Rattle.screen.proofs.Inside.{kept_inside}
 use Rattle.positions.specs.declared.Entry.{Entry}
@@ -30,7 +29,7 @@ upright_ready r =
 
 -- the target is in the text, so that its numbers fit a u32
 pub target_fits : {t folds : List ℕ} {tabstop start : ℕ} (k : Caret) → Upright t folds tabstop k start →
-    (a : Ambiguous) (mode : Wrap) (width : ℕ) (down : Bool) (count : ℕ) (offset : Offset) (p : Kept) →
+    (a : Ambiguous) (mode : Wrap) (width : ℕ) (down : Bool) (count : ℕ) (offset : Option ℕ) (p : Kept) →
     p ≡ move_screen_kept (width_as a) t folds tabstop mode width down count k.row k.col k.sticky offset →
     CaretFits p.target.row p.target.col
 target_fits {t} {folds} {tabstop} {start} k h a mode width down count offset p e =

@@ -1,14 +1,11 @@
 -- Carets: when a call with a text and a caret is refused, and what a motion answers.
 -- From document 01, "Text, rows, carets" and "Refusal numbers". Definitions only; the laws are in `proofs/Checks.antt`. Assumes nothing.
-use Rattle.std.specs.Prelude.{ℕ, List, cond, eqb}
+use Rattle.std.specs.Prelude.{ℕ, List, cond, eqb, Option, None}
 use Rattle.text.specs.Text.{position}
 use Rattle.text.specs.declared.Position.{Position}
 use Rattle.positions.specs.declared.Entry.{Entry}
 use Rattle.positions.specs.Positions
 use Rattle.positions.specs.Positions.{position_refusal, refusal_at}
-use Rattle.vertical.specs.declared.Sticky.{Sticky}
-use Rattle.screen.specs.declared.Offset.{Offset}
-use Rattle.screen.specs.declared.Offset.TheVariants.{Absent}
 use Rattle.motions.specs.declared.Caret.{Caret}
 use Rattle.motions.specs.declared.Moved.{Moved}
 use Rattle.motions.specs.declared.Moved.TheVariants.{To, Refused}
@@ -41,12 +38,12 @@ caret_after old (To k) = k
 caret_after old (Refused f) = old
 
 -- a caret by its parts
-abbrev pub caret_with : ℕ → ℕ → Sticky → Offset → Caret
+abbrev pub caret_with : ℕ → ℕ → Option ℕ → Option ℕ → Caret
 caret_with r c s o = record { row = r; col = c; sticky = s; offset = o }
 
 -- one that keeps no offset: every caret that a motion answers with, but for the screen moves that remember
-abbrev pub caret_at : ℕ → ℕ → Sticky → Caret
-caret_at r c s = caret_with r c s Absent
+abbrev pub caret_at : ℕ → ℕ → Option ℕ → Caret
+caret_at r c s = caret_with r c s None
 
 -- a caret at another row and column: the sticky column is kept
 abbrev pub placed : Caret → ℕ → ℕ → Caret

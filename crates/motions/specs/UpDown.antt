@@ -1,13 +1,12 @@
 -- Up, down and the screen on carets: the refusals of a call, and where the walks of `vertical` and `screen` lead to by the widths of a setting.
 -- Motions.rs, "Vertical motions". Definitions only; the laws are in `proofs/Upright.antt`. Assumes nothing.
-use Rattle.std.specs.Prelude.{ℕ, List, [], ◌∷◌, Bool, cond, ltb}
+use Rattle.std.specs.Prelude.{ℕ, List, [], ◌∷◌, Bool, cond, ltb, Some}
 use Rattle.widths.specs.declared.Ambiguous.{Ambiguous}
 use Rattle.widths.specs.Widths.{width_as}
 use Rattle.text_check.specs.Accept.{text_refusal}
 use Rattle.text.specs.Text.{row_count}
 use Rattle.folds.specs.Folds.{fold_refusal}
 use Rattle.row_wrap.specs.declared.Wrap.{Wrap}
-use Rattle.vertical.specs.declared.Sticky.TheVariants.{At}
 use Rattle.vertical.specs.declared.Target.{Target}
 use Rattle.visible_rows.specs.Visible.{delta_of}
 use Rattle.vertical.specs.Moves.{move_vertical}
@@ -29,7 +28,7 @@ vertical_refusal t folds tabstop k = lowest (text_refusal t ∷ caret_refusal t 
 
 -- the caret where a walk has ended: what it aimed for is the sticky column
 abbrev pub at_target : Target → Caret
-at_target p = caret_at p.row p.col (At p.want)
+at_target p = caret_at p.row p.col (Some p.want)
 
 -- `j` and `k`
 abbrev pub move_rows : Ambiguous → List ℕ → List ℕ → ℕ → Bool → ℕ → Caret → Moved
@@ -46,7 +45,7 @@ move_screen_rows a t folds tabstop mode width down count k = moving (vertical_re
 
 -- `gj` and `gk` that remember: the caret's own offset goes in, and the one that was kept is the caret's from then on
 abbrev pub at_kept : Kept → Caret
-at_kept p = caret_with p.target.row p.target.col (At p.target.want) p.offset
+at_kept p = caret_with p.target.row p.target.col (Some p.target.want) p.offset
 
 abbrev pub kept_caret : Ambiguous → List ℕ → List ℕ → ℕ → Wrap → ℕ → Bool → ℕ → Caret → Caret
 kept_caret a t folds tabstop mode width down count k =

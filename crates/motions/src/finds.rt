@@ -11,7 +11,6 @@ ghost use Rattle.motions.specs.Ready.{KeyReady};
 use crate::{Caret, Move, Sought};
 use bracket_walks::Partner;
 use positions::Entry;
-use row_search::Found;
 use text::Line;
 
 impl Caret {
@@ -53,8 +52,8 @@ impl Caret {
         let row = text::offsets::row(t, l);
         let col = self.col as usize;
         match row_search::find_on_row(row, col, x, forward, till, skip) {
-            Found::At(i) => Sought::Found(self.placed(self.row as usize, i)),
-            Found::Nothing => Sought::Missing(self.cleared()),
+            Some(i) => Sought::Found(self.placed(self.row as usize, i)),
+            None => Sought::Missing(self.cleared()),
         }
     }
 

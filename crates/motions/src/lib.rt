@@ -12,10 +12,9 @@ ghost use Rattle.motions.specs.Ready.{CaretFits};
 
 use positions::Entry;
 use row_wrap::Wrap;
-use screen::Offset;
 use text::Position;
 use text_moves::Way;
-use vertical::{Edge, Sticky};
+use vertical::Edge;
 use widths::Ambiguous;
 use word_rounds::Motion;
 
@@ -39,8 +38,8 @@ pub use going::go_from;
 pub struct Caret {
     pub row: u32,
     pub col: u32,
-    pub sticky: Sticky,
-    pub offset: Offset,
+    pub sticky: Option<u32>,
+    pub offset: Option<u32>,
 }
 
 // Where a motion has led to, or the number that the call is refused with.
@@ -109,16 +108,24 @@ pub enum Move {
 
 // Every caret that a motion answers with is made here, but for those of the screen moves that
 // remember.
-pub(crate) fn caret_at(row: usize, col: usize, sticky: Sticky) -> Caret
+pub(crate) fn caret_at(row: usize, col: usize, sticky: Option<u32>) -> Caret
     requires { CaretFits row col }
     ensures { result ≡ caret_at row col sticky }
 {
     Caret::at(row as u32, col as u32, sticky)
 }
 
+// The caret at another row and column, for motions outside this crate: its sticky column stays.
+pub fn placed(k: Caret, row: usize, col: usize) -> Caret
+    requires { CaretFits row col }
+    ensures { result ≡ placed k row col }
+{
+    k.placed(row, col)
+}
+
 impl Caret {
     // A caret by its parts.
-    pub fn with(row: u32, col: u32, sticky: Sticky, offset: Offset) -> Caret
+    pub fn with(row: u32, col: u32, sticky: Option<u32>, offset: Option<u32>) -> Caret
         ensures { result ≡ caret_with row col sticky offset }
     {
         Caret {
@@ -130,10 +137,10 @@ impl Caret {
     }
 
     // A caret that keeps no offset within a segment.
-    pub fn at(row: u32, col: u32, sticky: Sticky) -> Caret
+    pub fn at(row: u32, col: u32, sticky: Option<u32>) -> Caret
         ensures { result ≡ caret_at row col sticky }
     {
-        Caret::with(row, col, sticky, Offset::Absent)
+        Caret::with(row, col, sticky, None)
     }
 
     // The checks that every motion begins with: the text (1, 2, 3), then the caret (4).

@@ -13,9 +13,8 @@ use crate::settings::walk_as;
 use crate::{Caret, Move, Moved, caret_at};
 use positions::Entry;
 use row_wrap::Wrap;
-use screen::{Kept, Offset};
+use screen::Kept;
 use text::Line;
-use vertical::Sticky;
 use widths::Ambiguous;
 
 impl Caret {
@@ -30,7 +29,7 @@ impl Caret {
         width: u16,
         down: bool,
         count: u32,
-        offset: Offset,
+        offset: Option<u32>,
         ambiguous: Ambiguous,
     ) -> Kept
         requires { RowsReady t.now folds.now tabstop self e }
@@ -78,12 +77,12 @@ impl Caret {
         ensures { result ≡ screen_caret ambiguous t.now folds.now tabstop
             mode width down count self }
     {
-        let none = Offset::Absent;
+        let none = None;
         let k = self.led(
             t, folds, tabstop, e, mode, width, down, count, none, ambiguous,
         );
         let p = k.target;
-        caret_at(p.row, p.col, Sticky::At(p.want))
+        caret_at(p.row, p.col, Some(p.want))
     }
 
     // The same with the caret's own offset, which is kept.
@@ -109,7 +108,7 @@ impl Caret {
         );
         let p = k.target;
         let kept = k.offset;
-        Caret::with(p.row as u32, p.col as u32, Sticky::At(p.want), kept)
+        Caret::with(p.row as u32, p.col as u32, Some(p.want), kept)
     }
 
     // `k`: so many visible rows up, or the first that is left.

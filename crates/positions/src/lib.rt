@@ -20,7 +20,7 @@ pub struct Entry {
 }
 
 // A refusal, beside which nothing is known.
-fn refused(f: u32) -> Entry
+pub fn refused(f: u32) -> Entry
     ensures { result ≡ refused_by f }
 {
     Entry {

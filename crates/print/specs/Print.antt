@@ -14,7 +14,7 @@ unfoldable pub decimal : ℕ → List ℕ
 decimal n = spell 10 n
 
 -- s was written into out from index at on: the next index, and what stands in out then. The last follows
-pub record Wrote (out : List ℕ) (at : ℕ) (s : List ℕ) (at' : ℕ) (out' : List ℕ) : Type 0 where
+pub record Wrote {A : Type 0} (out : List A) (at : ℕ) (s : List A) (at' : ℕ) (out' : List A) : Type 0 where
   pub next : at' ≡ at + length s
   pub left : out' ≡ sets out at s
   pub size : length out' ≡ length out

@@ -1,17 +1,17 @@
-// Writing into lent room, byte after byte: each function writes from an index on and answers the
-// next index.
+// Writing into lent room, one piece after another: each function writes from an index on and
+// answers the next index.
 
 #![tactic(auto)]
 
 ghost use Rattle.std.specs.Prelude.{[], ◌∷◌, ◌+◌, ◌≤◌, ◌<◌, length};
 ghost use Rattle.print.specs.Print.{Wrote, decimal};
 
-// Writes one byte.
-pub fn put(out: &mut [u8], at: usize, b: u8) -> usize
+// Writes one element.
+pub fn put<T: Copy>(out: &mut [T], at: usize, x: T) -> usize
     requires { at < length out.old }
-    ensures { Wrote out.old at (b ∷ []) result out.new }
+    ensures { Wrote out.old at (x ∷ []) result out.new }
 {
-    out[at] = b;
+    out[at] = x;
     at + 1
 }
 

@@ -1,11 +1,10 @@
 -- Where a search by number leads to is in the text, and so are a partner and the ranges of the innermost pair. Assumes nothing.
-use Rattle.lists.proofs.Kit.{◌≡◌, refl, sym, subst, List, Bool, true, false, cond, ℕ, ◌≤◌, arith, eqb, eqb-true}
+use Rattle.lists.proofs.Kit.{◌≡◌, refl, sym, subst, List, Bool, true, false, cond, ℕ, ◌≤◌, arith, eqb, eqb-true, Option, Some, None}
+use Rattle.motions.specs.declared.Move.{Move}
 use Rattle.chars.specs.Scalar.{is_scalar}
 use Rattle.text.specs.Text.{row_at, row_len}
-use Rattle.row_search.specs.declared.Found.{Found as Spotted}
-use Rattle.row_search.specs.declared.Found.TheVariants.{At, Nothing}
 use Rattle.bracket_walks.specs.declared.Partner.{Partner}
-use Rattle.bracket_walks.specs.declared.Partner.TheVariants.{There, None, Refused as Partner-as-Refused}
+use Rattle.bracket_walks.specs.declared.Partner.TheVariants.{There, None as Partner-as-None, Refused as Partner-as-Refused}
 use Rattle.brackets.specs.Matching.{matching_bracket_pos}
 use Rattle.bracket_kinds.specs.declared.Kind.{Kind}
 use Rattle.bracket_kinds.specs.declared.Kind.TheVariants.{Round, Square, Curly, Angle}
@@ -26,7 +25,6 @@ use Rattle.motions.specs.declared.Sought.{Sought}
 use Rattle.motions.specs.declared.Sought.TheVariants.{Found, Missing, Refused as Sought-as-Refused}
 use Rattle.motions.specs.Carets.{here, Inside, refusal_of, cleared}
 use Rattle.motions.specs.Finds.{match_bracket, find_char_on_line, seeking, lands_on}
-use Rattle.call_texts.specs.declared.Asked.{Asked}
 use Rattle.call_texts.specs.Asks.{seek_as}
 use Rattle.call_texts.specs.Seeks.{seek_of, seek}
 use Rattle.call_texts.specs.Inners.{inner_by}
@@ -65,10 +63,10 @@ module _ (t : List ℕ) where
         go (Sought-as-Refused f) e = tt
 
     -- at a column of the row, or where the caret was
-    found_sits : (f : Spotted) → ((i : ℕ) → f ≡ At i → i ≤ row_len t k.row) → Inside t k → Sits (lands_on k f)
+    found_sits : (f : Option ℕ) → ((i : ℕ) → f ≡ Some i → i ≤ row_len t k.row) → Inside t k → Sits (lands_on k f)
     unfolding lands_on
-    found_sits (At i) h w = (record { in_row = w.in_row; in_col = h i refl }, tt)
-    found_sits Nothing h w = stands k w
+    found_sits (Some i) h w = (record { in_row = w.in_row; in_col = h i refl }, tt)
+    found_sits None h w = stands k w
 
     find_sits : (x : ℕ) (forward till skip : Bool) → Sits (find_char_on_line t x forward till skip k)
     find_sits x forward till skip = seeking_sits (refusal_with t (here k) x) _
@@ -79,7 +77,7 @@ module _ (t : List ℕ) where
     pub seek_sits : (op x : ℕ) → Sits (seek op x k t)
     unfolding seek seek_of seek_as
     seek_sits op x =
-        let P : Asked → Type 0 = λ a. Sits (seek_as a k t) in
+        let P : Option Move → Type 0 = λ a. Sits (seek_as a k t) in
         either P (eqb op 0) _ _ key_sits (either P (eqb op 1) _ _ (find_sits x false false false) (either P (eqb op 2) _ _ (find_sits x true false false)
         (either P (eqb op 3) _ _ (find_sits x false true false) (either P (eqb op 4) _ _ (find_sits x true true false)
         (either P (eqb op 5) _ _ (find_sits x false false true) (either P (eqb op 6) _ _ (find_sits x true false true)
@@ -93,7 +91,7 @@ module _ (t : List ℕ) where
       go (There q) e =
           let by_unique = ((unique t (call_accepted t row col q e)).told (record { row = row; col = col }) q e).to in
           (record { in_row = by_unique.in_row; in_col = omega (arith, by_unique.in_col) }, tt)
-      go None e = tt
+      go Partner-as-None e = tt
       go (Partner-as-Refused f) e = tt
 
 -- the ranges of a pair

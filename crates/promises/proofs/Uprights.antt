@@ -1,5 +1,6 @@
 -- What up, down and the screen moves write stands in the text, and the last position written is that of the answer. Assumes nothing.
-use Rattle.lists.proofs.Kit.{ap, List, [], ◌∷◌, Bool, true, false, cond, ◌||◌, ℕ, max, eqb, leb}
+use Rattle.lists.proofs.Kit.{ap, List, [], ◌∷◌, Bool, true, false, cond, ◌||◌, ℕ, max, eqb, leb, Option}
+use Rattle.motions.specs.declared.Move.{Move}
 use Rattle.chars.specs.White.{is_white}
 use Rattle.widths.specs.declared.Ambiguous.{Ambiguous}
 use Rattle.widths.specs.Widths.{width_as}
@@ -21,7 +22,6 @@ use Rattle.motions.proofs.Landing.{moving_to}
 use Rattle.motions.proofs.Reaching.{own, rows_lands}
 use Rattle.call_rows.specs.Flags.{setting_of, plain_of}
 use Rattle.call_rows.specs.Wraps.{mode_of}
-use Rattle.call_texts.specs.declared.Asked.{Asked}
 use Rattle.call_texts.specs.Asks.{move_as}
 use Rattle.call_folds.specs.Upright.{upright_of, upright, vertical}
 use Rattle.promises.specs.Positions.{standing}
@@ -75,10 +75,10 @@ module _ (t : List ℕ) (k : Caret) (n : ℕ) (folds : List ℕ) (tabstop : ℕ)
   upright_keeps mode width op =
       let setting = setting_of op in
       let plain = plain_of op in
-      let answer : Asked → Moved = λ m. move_as m n k t folds [] tabstop in
+      let answer : Option Move → Moved = λ m. move_as m n k t folds [] tabstop in
       both t answer (eqb plain 0) (rows_once setting false) (both t answer (eqb plain 1) (rows_once setting true)
       (both t answer (eqb plain 2) (by_screen setting mode width false)
-      (either (λ (m : Asked). Keeps t (answer m) (screen_moves setting mode width true n k t folds)) (eqb plain 3) _ _ (by_screen setting mode width true)
+      (either (λ (m : Option Move). Keeps t (answer m) (screen_moves setting mode width true n k t folds)) (eqb plain 3) _ _ (by_screen setting mode width true)
       (refused t 100 _))))
 
   pub vertical_keeps : (op mode width : ℕ) → Keeps t (vertical op mode width n tabstop k t folds) (upright_writes op (mode_of mode) width n k t folds)

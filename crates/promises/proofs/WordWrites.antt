@@ -1,5 +1,6 @@
 -- What a word motion writes stands in the text, and the last position written is that of its answer, by either kind of list. Assumes nothing.
-use Rattle.lists.proofs.Kit.{◌≡◌, refl, List, [], ◌∷◌, Bool, true, false, cond, ℕ, arith, eqb, eqb-true}
+use Rattle.lists.proofs.Kit.{◌≡◌, refl, List, [], ◌∷◌, Bool, true, false, cond, ℕ, arith, eqb, eqb-true, Option}
+use Rattle.motions.specs.declared.Move.{Move}
 use Rattle.text.specs.Text.{position}
 use Rattle.text.specs.declared.Position.{Position}
 use Rattle.list_tokens.specs.Tokens.{in_list}
@@ -17,10 +18,8 @@ use Rattle.vim_reader.specs.declared.VimRead.{VimRead}
 use Rattle.vim_reader.specs.Table.{read_of}
 use Rattle.vim_words.specs.declared.VimMoved.TheVariants.{To as VimMoved-as-To, Bad, Refused as VimMoved-as-Refused}
 use Rattle.vim_words.specs.ByVim.{in_vim_list, by_read, word_by_vim}
-use Rattle.call_texts.specs.declared.Asked.{Asked}
 use Rattle.call_texts.specs.Asks.{move_as}
 use Rattle.call_folds.specs.Terms.{word_of, word}
-use Rattle.call_classes.specs.declared.Term.{Term}
 use Rattle.call_classes.specs.ByTerm.{term_of}
 use Rattle.call_vim_words.specs.ByTerm.{by_vim_term}
 use Rattle.promises.specs.Positions.{placeless, word_vim}
@@ -68,10 +67,10 @@ module _ (t : List ℕ) (k : Caret) (n : ℕ) where
     pub term_keeps : (op : ℕ) (folds : List ℕ) → Keeps t (word op big n k t folds list) (λ c. term_writes op big n k t folds (kind_of (in_list list) big))
     unfolding word word_of move_as term_writes
     term_keeps op folds =
-        let answer : Asked → Moved = λ a. move_as a n k t folds list 0 in
+        let answer : Option Move → Moved = λ a. move_as a n k t folds list 0 in
         both t answer (eqb op 0) (by_words folds Fwd false) (both t answer (eqb op 1) (by_words folds Back false)
         (both t answer (eqb op 2) (by_words folds End false) (both t answer (eqb op 3) (by_words folds End true) (either
-        (λ (a : Asked). Keeps t (answer a) (λ c. wrote (in_list list) big [] EndBack false)) (eqb op 4) _ _ (by_words [] EndBack false) (refused t 100 _)))))
+        (λ (a : Option Move). Keeps t (answer a) (λ c. wrote (in_list list) big [] EndBack false)) (eqb op 4) _ _ (by_words [] EndBack false) (refused t 100 _)))))
 
     -- by a Vim list: a caret is answered only where text, caret and folds are accepted, and the list is read
     by_vim_words : (folds : List ℕ) (m : Motion) (stop : Bool) →
@@ -85,7 +84,7 @@ module _ (t : List ℕ) (k : Caret) (n : ℕ) where
     pub vim_keeps : (op : ℕ) (folds : List ℕ) → Keeps t (word_vim op big n k t folds list) (λ c. term_writes op big n k t folds (kind_of (in_vim_list list) big))
     unfolding term_of by_vim_term term_writes
     vim_keeps op folds =
-        let answer : Term → Moved = λ a. placeless (by_vim_term a big n k t folds list) in
+        let answer : Option (Motion × Bool) → Moved = λ a. placeless (by_vim_term a big n k t folds list) in
         both t answer (eqb op 0) (by_vim_words folds Fwd false) (both t answer (eqb op 1) (by_vim_words folds Back false)
         (both t answer (eqb op 2) (by_vim_words folds End false) (both t answer (eqb op 3) (by_vim_words folds End true) (either
-        (λ (a : Term). Keeps t (answer a) (λ c. wrote (in_vim_list list) big [] EndBack false)) (eqb op 4) _ _ (by_vim_words [] EndBack false) (refused t 100 _)))))
+        (λ (a : Option (Motion × Bool)). Keeps t (answer a) (λ c. wrote (in_vim_list list) big [] EndBack false)) (eqb op 4) _ _ (by_vim_words [] EndBack false) (refused t 100 _)))))

@@ -1,7 +1,6 @@
 -- The moves whose counts add, document 02's #109 and #110, and the move and the caret of the second call. Cited by `specs/CountsAdd.antt`. Definitions
 -- only. Assumes nothing.
-use Rattle.std.specs.Prelude.{false}
-use Rattle.vertical.specs.declared.Sticky.TheVariants.{Absent}
+use Rattle.std.specs.Prelude.{false, None}
 use Rattle.text_moves.specs.declared.Way.{Way}
 use Rattle.text_moves.specs.declared.Way.TheVariants as way
 use Rattle.motions.specs.declared.Caret.{Caret}
@@ -60,4 +59,4 @@ abbrev pub whole : Caret → Caret
 whole k = k
 
 abbrev pub dropped : Caret → Caret
-dropped k = caret_at k.row k.col Absent
+dropped k = caret_at k.row k.col None

@@ -1,8 +1,7 @@
 -- The % key, over what `match_bracket` answers: it lands on the partner of a round, square or curly bracket at or after the caret in the
 -- caret's row. From document 01, "What every public promise has to say". Definitions only; `key` is in `proofs/KeyMoves.antt`. Assumes nothing.
-use Rattle.std.specs.Prelude.{ℕ, ◌≡◌, List}
+use Rattle.std.specs.Prelude.{ℕ, ◌≡◌, List, None}
 use Rattle.bracket_laws.specs.Jump.{pos_at, Lands, Stays}
-use Rattle.screen.specs.declared.Offset.TheVariants.{Absent}
 use Rattle.motions.specs.declared.Caret.{Caret}
 use Rattle.motions.specs.declared.Sought.TheVariants.{Found, Missing, Refused}
 use Rattle.motions.specs.Carets.{here, refusal_of, cleared}
@@ -13,7 +12,7 @@ pub record OnPartner (t : List ℕ) (k k' : Caret) : Type 0 where
   pub accepted : refusal_of t k ≡ 0
   pub partner : Lands t k.row k.col (pos_at k'.row k'.col)
   pub sticky_kept : k'.sticky ≡ k.sticky
-  pub offset_cleared : k'.offset ≡ Absent
+  pub offset_cleared : k'.offset ≡ None
 
 -- no check refuses the call, there is no such bracket or the first has no partner, and the caret is as it was, but for its offset
 pub record AsItWas (t : List ℕ) (k k' : Caret) : Type 0 where

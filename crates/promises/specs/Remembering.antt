@@ -1,7 +1,7 @@
 -- The offset within a segment: what the screen moves that remember do with it, and that every other motion clears it. Document 02, #110, over what the
 -- public calls answer (`moved_by`). Their counts add by `specs/CountsAdd.antt`. Definitions only; `remembering` is in `proofs/Remembering.antt`. Assumes
 -- nothing.
-use Rattle.std.specs.Prelude.{ℕ, max, ◌≡◌, List, Bool, true, false, ◌||◌, eqb}
+use Rattle.std.specs.Prelude.{ℕ, max, ◌≡◌, List, Bool, true, false, ◌||◌, eqb, Some, None}
 use Rattle.lists.specs.Rounds.{rounds}
 use Rattle.chars.specs.White.{is_white}
 use Rattle.widths.specs.declared.Ambiguous.{Ambiguous}
@@ -11,7 +11,6 @@ use Rattle.row_wrap.specs.Modes.{is_none, segments_of}
 use Rattle.text.specs.Text.{row_at}
 use Rattle.text.specs.declared.Position.{Position}
 use Rattle.screen_segments.specs.Parts.{offset_in}
-use Rattle.screen.specs.declared.Offset.TheVariants.{Absent, At}
 use Rattle.screen.specs.Screen.{step_screen, jumped}
 use Rattle.motions.specs.declared.Caret.{Caret}
 use Rattle.motions.specs.declared.Move.{Move}
@@ -48,17 +47,17 @@ own_offset a t mode width p = offset_in (segments_of (width_as a) is_white mode 
 -- on one text, folds, list and tabstop, by one viewport, direction and setting, with any count n
 pub record Remembering (t folds list : List ℕ) (tabstop n : ℕ) (k : Caret) : Type 0 where
   -- every other motion that is not refused leaves no offset, moved or not
-  pub others : (move : Move) → Forgets move → (c : Caret) → moved_by t folds list tabstop move n k ≡ To c → c.offset ≡ Absent
+  pub others : (move : Move) → Forgets move → (c : Caret) → moved_by t folds list tabstop move n k ≡ To c → c.offset ≡ None
   -- without an offset: the row, column, sticky column and refusals of `gj` and `gk`
-  pub as_before : (a : Ambiguous) (mode : Wrap) (width : ℕ) (down : Bool) → k.offset ≡ Absent →
+  pub as_before : (a : Ambiguous) (mode : Wrap) (width : ℕ) (down : Bool) → k.offset ≡ None →
       forgotten (moved_by t folds list tabstop (ScreenKept mode width down a) n k) ≡ moved_by t folds list tabstop (Screen mode width down a) n k
   -- and the offset is set, whether or not a step was made: the one in its segment of the place that leaving a closed fold leads to
-  pub set : (a : Ambiguous) (mode : Wrap) (width : ℕ) (down : Bool) (c : Caret) → unbroken mode width ≡ false → k.offset ≡ Absent →
-      moved_by t folds list tabstop (ScreenKept mode width down a) n k ≡ To c → c.offset ≡ At (own_offset a t mode width (jumped t folds down (here k)))
+  pub set : (a : Ambiguous) (mode : Wrap) (width : ℕ) (down : Bool) (c : Caret) → unbroken mode width ≡ false → k.offset ≡ None →
+      moved_by t folds list tabstop (ScreenKept mode width down a) n k ≡ To c → c.offset ≡ Some (own_offset a t mode width (jumped t folds down (here k)))
   -- with one: it is kept, and the steps start from the caret itself
-  pub kept : (a : Ambiguous) (mode : Wrap) (width : ℕ) (down : Bool) (x : ℕ) (c : Caret) → unbroken mode width ≡ false → k.offset ≡ At x →
-      moved_by t folds list tabstop (ScreenKept mode width down a) n k ≡ To c → c.offset ≡ At x
-  pub from_itself : (a : Ambiguous) (mode : Wrap) (width : ℕ) (down : Bool) (x : ℕ) (c : Caret) → unbroken mode width ≡ false → k.offset ≡ At x →
+  pub kept : (a : Ambiguous) (mode : Wrap) (width : ℕ) (down : Bool) (x : ℕ) (c : Caret) → unbroken mode width ≡ false → k.offset ≡ Some x →
+      moved_by t folds list tabstop (ScreenKept mode width down a) n k ≡ To c → c.offset ≡ Some x
+  pub from_itself : (a : Ambiguous) (mode : Wrap) (width : ℕ) (down : Bool) (x : ℕ) (c : Caret) → unbroken mode width ≡ false → k.offset ≡ Some x →
       moved_by t folds list tabstop (ScreenKept mode width down a) n k ≡ To c →
       here c ≡ rounds (step_screen t folds (segments_of (width_as a) is_white mode width) down x) (max n 1) (here k)
   -- with mode None or width 0: as `j` and `k`, whose caret has no offset

@@ -1,7 +1,5 @@
 -- Laws of the verdicts of rows and of counting them. Assumes nothing.
-use Rattle.lists.proofs.Kit.{◌≡◌, refl, ap, sym, ◌∙◌, List, ℕ, ◌+◌, ◌-◌, ◌≤◌, ◌<◌, arith, length, take, drop, drop_of_length-le}
-use Rattle.replay_rows.specs.declared.Numbers.{Numbers}
-use Rattle.replay_rows.specs.declared.Numbers.TheVariants.{Count, Malformed as Numbers-as-Malformed}
+use Rattle.lists.proofs.Kit.{◌≡◌, refl, ap, sym, ◌∙◌, List, ℕ, ◌+◌, ◌-◌, ◌≤◌, ◌<◌, arith, length, take, drop, drop_of_length-le, Option, Some, None}
 use Rattle.replay_verdicts.specs.declared.Tally.{Tally}
 use Rattle.replay_verdicts.specs.declared.Verdict.{Verdict}
 use Rattle.replay_verdicts.specs.declared.Verdict.TheVariants.{Malformed}
@@ -13,15 +11,15 @@ use Rattle.replay.specs.Cases.{verdict_of}
 use Rattle.replay.specs.Tallies.{judged, most, tallied, tally_of, Judged}
 
 -- the verdict of a row that was read
-module _ {row room room' : List ℕ} {m : Numbers} (p : RowRead row room m room') where
-  pub count_within : (n : ℕ) → m ≡ Count n → n ≤ length room'
+module _ {row room room' : List ℕ} {m : Option ℕ} (p : RowRead row room m room') where
+  pub count_within : (n : ℕ) → m ≡ Some n → n ≤ length room'
   count_within n e = rw e at p.within
 
-  pub judged_count : (n : ℕ) {v : Verdict} → m ≡ Count n → v ≡ verdict_of (take n room') → Judged row room v room'
+  pub judged_count : (n : ℕ) {v : Verdict} → m ≡ Some n → v ≡ verdict_of (take n room') → Judged row room v room'
   unfolding judged
   judged_count n e q = record { verdict = q ∙ ap judged (rw e at p.numbers); kept = p.kept }
 
-  pub judged_malformed : m ≡ Numbers-as-Malformed → Judged row room Malformed room'
+  pub judged_malformed : m ≡ None → Judged row room Malformed room'
   unfolding judged
   judged_malformed e = record { verdict = ap judged (rw e at p.numbers); kept = p.kept }
 

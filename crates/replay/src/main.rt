@@ -8,9 +8,6 @@ mod calls;
 mod cases;
 mod tallies;
 
-ghost use Rattle.std.specs.Prelude.{◌<◌, ◌≤◌, IfOk, length, take};
-ghost use Rattle.std.specs.Io.KnownBytes.{Consumes, IsAtEnd};
-
 use replay_verdicts::Tally;
 use std::io;
 use std::io::{Read, Write};
@@ -37,30 +34,10 @@ fn print_tally<W: Write>(out: &mut W, t: Tally) -> io::Result<()> {
     out.write_all(b"\n")
 }
 
-// Reads until `input` is full or `from` ends, and answers how many bytes it read: they stand at the
-// start of `input`, and fewer than it has room for are all that there were. A `while`: the step
-// differs from turn to turn.
-fn read_full<R: Read>(from: &mut R, input: &mut [u8]) -> io::Result<usize>
-    ensures room { IfOk result (λ n. n ≤ length input.new) }
-    ensures bytes { IfOk result (λ n. Consumes (R.remaining from.old) (R.remaining from.new)
-        (take n input.new)) }
-    ensures end { IfOk result (λ n. n < length input.new → IsAtEnd (R.remaining from.new)) }
-{
-    let mut done = 0;
-    while done < input.len() {
-        let n = from.read(&mut input[done..])?;
-        if n == 0 {
-            break;
-        }
-        done += n;
-    }
-    Ok(done)
-}
-
 // Reads the list into `input`, which is one byte longer than a list may be, so that one that is too
 // long is seen.
 fn run<R: Read, W: Write>(from: &mut R, out: &mut W, input: &mut [u8]) -> io::Result<()> {
-    let n = read_full(from, input)?;
+    let n = full_reads::read_full(from, input)?;
     if n == input.len() {
         return out.write_all(b"the list is too long\n");
     }

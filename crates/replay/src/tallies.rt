@@ -3,7 +3,7 @@ ghost use Rattle.std.specs.Prelude.{◌≡◌};
 ghost use Rattle.replay.specs.Tallies.{tally_of, Judged};
 
 use crate::cases::verdict_of;
-use replay_rows::{Numbers, read_row, row_end};
+use replay_rows::{read_row, row_end};
 use replay_verdicts::{Tally, Verdict};
 
 // The verdict of one row, whose numbers are put into `room`.
@@ -11,8 +11,8 @@ fn row_verdict(row: &[u8], room: &mut [u32]) -> Verdict
     ensures { Judged row.now room.old result room.new }
 {
     match read_row(row, room) {
-        Numbers::Count(n) => verdict_of(&room[..n]),
-        Numbers::Malformed => Verdict::Malformed,
+        Some(n) => verdict_of(&room[..n]),
+        None => Verdict::Malformed,
     }
 }
 

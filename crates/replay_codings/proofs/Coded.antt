@@ -1,10 +1,10 @@
 -- Laws of bytes as numbers, and of what a call on UTF-8 comes to. Assumes nothing.
 use Rattle.lists.proofs.Kit.{◌≡◌, refl, sym, ◌∙◌, List, [], ◌∷◌, Bool, true, false, cond, ℕ, ◌+◌, ◌/◌, ◌%◌, ◌<◌, add-one, arith, length, get_or, take, set}
 use Rattle.lists.proofs.Kit.{replicate, take-suc, take-suc-set, ltb}
-use Rattle.utf8.specs.declared.Decoded.{Decoded}
-use Rattle.utf8.specs.declared.Decoded.TheVariants.{Text, Bad, Refused}
-use Rattle.utf8.specs.declared.Encoded.{Encoded}
-use Rattle.utf8.specs.declared.Encoded.TheVariants.{Bytes, Refused as Encoded-as-Refused}
+use Rattle.std.proofs.Common.{Result, Ok, Err}
+use Rattle.utf8.specs.declared.DecodeError.{DecodeError}
+use Rattle.utf8.specs.declared.DecodeError.TheVariants.{Bad, NoRoom}
+use Rattle.utf8.specs.declared.EncodeError.{EncodeError}
 use Rattle.utf8.specs.Decoding.{decoding}
 use Rattle.utf8.specs.Calls.{decoded, encoded, encoded_in}
 use Rattle.call_bytes.specs.Reply.{Replied, refused, left}
@@ -26,20 +26,20 @@ pub decoded_single : (b points : List ℕ) → left (decodes b points) (filler �
 unfolding decodes told_decoded
 decoded_single b points = go (ltb 4294967295 (length b)) (decoded (decoding b) (length points))
   where
-    go : (c : Bool) (d : Decoded) →
+    go : (c : Bool) (d : Result ℕ DecodeError) →
         left (cond c (refused 103) (told_decoded d)) (filler ∷ []) ≡ get_or (left (cond c (refused 103) (told_decoded d)) (filler ∷ [])) 0 0 ∷ []
     go true d = refl
-    go false (Text n) = refl
-    go false (Bad p) = refl
-    go false (Refused f) = refl
+    go false (Ok n) = refl
+    go false (Err (Bad at)) = refl
+    go false (Err NoRoom) = refl
 
 pub encoded_single : (t bytes : List ℕ) → left (encodes t bytes) (filler ∷ []) ≡ get_or (left (encodes t bytes) (filler ∷ [])) 0 0 ∷ []
 unfolding told_encoded
 encoded_single t bytes = go (encoded t (length bytes))
   where
-    go : (d : Encoded) → left (told_encoded d) (filler ∷ []) ≡ get_or (left (told_encoded d) (filler ∷ [])) 0 0 ∷ []
-    go (Bytes n) = refl
-    go (Encoded-as-Refused f) = refl
+    go : (d : Result ℕ EncodeError) → left (told_encoded d) (filler ∷ []) ≡ get_or (left (told_encoded d) (filler ∷ [])) 0 0 ∷ []
+    go (Ok n) = refl
+    go (Err e) = refl
 
 -- what is compared is what the definitions give
 pub decoded_compared : (b points stored : List ℕ) {r : ℕ} {out : List ℕ} {v : Verdict} → Replied (decodes b points) (replicate 1 filler) r out →

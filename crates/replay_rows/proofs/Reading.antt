@@ -1,10 +1,9 @@
 -- Laws of reading a row of numbers, byte by byte, and of where a row ends. Long by the kinds of bytes: a law for each. Assumes nothing.
-use Rattle.lists.proofs.Kit.{◌≡◌, refl, ap, sym, ◌∙◌, List, [], ◌++◌, append_assoc, append-nil, Bool, true, false, cond, ◌&&◌, ◌||◌, ℕ, suc, ◌+◌, ◌-◌, ◌≤◌, ◌<◌}
+use Rattle.lists.proofs.Kit.{◌≡◌, refl, ap, sym, ◌∙◌, List, [], ◌++◌, append_assoc, append-nil, Bool, true, false, cond, ◌&&◌, ◌||◌, ℕ, suc, ◌+◌, ◌-◌, ◌≤◌, ◌<◌, Some, None}
 use Rattle.lists.proofs.Kit.{arith, length, get_or, take, drop, replicate, length-replicate, drop_of_length-le, paste}
 use Rattle.lists.proofs.Kit.{take-paste, length-paste, take_all, le-leb, lt-leb, ne_eqb}
 use Rattle.lists.proofs.Lists.{drop_at}
 use Rattle.replay_rows.specs.declared.Reader.{Reader}
-use Rattle.replay_rows.specs.declared.Numbers.TheVariants.{Count, Malformed}
 use Rattle.replay_rows.specs.Rows.{Read, these, malformed, onto, ends, step, fresh, read_from, read_row, RowRead, Filled, row_length}
 
 -- all places are filled
@@ -81,11 +80,11 @@ reading_start row room =
     record { inside = omega arith; kept = refl; within = omega arith; so_far = rw size_less_zero (sym (onto_nil _)) }
 
 module _ {row room₀ room : List ℕ} {n : ℕ} {r : Reader} {i : ℕ} (so : Reading row room₀ room n r i) where
-  pub reading_malformed : read_from (length room₀ - n) r (drop i row) ≡ malformed → RowRead row room₀ Malformed room
+  pub reading_malformed : read_from (length room₀ - n) r (drop i row) ≡ malformed → RowRead row room₀ None room
   unfolding onto
   reading_malformed e = record { numbers = sym (so.so_far ∙ ap (onto (take n room)) e); kept = so.kept; within = omega arith }
 
-  pub reading_whole : read_from (length room₀ - n) r (drop i row) ≡ these [] → RowRead row room₀ (Count n) room
+  pub reading_whole : read_from (length room₀ - n) r (drop i row) ≡ these [] → RowRead row room₀ (Some n) room
   unfolding onto
   reading_whole e =
       let by_append_nil = so.so_far ∙ ap (onto (take n room)) e ∙ ap these (append-nil (take n room)) in

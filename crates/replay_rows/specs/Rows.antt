@@ -1,13 +1,11 @@
 -- Rows of decimal numbers: each number is followed by a space, the last one by the row's end, and `3*97` is 97 three times. What the contracts of
 -- `replay_rows::rows` cite. Definitions only; the laws are in `proofs/Reading.antt`. Long, since a reader by bytes and the fills by numbers speak of
 -- each other. Assumes nothing.
-use Rattle.std.specs.Prelude.{ℕ, suc, ◌+◌, ◌-◌, ◌*◌, ◌≤◌, ◌≡◌, List, [], ◌∷◌, ◌++◌, Bool, true, false, cond, ◌&&◌, ◌||◌, not, length, take, replicate, eqb, ltb, leb}
+use Rattle.std.specs.Prelude.{ℕ, suc, ◌+◌, ◌-◌, ◌*◌, ◌≤◌, ◌≡◌, List, [], ◌∷◌, ◌++◌, Bool, true, false, cond, ◌&&◌, ◌||◌, not, length, take, replicate, eqb, ltb, leb, Option, Some, None}
 use Rattle.std.proofs.Math.Seq.{paste}
 use Rattle.lists.specs.Lists.{on_first}
 use Rattle.lists.specs.Codes.{is_digit}
 use Rattle.replay_rows.specs.declared.Reader.{Reader}
-use Rattle.replay_rows.specs.declared.Numbers.{Numbers}
-use Rattle.replay_rows.specs.declared.Numbers.TheVariants.{Count, Malformed}
 
 -- before a number's first digit
 abbrev pub fresh : Reader
@@ -58,17 +56,17 @@ abbrev pub read_row : ℕ → List ℕ → Read
 read_row most row = read_from most fresh row
 
 -- the numbers that stand at the front of the room
-abbrev pub got : Numbers → List ℕ → Read
-got (Count n) room = these (take n room)
-got Malformed room = malformed
+abbrev pub got : Option ℕ → List ℕ → Read
+got (Some n) room = these (take n room)
+got None room = malformed
 
 -- how many they are
-abbrev pub count_of : Numbers → ℕ
-count_of (Count n) = n
-count_of Malformed = 0
+abbrev pub count_of : Option ℕ → ℕ
+count_of (Some n) = n
+count_of None = 0
 
 -- what `read_row` answers and leaves
-pub record RowRead (row room : List ℕ) (r : Numbers) (room' : List ℕ) : Type 0 where
+pub record RowRead (row room : List ℕ) (r : Option ℕ) (room' : List ℕ) : Type 0 where
   pub numbers : got r room' ≡ read_row (length room) row
   pub kept : length room' ≡ length room
   pub within : count_of r ≤ length room'

@@ -23,13 +23,6 @@ pub struct Head {
     pub h: u32,
 }
 
-// How many numbers a row has.
-#[derive(Clone, Copy)]
-pub enum Numbers {
-    Count(usize),
-    Malformed,
-}
-
 // A number that is being read: its value so far, how often it stands there, whether it has digits,
 // whether it came after a `*`, and whether all of that was well formed.
 #[derive(Clone, Copy)]

@@ -6,7 +6,7 @@ ghost use Rattle.replay_rows.specs.Rows.{fresh as fresh_of, spoilt as spoilt_of}
 ghost use Rattle.replay_rows.specs.Rows.{digit as digit_of, star as star_of};
 ghost use Rattle.replay_rows.specs.Rows.{step as Rows-step};
 
-use crate::{Numbers, Reader};
+use crate::Reader;
 
 // Before the first digit.
 fn fresh() -> Reader
@@ -96,7 +96,7 @@ fn fill(room: &mut [u32], from: usize, times: usize, x: u32)
 
 // Puts the numbers of a row at the front of `room`, and answers how many they are. A row with more
 // numbers than there is room for counts as malformed.
-pub fn read_row(row: &[u8], room: &mut [u32]) -> Numbers
+pub fn read_row(row: &[u8], room: &mut [u32]) -> Option<usize>
     ensures { RowRead row.now room.old result room.new }
 {
     let mut n: usize = 0;
@@ -105,10 +105,10 @@ pub fn read_row(row: &[u8], room: &mut [u32]) -> Numbers
         if (*x == 32) | (*x == 10) {
             let times = r.times as usize;
             if !r.begun {
-                return Numbers::Malformed;
+                return None;
             }
             if times > room.len() - n {
-                return Numbers::Malformed;
+                return None;
             }
             fill(room, n, times, r.value);
             n += times;
@@ -116,14 +116,14 @@ pub fn read_row(row: &[u8], room: &mut [u32]) -> Numbers
         } else {
             r = r.step(*x);
             if !r.ok {
-                return Numbers::Malformed;
+                return None;
             }
         }
     }
     if r.begun | r.many {
-        return Numbers::Malformed;
+        return None;
     }
-    Numbers::Count(n)
+    Some(n)
 }
 
 // Past the end of the row that begins at `at`.

@@ -4,16 +4,18 @@
 #![tactic(auto)]
 
 ghost use Rattle.std.specs.Prelude.{◌≡◌, ◌≤◌, length};
-ghost use Rattle.chars.specs.Width.{width_by, Widths};
+ghost use Rattle.chars.specs.Width.{Measures, width_with};
 ghost use Rattle.row_cells.specs.Cells.{Cells, Fitting};
 ghost use Rattle.row_cells.specs.Offsets.{cells_in};
 
+use chars::Measure;
+
 // The cells of x: its width, and at least one.
-pub fn cells_of(zeros: &[u32], doubles: &[u32], x: u32) -> u32
-    requires { Widths zeros.now doubles.now }
-    ensures { Cells (width_by zeros.now doubles.now) x result }
+pub fn cells_of(by: Measure<'_>, x: u32) -> u32
+    requires { Measures by }
+    ensures { Cells (width_with by.entry) x result }
 {
-    let width = chars::width_in(zeros, doubles, x);
+    let width = chars::width_in(by, x);
     if width == 0 {
         return 1;
     }
@@ -22,14 +24,14 @@ pub fn cells_of(zeros: &[u32], doubles: &[u32], x: u32) -> u32
 
 // How many characters of the row's start go into `room` cells. What is left is counted down, so
 // that no sum can pass the largest number.
-pub fn fitting(zeros: &[u32], doubles: &[u32], row: &[u32], room: u32) -> usize
-    requires { Widths zeros.now doubles.now }
-    ensures { Fitting (width_by zeros.now doubles.now) room
+pub fn fitting(by: Measure<'_>, row: &[u32], room: u32) -> usize
+    requires { Measures by }
+    ensures { Fitting (width_with by.entry) room
         row.now result }
 {
     let mut left = room;
     for (i, x) in row.iter().enumerate() {
-        let cells = cells_of(zeros, doubles, *x);
+        let cells = cells_of(by, *x);
         if cells > left {
             return i;
         }
@@ -39,14 +41,14 @@ pub fn fitting(zeros: &[u32], doubles: &[u32], row: &[u32], room: u32) -> usize
 }
 
 // The cells of all characters of a row: at most 4 each, so the sum fits.
-pub fn cells_in(zeros: &[u32], doubles: &[u32], row: &[u32]) -> u32
-    requires { Widths zeros.now doubles.now × (length row.now ≤ 1048576) }
-    ensures { result ≡ cells_in (width_by zeros.now doubles.now)
+pub fn cells_in(by: Measure<'_>, row: &[u32]) -> u32
+    requires { Measures by × (length row.now ≤ 1048576) }
+    ensures { result ≡ cells_in (width_with by.entry)
         row.now }
 {
     let mut sum: u32 = 0;
     for x in row {
-        sum += cells_of(zeros, doubles, *x);
+        sum += cells_of(by, *x);
     }
     sum
 }

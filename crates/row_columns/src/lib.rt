@@ -5,7 +5,7 @@
 #![tactic(auto)]
 
 ghost use Rattle.std.specs.Prelude.{◌≡◌};
-ghost use Rattle.chars.specs.Width.{width_by};
+ghost use Rattle.chars.specs.Width.{width_with};
 ghost use Rattle.row_columns.specs.Columns.{visual_from, char_from, cursor_from};
 ghost use Rattle.row_columns.specs.Columns.{visual_col, char_col, cursor_col};
 ghost use Rattle.widths.specs.Widths.{width_as};
@@ -13,14 +13,15 @@ ghost use Rattle.row_columns.specs.Calls.{visual_col_to_char_col, char_col_to_vi
 ghost use Rattle.row_columns.specs.Calls.{cursor_visual_col, column_by, column_as};
 ghost use Rattle.row_columns.specs.Ready.{Fits, Lent, Ready};
 
+use chars::Measure;
 use row_check::Column;
 use row_tabs::{cell_width, refused, stop_of};
 use widths::Ambiguous;
 
 // The visual column of character `col`, or the row's width where it has no such character.
-fn visual_at(zeros: &[u32], doubles: &[u32], row: &[u32], col: usize, tab: u32) -> u32
-    requires { Ready zeros.now doubles.now row.now tab }
-    ensures { result ≡ visual_from (width_by zeros.now doubles.now)
+fn visual_at(by: Measure<'_>, row: &[u32], col: usize, tab: u32) -> u32
+    requires { Ready by row.now tab }
+    ensures { result ≡ visual_from (width_with by.entry)
         tab 0 row.now col }
 {
     let mut visual: u32 = 0;
@@ -28,21 +29,21 @@ fn visual_at(zeros: &[u32], doubles: &[u32], row: &[u32], col: usize, tab: u32) 
         if i == col {
             return visual;
         }
-        visual += cell_width(zeros, doubles, *x, visual, tab);
+        visual += cell_width(by, *x, visual, tab);
     }
     visual
 }
 
 // The character whose cells hold visual column `target`, or the row's count. A character with no
 // cells never holds one, so it is passed over.
-fn char_at(zeros: &[u32], doubles: &[u32], row: &[u32], target: u32, tab: u32) -> u32
-    requires { Ready zeros.now doubles.now row.now tab }
-    ensures { result ≡ char_from (width_by zeros.now doubles.now)
+fn char_at(by: Measure<'_>, row: &[u32], target: u32, tab: u32) -> u32
+    requires { Ready by row.now tab }
+    ensures { result ≡ char_from (width_with by.entry)
         tab 0 row.now target }
 {
     let mut visual: u32 = 0;
     for (i, x) in row.iter().enumerate() {
-        let next = visual + cell_width(zeros, doubles, *x, visual, tab);
+        let next = visual + cell_width(by, *x, visual, tab);
         if next > target {
             return i as u32;
         }
@@ -52,48 +53,48 @@ fn char_at(zeros: &[u32], doubles: &[u32], row: &[u32], target: u32, tab: u32) -
 }
 
 // The visual column in which a cursor on character `col` is drawn.
-fn cursor_at(zeros: &[u32], doubles: &[u32], row: &[u32], col: usize, tab: u32) -> u32
-    requires { Ready zeros.now doubles.now row.now tab }
-    ensures { result ≡ cursor_from (width_by zeros.now doubles.now)
+fn cursor_at(by: Measure<'_>, row: &[u32], col: usize, tab: u32) -> u32
+    requires { Ready by row.now tab }
+    ensures { result ≡ cursor_from (width_with by.entry)
         tab row.now col }
 {
     if col >= row.len() {
-        return visual_at(zeros, doubles, row, col, tab);
+        return visual_at(by, row, col, tab);
     }
     if row[col] == 9 {
-        return visual_at(zeros, doubles, row, col + 1, tab) - 1;
+        return visual_at(by, row, col + 1, tab) - 1;
     }
-    visual_at(zeros, doubles, row, col, tab)
+    visual_at(by, row, col, tab)
 }
 
 // `visual_col_to_char_col` of a row that was accepted, by the tables that are lent.
-pub fn char_col_in(zeros: &[u32], doubles: &[u32], row: &[u32], visual: u32, tabstop: u32) -> u32
-    requires { Lent zeros.now doubles.now row.now tabstop }
-    ensures { result ≡ char_col (width_by zeros.now doubles.now)
+pub fn char_col_in(by: Measure<'_>, row: &[u32], visual: u32, tabstop: u32) -> u32
+    requires { Lent by row.now tabstop }
+    ensures { result ≡ char_col (width_with by.entry)
         tabstop row.now visual }
 {
     if visual == 0 {
         return 0;
     }
-    char_at(zeros, doubles, row, visual, stop_of(tabstop))
+    char_at(by, row, visual, stop_of(tabstop))
 }
 
 // `char_col_to_visual_col` of such a row.
-fn visual_col_in(zeros: &[u32], doubles: &[u32], row: &[u32], col: usize, tabstop: u32) -> u32
-    requires { Lent zeros.now doubles.now row.now tabstop }
-    ensures { result ≡ visual_col (width_by zeros.now doubles.now)
+fn visual_col_in(by: Measure<'_>, row: &[u32], col: usize, tabstop: u32) -> u32
+    requires { Lent by row.now tabstop }
+    ensures { result ≡ visual_col (width_with by.entry)
         tabstop row.now col }
 {
-    visual_at(zeros, doubles, row, col, stop_of(tabstop))
+    visual_at(by, row, col, stop_of(tabstop))
 }
 
 // `cursor_visual_col` of such a row.
-pub fn cursor_col_in(zeros: &[u32], doubles: &[u32], row: &[u32], col: usize, tabstop: u32) -> u32
-    requires { Lent zeros.now doubles.now row.now tabstop }
-    ensures { result ≡ cursor_col (width_by zeros.now doubles.now)
+pub fn cursor_col_in(by: Measure<'_>, row: &[u32], col: usize, tabstop: u32) -> u32
+    requires { Lent by row.now tabstop }
+    ensures { result ≡ cursor_col (width_with by.entry)
         tabstop row.now col }
 {
-    cursor_at(zeros, doubles, row, col, stop_of(tabstop))
+    cursor_at(by, row, col, stop_of(tabstop))
 }
 
 // Which column is asked for.
@@ -105,47 +106,16 @@ enum Ask {
 }
 
 // The column that is asked for, of such a row.
-fn column_in(zeros: &[u32], doubles: &[u32], ask: Ask, row: &[u32], n: u32, tabstop: u32) -> u32
-    requires { Lent zeros.now doubles.now row.now tabstop }
-    ensures { result ≡ column_by (width_by zeros.now doubles.now) ask
+fn column_in(by: Measure<'_>, ask: Ask, row: &[u32], n: u32, tabstop: u32) -> u32
+    requires { Lent by row.now tabstop }
+    ensures { result ≡ column_by (width_with by.entry) ask
         tabstop row.now n }
 {
     match ask {
-        Ask::Char => char_col_in(zeros, doubles, row, n, tabstop),
-        Ask::Visual => visual_col_in(zeros, doubles, row, n as usize, tabstop),
-        Ask::Cursor => cursor_col_in(zeros, doubles, row, n as usize, tabstop),
+        Ask::Char => char_col_in(by, row, n, tabstop),
+        Ask::Visual => visual_col_in(by, row, n as usize, tabstop),
+        Ask::Cursor => cursor_col_in(by, row, n as usize, tabstop),
     }
-}
-
-// The same by the tables of each setting. A table is built where a function names it, so that each
-// setting has a function of its own.
-fn narrow_column(ask: Ask, row: &[u32], n: u32, tabstop: u32) -> u32
-    requires { Fits row.now tabstop }
-    ensures { result ≡ column_by (width_as Ambiguous.Narrow) ask tabstop row.now n }
-{
-    column_in(
-        &chars::ZERO_WIDTH,
-        &chars::DOUBLE_WIDTH,
-        ask,
-        row,
-        n,
-        tabstop,
-    )
-}
-
-// A column where characters of class A take two cells: names the table of these widths.
-fn wide_column(ask: Ask, row: &[u32], n: u32, tabstop: u32) -> u32
-    requires { Fits row.now tabstop }
-    ensures { result ≡ column_by (width_as Ambiguous.Wide) ask tabstop row.now n }
-{
-    column_in(
-        &chars::ZERO_WIDTH,
-        &widths::WIDE_DOUBLES,
-        ask,
-        row,
-        n,
-        tabstop,
-    )
 }
 
 // The column that is asked for, or what the row or the tabstop is refused for.
@@ -156,10 +126,7 @@ fn column(ask: Ask, row: &[u32], n: u32, tabstop: u32, ambiguous: Ambiguous) -> 
     if f != 0 {
         return Column::Refused(f);
     }
-    match ambiguous {
-        Ambiguous::Narrow => Column::At(narrow_column(ask, row, n, tabstop)),
-        Ambiguous::Wide => Column::At(wide_column(ask, row, n, tabstop)),
-    }
+    Column::At(widths::lend(ambiguous, |by| { column_in(by, ask, row, n, tabstop) }))
 }
 
 // The character whose cells hold visual column `visual`, or the row's count past its end.

@@ -13,18 +13,6 @@ ghost use Rattle.row_entries.specs.Entries.{entry_with, Held, HeldRow};
 use positions::Entry;
 use text::Position;
 
-// A refusal, beside which nothing is known.
-fn refused(f: u32) -> Entry
-    ensures { result ≡ refused_by f }
-{
-    Entry {
-        refusal: f,
-        start: 0,
-        rows: 0,
-        content: 0,
-    }
-}
-
 // Where a row starts, by the table.
 fn start_of(t: &[u32], starts: &[u32], rows: usize, content: u32, row: usize) -> usize
     requires { HeldRow t.now starts.now rows content row }
@@ -50,12 +38,12 @@ pub fn enter_by(t: &[u32], starts: &[u32], rows: usize, content: u32, p: Positio
     ensures { result ≡ entry_of t.now p }
 {
     if p.row >= rows {
-        return refused(4);
+        return positions::refused(4);
     }
     let start = start_of(t, starts, rows, content, p.row);
     let end = end_of(t, starts, rows, content, p.row);
     if p.col > end - start {
-        return refused(4);
+        return positions::refused(4);
     }
     Entry {
         refusal: 0,
@@ -71,7 +59,7 @@ pub fn enter_rows(t: &[u32], starts: &[u32], content: u32, p: Position) -> Entry
 {
     let f = text_check::text_refusal(t);
     if f != 0 {
-        return refused(f);
+        return positions::refused(f);
     }
     let rows = text::row_count(t);
     let g = row_table::check::table_refusal(t, rows, rows, starts, content);
@@ -82,5 +70,5 @@ pub fn enter_rows(t: &[u32], starts: &[u32], content: u32, p: Position) -> Entry
     if e.refusal != 0 {
         return e;
     }
-    refused(g)
+    positions::refused(g)
 }

@@ -1,7 +1,8 @@
 -- What the calls of `src/lib.rt` answer: the number that they are refused for, or what the definitions give by the widths of a setting.
 -- Definitions only. Assumes nothing.
 use Rattle.std.specs.Prelude.{ℕ, ◌%◌, ◌≤◌, List, cond, length, eqb}
-use Rattle.chars.specs.Width.{Widths}
+use Rattle.chars.specs.declared.Measure.{Measure}
+use Rattle.chars.specs.Width.{Measures}
 use Rattle.widths.specs.declared.Ambiguous.{Ambiguous}
 use Rattle.widths.specs.Widths.{width_as}
 use Rattle.row_check.specs.declared.Column.{Column}
@@ -27,8 +28,8 @@ abbrev pub offset_as : Ambiguous → Ask → List ℕ → ℕ → ℕ → ℕ �
 offset_as a ask row start end n = column_of (row_refusal row) (offset_by (width_as a) ask row start end n)
 
 -- what they require by the tables that are lent: the tables of widths, and a row that is not too long
-pub record RowLent (zeros doubles row : List ℕ) : Type 0 where
-  pub widths : Widths zeros doubles
+pub record RowLent (m : Measure) (row : List ℕ) : Type 0 where
+  pub widths : Measures m
   pub brief : length row ≤ 1048576
 
 -- 10: a slice of odd length

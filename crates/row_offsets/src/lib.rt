@@ -4,12 +4,13 @@
 #![tactic(auto)]
 
 ghost use Rattle.std.specs.Prelude.{◌≡◌, ◌≤◌, min, ◌&&◌, leb, ltb, length};
-ghost use Rattle.chars.specs.Width.{width_by, Widths};
+ghost use Rattle.chars.specs.Width.{Measures, width_with};
 ghost use Rattle.widths.specs.Widths.{width_as};
 ghost use Rattle.row_cells.specs.Offsets.{part, char_at_offset, segment_index};
 ghost use Rattle.row_offsets.specs.Calls.{char_col_for_visual_offset, visual_offset_for_char_col};
 ghost use Rattle.row_offsets.specs.Calls.{segment_for_col, offset_by, offset_as, RowLent};
 
+use chars::Measure;
 use row_check::Column;
 use widths::Ambiguous;
 
@@ -20,33 +21,23 @@ pub enum Segment {
     Refused(u32),
 }
 
-// The lesser of two.
-fn least(a: usize, b: usize) -> usize
-    ensures { result ≡ min a b }
-{
-    if a < b {
-        return a;
-    }
-    b
-}
-
 // The characters of the row from `start` on and before `end`, as far as it has them.
 fn part_of(row: &[u32], start: u32, end: u32) -> &[u32]
     ensures { result.now ≡ part row.now start end }
 {
-    let to = least(end as usize, row.len());
-    let from = least(start as usize, to);
+    let to = (end as usize).min(row.len());
+    let from = (start as usize).min(to);
     &row[from..to]
 }
 
 // The character of a segment that holds a cell, by the tables that are lent.
-fn char_in(zeros: &[u32], doubles: &[u32], row: &[u32], start: u32, end: u32, offset: u32) -> u32
-    requires { Widths zeros.now doubles.now }
-    ensures { result ≡ char_at_offset (width_by zeros.now doubles.now)
+fn char_in(by: Measure<'_>, row: &[u32], start: u32, end: u32, offset: u32) -> u32
+    requires { Measures by }
+    ensures { result ≡ char_at_offset (width_with by.entry)
         row.now start end offset }
 {
     let inside = part_of(row, start, end);
-    let k = row_cells::fitting(zeros, doubles, inside, offset);
+    let k = row_cells::fitting(by, inside, offset);
     if k < inside.len() {
         return start + k as u32;
     }
@@ -62,59 +53,18 @@ enum Ask {
 
 // What is asked for of the segment from `start` to `end`, by the tables that are lent. The cells
 // are those before column `n`, whatever the end.
-fn offset_in(
-    zeros: &[u32],
-    doubles: &[u32],
-    ask: Ask,
-    row: &[u32],
-    start: u32,
-    end: u32,
-    n: u32,
-) -> u32
-    requires { RowLent zeros.now doubles.now row.now }
-    ensures { result ≡ offset_by (width_by zeros.now doubles.now) ask
+fn offset_in(by: Measure<'_>, ask: Ask, row: &[u32], start: u32, end: u32, n: u32) -> u32
+    requires { RowLent by row.now }
+    ensures { result ≡ offset_by (width_with by.entry) ask
         row.now start end n }
 {
     match ask {
-        Ask::Char => char_in(zeros, doubles, row, start, end, n),
+        Ask::Char => char_in(by, row, start, end, n),
         Ask::Cells => {
             let inside = part_of(row, start, n);
-            row_cells::cells_in(zeros, doubles, inside)
+            row_cells::cells_in(by, inside)
         }
     }
-}
-
-// The same by the tables of each setting. A table is built where a function names it, so that each
-// setting has a function of its own.
-fn narrow_offset(ask: Ask, row: &[u32], start: u32, end: u32, n: u32) -> u32
-    requires { length row.now ≤ 1048576 }
-    ensures { result ≡ offset_by (width_as Ambiguous.Narrow) ask row.now start end n }
-{
-    offset_in(
-        &chars::ZERO_WIDTH,
-        &chars::DOUBLE_WIDTH,
-        ask,
-        row,
-        start,
-        end,
-        n,
-    )
-}
-
-// An offset where characters of class A take two cells: names the table of these widths.
-fn wide_offset(ask: Ask, row: &[u32], start: u32, end: u32, n: u32) -> u32
-    requires { length row.now ≤ 1048576 }
-    ensures { result ≡ offset_by (width_as Ambiguous.Wide) ask row.now start end n }
-{
-    offset_in(
-        &chars::ZERO_WIDTH,
-        &widths::WIDE_DOUBLES,
-        ask,
-        row,
-        start,
-        end,
-        n,
-    )
 }
 
 // What is asked for, or what the row is refused for.
@@ -125,10 +75,7 @@ fn offset_of(ask: Ask, row: &[u32], start: u32, end: u32, n: u32, ambiguous: Amb
     if f != 0 {
         return Column::Refused(f);
     }
-    match ambiguous {
-        Ambiguous::Narrow => Column::At(narrow_offset(ask, row, start, end, n)),
-        Ambiguous::Wide => Column::At(wide_offset(ask, row, start, end, n)),
-    }
+    Column::At(widths::lend(ambiguous, |by| { offset_in(by, ask, row, start, end, n) }))
 }
 
 // The character of the segment from `start` to `end` whose cells hold `offset`, counted in cells

@@ -1,8 +1,6 @@
 -- Laws of find on a row: where a search starts, and where it lands, in one direction or the other.
 -- Assumes nothing.
-use Rattle.lists.proofs.Kit.{◌≡◌, refl, sym, ◌∙◌, ap, List, Bool, true, false, cond, ◌&&◌, ℕ, ◌+◌, ◌-◌, ◌≤◌, ◌<◌, arith, length, ltb}
-use Rattle.row_search.specs.declared.Found.{Found}
-use Rattle.row_search.specs.declared.Found.TheVariants.{At, Nothing}
+use Rattle.lists.proofs.Kit.{◌≡◌, refl, sym, ◌∙◌, ap, List, Bool, true, false, cond, ◌&&◌, ℕ, ◌+◌, ◌-◌, ◌≤◌, ◌<◌, arith, length, ltb, Option, Some, None}
 use Rattle.row_search.specs.Find.{is, landing, start_ahead, start_back, nearest_on, stops, find_on_row}
 use Rattle.row_search.proofs.Nearest.{never}
 use Rattle.row_search.proofs.Told.{at_once, at_some, first_told, last_told}
@@ -24,38 +22,38 @@ module _ (row : List ℕ) (col x : ℕ) (again : Bool) where
   back_within = either_le (again && (ltb 0 col && is row x (col - 1))) (col - 1) col col (omega arith) (omega arith)
 
   -- the match is a place of the row, and one to the right is not the first
-  nearest_inside : (forward : Bool) {i : ℕ} → col ≤ length row → nearest_on row col x forward again ≡ At i → i < length row
+  nearest_inside : (forward : Bool) {i : ℕ} → col ≤ length row → nearest_on row col x forward again ≡ Some i → i < length row
   nearest_inside true {i} h e = (first_told (is row x) (start_ahead row col x again) (length row) i e).below
   nearest_inside false {i} h e = omega (arith, (last_told (is row x) (start_back row col x again) i e).below, back_within)
 
-  nearest_past : (forward : Bool) {i : ℕ} → forward ≡ true → nearest_on row col x forward again ≡ At i → 0 < i
+  nearest_past : (forward : Bool) {i : ℕ} → forward ≡ true → nearest_on row col x forward again ≡ Some i → 0 < i
   nearest_past true {i} p e = omega (arith, (first_told (is row x) (start_ahead row col x again) (length row) i e).from, ahead_from)
   nearest_past false p e = absurd (never p refl)
 
 -- by the match f: that it can be moved, and where a find lands
-module _ (row : List ℕ) (col x : ℕ) (forward till skip : Bool) {f : Found} (is_nearest : f ≡ nearest_on row col x forward (skip && till)) where
-  pub match_inside : {i : ℕ} → col ≤ length row → f ≡ At i → i < length row
+module _ (row : List ℕ) (col x : ℕ) (forward till skip : Bool) {f : Option ℕ} (is_nearest : f ≡ nearest_on row col x forward (skip && till)) where
+  pub match_inside : {i : ℕ} → col ≤ length row → f ≡ Some i → i < length row
   match_inside h s = nearest_inside row col x (skip && till) forward h (sym is_nearest ∙ s)
 
-  pub match_past : {i : ℕ} → forward ≡ true → f ≡ At i → 0 < i
+  pub match_past : {i : ℕ} → forward ≡ true → f ≡ Some i → 0 < i
   match_past p s = nearest_past row col x (skip && till) forward p (sym is_nearest ∙ s)
 
-  pub find_onto : {i n : ℕ} → f ≡ At i → n ≡ stops forward till i → At n ≡ find_on_row row col x forward till skip
+  pub find_onto : {i n : ℕ} → f ≡ Some i → n ≡ stops forward till i → Some n ≡ find_on_row row col x forward till skip
   unfolding landing
-  find_onto s e = rw (← is_nearest, s) (ap At e)
+  find_onto s e = rw (← is_nearest, s) (ap Some e)
 
-  pub find_nowhere : f ≡ Nothing → Nothing ≡ find_on_row row col x forward till skip
+  pub find_nowhere : f ≡ None → None ≡ find_on_row row col x forward till skip
   unfolding landing
   find_nowhere s = rw (← is_nearest, s)
 
 -- which is a column of the row
-landed : (g : ℕ → ℕ) (f : Found) {j : ℕ} → landing g f ≡ At j → (i : ℕ) × (f ≡ At i) × (j ≡ g i)
+landed : (g : ℕ → ℕ) (f : Option ℕ) {j : ℕ} → landing g f ≡ Some j → (i : ℕ) × (f ≡ Some i) × (j ≡ g i)
 unfolding landing
-landed g (At i) e = (i, refl, sym (at_once e))
-landed g Nothing e = absurd (at_some (sym e))
+landed g (Some i) e = (i, refl, sym (at_once e))
+landed g None e = absurd (at_some (sym e))
 
 pub find_within : (row : List ℕ) (col x : ℕ) (forward till skip : Bool) {j : ℕ} → col ≤ length row
-    → find_on_row row col x forward till skip ≡ At j → j ≤ length row
+    → find_on_row row col x forward till skip ≡ Some j → j ≤ length row
 find_within row col x forward till skip h e =
     let by_landed = landed (stops forward till) _ e in
     let i = by_landed.0 in

@@ -1,8 +1,7 @@
 -- Laws of the first and the last place that passes a test, as a loop uses them: one place on, the place itself, none.
 -- What an answer says is in `proofs/Told.antt`.
 -- Assumes nothing.
-use Rattle.lists.proofs.Kit.{◌≡◌, refl, sym, ◌∙◌, Bool, true, false, cond, ◌&&◌, ℕ, zero, suc, ◌+◌, ◌-◌, ◌≤◌, ◌<◌, add-one, sub-one, arith}
-use Rattle.row_search.specs.declared.Found.TheVariants.{At, Nothing}
+use Rattle.lists.proofs.Kit.{◌≡◌, refl, sym, ◌∙◌, Bool, true, false, cond, ◌&&◌, ℕ, zero, suc, ◌+◌, ◌-◌, ◌≤◌, ◌<◌, add-one, sub-one, arith, Some, None}
 use Rattle.row_search.specs.Nearest.{first_from, first_in, last_below}
 
 -- a test does not both pass and fail, and two that pass together pass
@@ -14,17 +13,17 @@ both true b e = (refl, e)
 both false b e = absurd (never e refl)
 
 module _ (p : ℕ → Bool) where
-  from_suc : (i b : ℕ) → i < b → first_in p i b ≡ cond (p i) (At i) (first_in p (i + 1) b)
+  from_suc : (i b : ℕ) → i < b → first_in p i b ≡ cond (p i) (Some i) (first_in p (i + 1) b)
   unfolding first_from
   from_suc i b h = let difference_is : b - i ≡ suc (b - (i + 1)) = omega arith in rw (difference_is, add-one)
 
   pub first_on : (i b : ℕ) → i < b → p i ≡ false → first_in p i b ≡ first_in p (i + 1) b
   first_on i b h e = from_suc i b h ∙ rw e
 
-  pub first_stop : (i b : ℕ) → i < b → p i ≡ true → first_in p i b ≡ At i
+  pub first_stop : (i b : ℕ) → i < b → p i ≡ true → first_in p i b ≡ Some i
   first_stop i b h e = from_suc i b h ∙ rw e
 
-  pub first_end : (i b : ℕ) → b ≤ i → first_in p i b ≡ Nothing
+  pub first_end : (i b : ℕ) → b ≤ i → first_in p i b ≡ None
   unfolding first_from
   first_end i b h = let difference_is : b - i ≡ 0 = omega arith in rw difference_is
 
@@ -33,12 +32,12 @@ module _ (p : ℕ → Bool) where
   last_on zero h e = absurd (omega arith)
   last_on (suc i) h e = rw (sub-one, rw sub-one at e)
 
-  pub last_stop : (i : ℕ) → 0 < i → p (i - 1) ≡ true → last_below p i ≡ At (i - 1)
+  pub last_stop : (i : ℕ) → 0 < i → p (i - 1) ≡ true → last_below p i ≡ Some (i - 1)
   unfolding last_below
   last_stop zero h e = absurd (omega arith)
   last_stop (suc i) h e = rw (sub-one, rw sub-one at e)
 
-  pub last_end : (i : ℕ) → i ≤ 0 → last_below p i ≡ Nothing
+  pub last_end : (i : ℕ) → i ≤ 0 → last_below p i ≡ None
   unfolding last_below
   last_end i h = let i_is : i ≡ 0 = omega arith in rw i_is
 

@@ -1,16 +1,14 @@
 -- What the answer of a search says: the place passes, and none before it does; or none passes.
 -- Assumes nothing.
-use Rattle.lists.proofs.Kit.{◌≡◌, refl, sym, Bool, true, false, cond, ◌⊎◌, inl, inr, ⊎_elim, ℕ, zero, suc, ◌+◌, ◌-◌, ◌≤◌, ◌<◌, eq-or-lt_of_le, le_of_suc-le-suc}
+use Rattle.lists.proofs.Kit.{◌≡◌, refl, sym, Bool, true, false, cond, ◌⊎◌, inl, inr, ⊎_elim, ℕ, zero, suc, ◌+◌, ◌-◌, ◌≤◌, ◌<◌, eq-or-lt_of_le, le_of_suc-le-suc, Option, Some, None}
 use Rattle.lists.proofs.Kit.{arith}
-use Rattle.row_search.specs.declared.Found.{Found}
-use Rattle.row_search.specs.declared.Found.TheVariants.{At, Nothing}
 use Rattle.row_search.specs.Nearest.{first_from, first_in, last_below}
 
 -- an answer names one place
-pub at_once : {i j : ℕ} → At i ≡ At j → i ≡ j
+pub at_once : {i j : ℕ} → Some i ≡ Some j → i ≡ j
 at_once e = cc
 
-pub at_some : {i : ℕ} → At i ≡ Nothing → ⊥
+pub at_some : {i : ℕ} → Some i ≡ None → ⊥
 at_some e = let never : ◌≡◌ {A = ℕ} 0 1 = cc in omega arith
 
 -- what an answer says: j passes, it lies between a and b, and no place between it and where the search began passes
@@ -26,21 +24,21 @@ pub record Last (p : ℕ → Bool) (b j : ℕ) : Type 0 where
   pub none : (m : ℕ) → j < m → m < b → p m ≡ false
 
 -- one place of a search: it is the answer, or the rest gives it
-this_or_rest : {i j : ℕ} {r : Found} (b : Bool) → cond b (At i) r ≡ At j → ((b ≡ true) × (i ≡ j)) ⊎ ((b ≡ false) × (r ≡ At j))
+this_or_rest : {i j : ℕ} {r : Option ℕ} (b : Bool) → cond b (Some i) r ≡ Some j → ((b ≡ true) × (i ≡ j)) ⊎ ((b ≡ false) × (r ≡ Some j))
 this_or_rest true e = inl (refl, at_once e)
 this_or_rest false e = inr (refl, e)
 
-neither : (i : ℕ) {r : Found} (b : Bool) → cond b (At i) r ≡ Nothing → (b ≡ false) × (r ≡ Nothing)
+neither : (i : ℕ) {r : Option ℕ} (b : Bool) → cond b (Some i) r ≡ None → (b ≡ false) × (r ≡ None)
 neither i true e = absurd (at_some e)
 neither i false e = (refl, e)
 
 module _ (p : ℕ → Bool) where
-  first_there : (n i j : ℕ) → first_from p i n ≡ At j → First p i (i + n) j
+  first_there : (n i j : ℕ) → first_from p i n ≡ Some j → First p i (i + n) j
   unfolding first_from
   first_there zero i j e = absurd (at_some (sym e))
   first_there (suc n) i j e = on (this_or_rest (p i) e) (first_there n (suc i) j)
     where
-      on : ((p i ≡ true) × (i ≡ j)) ⊎ ((p i ≡ false) × (first_from p (suc i) n ≡ At j)) → (first_from p (suc i) n ≡ At j → First p (suc i) (suc i + n) j)
+      on : ((p i ≡ true) × (i ≡ j)) ⊎ ((p i ≡ false) × (first_from p (suc i) n ≡ Some j)) → (first_from p (suc i) n ≡ Some j → First p (suc i) (suc i + n) j)
           → First p i (i + suc n) j
       on (inl h) ih =
           let second_part = h.1 in
@@ -54,7 +52,7 @@ module _ (p : ℕ → Bool) where
             none = λ m l g. ⊎_elim (λ q. rw (← q) h.0) (λ q. by_ih.none m q g) (eq-or-lt_of_le l);
           }
 
-  first_nowhere : (n i : ℕ) → first_from p i n ≡ Nothing → (m : ℕ) → i ≤ m → m < i + n → p m ≡ false
+  first_nowhere : (n i : ℕ) → first_from p i n ≡ None → (m : ℕ) → i ≤ m → m < i + n → p m ≡ false
   unfolding first_from
   first_nowhere zero i e m l h = absurd (omega arith)
   first_nowhere (suc n) i e m l h =
@@ -63,7 +61,7 @@ module _ (p : ℕ → Bool) where
 
   -- the first from a up to b
   module _ (a b : ℕ) where
-    pub first_told : (j : ℕ) → first_in p a b ≡ At j → First p a b j
+    pub first_told : (j : ℕ) → first_in p a b ≡ Some j → First p a b j
     first_told j e =
         let by_first_there = first_there (b - a) a j e in
         record {
@@ -73,16 +71,16 @@ module _ (p : ℕ → Bool) where
           none = by_first_there.none;
         }
 
-    pub first_none : first_in p a b ≡ Nothing → (m : ℕ) → a ≤ m → m < b → p m ≡ false
+    pub first_none : first_in p a b ≡ None → (m : ℕ) → a ≤ m → m < b → p m ≡ false
     first_none e m l h = first_nowhere (b - a) a e m l (omega arith)
 
   -- the last below b
-  pub last_told : (b j : ℕ) → last_below p b ≡ At j → Last p b j
+  pub last_told : (b j : ℕ) → last_below p b ≡ Some j → Last p b j
   unfolding last_below
   last_told zero j e = absurd (at_some (sym e))
   last_told (suc b) j e = on (this_or_rest (p b) e) (last_told b j)
     where
-      on : ((p b ≡ true) × (b ≡ j)) ⊎ ((p b ≡ false) × (last_below p b ≡ At j)) → (last_below p b ≡ At j → Last p b j) → Last p (suc b) j
+      on : ((p b ≡ true) × (b ≡ j)) ⊎ ((p b ≡ false) × (last_below p b ≡ Some j)) → (last_below p b ≡ Some j → Last p b j) → Last p (suc b) j
       on (inl h) ih =
           let second_part = h.1 in
           record { below = omega arith; passes = rw (← second_part) h.0; none = λ m l g. absurd (omega arith) }
@@ -94,7 +92,7 @@ module _ (p : ℕ → Bool) where
             none = λ m l g. ⊎_elim (λ q. rw q h.0) (λ q. by_ih.none m l q) (eq-or-lt_of_le (le_of_suc-le-suc g));
           }
 
-  pub last_none : (b : ℕ) → last_below p b ≡ Nothing → (m : ℕ) → m < b → p m ≡ false
+  pub last_none : (b : ℕ) → last_below p b ≡ None → (m : ℕ) → m < b → p m ≡ false
   unfolding last_below
   last_none zero e m h = absurd (omega arith)
   last_none (suc b) e m h =

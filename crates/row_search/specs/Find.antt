@@ -1,7 +1,5 @@
 -- Find on a row. From motions.rs, `find_char_on_line`. Definitions only; the laws are in `proofs/Finds.antt`. Assumes nothing.
-use Rattle.std.specs.Prelude.{Bool, cond, ◌&&◌, List, ℕ, ◌+◌, ◌-◌, eqb, ltb, length, get_or}
-use Rattle.row_search.specs.declared.Found.{Found}
-use Rattle.row_search.specs.declared.Found.TheVariants.{At, Nothing}
+use Rattle.std.specs.Prelude.{Bool, cond, ◌&&◌, List, ℕ, ◌+◌, ◌-◌, eqb, ltb, length, get_or, Option, Some, None}
 use Rattle.row_search.specs.Nearest.{first_in, last_below}
 
 -- x stands in the row at i
@@ -17,7 +15,7 @@ abbrev pub start_back : List ℕ → ℕ → ℕ → Bool → ℕ
 start_back row col x again = cond (again && (ltb 0 col && is row x (col - 1))) (col - 1) col
 
 -- the match next to the column, to the right or to the left
-abbrev pub nearest_on : List ℕ → ℕ → ℕ → Bool → Bool → Found
+abbrev pub nearest_on : List ℕ → ℕ → ℕ → Bool → Bool → Option ℕ
 nearest_on row col x forward again =
     cond forward (first_in (is row x) (start_ahead row col x again) (length row)) (last_below (is row x) (start_back row col x again))
 
@@ -26,10 +24,10 @@ abbrev pub stops : Bool → Bool → ℕ → ℕ
 stops forward till i = cond till (cond forward (i - 1) (i + 1)) i
 
 -- the index of a match, moved as `till` asks
-unfoldable pub landing : (ℕ → ℕ) → Found → Found
-landing f (At i) = At (f i)
-landing f Nothing = Nothing
+unfoldable pub landing : (ℕ → ℕ) → Option ℕ → Option ℕ
+landing f (Some i) = Some (f i)
+landing f None = None
 
 -- the column that a find lands on, or nothing where the row has no such match
-abbrev pub find_on_row : List ℕ → ℕ → ℕ → Bool → Bool → Bool → Found
+abbrev pub find_on_row : List ℕ → ℕ → ℕ → Bool → Bool → Bool → Option ℕ
 find_on_row row col x forward till skip = landing (stops forward till) (nearest_on row col x forward (skip && till))

@@ -3,31 +3,29 @@ ghost use Rattle.std.specs.Prelude.{◌≡◌, ◌≤◌, length};
 ghost use Rattle.row_search.specs.Nearest.{first_in, last_below};
 ghost use Rattle.row_search.specs.Find.{is, start_ahead, start_back, nearest_on, find_on_row};
 
-use crate::Found;
-
 // The first place at or after a column that holds a code point, or nothing.
-fn next_on_row(row: &[u32], from: usize, sought: u32) -> Found
+fn next_on_row(row: &[u32], from: usize, sought: u32) -> Option<usize>
     ensures { result ≡ first_in (is row.now sought) from (length row.now) }
 {
     for i in from..row.len() {
         if row[i] == sought {
-            return Found::At(i);
+            return Some(i);
         }
     }
-    Found::Nothing
+    None
 }
 
 // The last place before a column that holds a code point, or nothing.
-fn last_on_row(row: &[u32], upto: usize, sought: u32) -> Found
+fn last_on_row(row: &[u32], upto: usize, sought: u32) -> Option<usize>
     requires { upto ≤ length row.now }
     ensures { result ≡ last_below (is row.now sought) upto }
 {
     for b in (0..upto).rev() {
         if row[b] == sought {
-            return Found::At(b);
+            return Some(b);
         }
     }
-    Found::Nothing
+    None
 }
 
 // The column where a search to the right starts: the next, or the one after where an adjacent match
@@ -65,7 +63,7 @@ fn start_back(row: &[u32], col: usize, sought: u32, again: bool) -> usize
 }
 
 // The match next to a column, to the right or to the left, or nothing.
-fn nearest(row: &[u32], col: usize, sought: u32, forward: bool, again: bool) -> Found
+fn nearest(row: &[u32], col: usize, sought: u32, forward: bool, again: bool) -> Option<usize>
     requires { col ≤ length row.now }
     ensures { result ≡ nearest_on row.now col sought forward again }
 {
@@ -85,21 +83,21 @@ pub fn find_on_row(
     forward: bool,
     till: bool,
     skip: bool,
-) -> Found
+) -> Option<usize>
     requires { col ≤ length row.now }
     ensures { result ≡ find_on_row row.now col sought forward till skip }
 {
     let f = nearest(row, col, sought, forward, skip & till);
     match f {
-        Found::At(i) => {
+        Some(i) => {
             if till {
                 if forward {
-                    return Found::At(i - 1);
+                    return Some(i - 1);
                 }
-                return Found::At(i + 1);
+                return Some(i + 1);
             }
-            Found::At(i)
+            Some(i)
         }
-        Found::Nothing => Found::Nothing,
+        None => None,
     }
 }

@@ -6,10 +6,3 @@
 mod find;
 
 pub use find::find_on_row;
-
-// An index, where there is one.
-#[derive(Clone, Copy)]
-pub enum Found {
-    At(usize),
-    Nothing,
-}

@@ -2,9 +2,11 @@
 // what stands there up to the last white space; and how one is written. From `wrap.rs`.
 ghost use Rattle.std.specs.Prelude.{◌≡◌, ◌+◌, ◌≤◌, ◌<◌, length, set};
 ghost use Rattle.chars.specs.White.{whites, is_white};
-ghost use Rattle.chars.specs.Width.{width_by, Widths};
+ghost use Rattle.chars.specs.Width.{Measures, width_with};
 ghost use Rattle.row_segment.specs.Segments.{after_white, char_segment, first_segment, Begins};
 ghost use Rattle.row_segment.specs.Lent.{Tables};
+
+use chars::Measure;
 
 // The place after the last white space among the first n characters, or 0 where there is none.
 fn after_white(white: &[u32], row: &[u32], n: usize) -> usize
@@ -21,12 +23,12 @@ fn after_white(white: &[u32], row: &[u32], n: usize) -> usize
 
 // How many characters of the row's start go into the width. One wider than the width is taken
 // alone: without that the segment would be empty, and no walk would get past it.
-fn char_segment(zeros: &[u32], doubles: &[u32], row: &[u32], width: u32) -> usize
-    requires { Widths zeros.now doubles.now × (0 < length row.now) }
+fn char_segment(by: Measure<'_>, row: &[u32], width: u32) -> usize
+    requires { Measures by × (0 < length row.now) }
     ensures { Begins row.now (char_segment
-        (width_by zeros.now doubles.now) width row.now) result }
+        (width_with by.entry) width row.now) result }
 {
-    let n = row_cells::fitting(zeros, doubles, row, width);
+    let n = row_cells::fitting(by, row, width);
     if n == 0 {
         return 1;
     }
@@ -35,20 +37,13 @@ fn char_segment(zeros: &[u32], doubles: &[u32], row: &[u32], width: u32) -> usiz
 
 // How many characters the first segment of a row has that is not empty; by words if `word` is set,
 // else by characters. The row may be the rest of one: this is the step of a walk over segments.
-pub fn first_segment(
-    zeros: &[u32],
-    doubles: &[u32],
-    white: &[u32],
-    row: &[u32],
-    width: u32,
-    word: bool,
-) -> usize
-    requires { Tables zeros.now doubles.now white.now × (0 < length row.now) }
+pub fn first_segment(by: Measure<'_>, white: &[u32], row: &[u32], width: u32, word: bool) -> usize
+    requires { Tables by white.now × (0 < length row.now) }
     ensures { Begins row.now (first_segment
-        (width_by zeros.now doubles.now) is_white word width
+        (width_with by.entry) is_white word width
         row.now) result }
 {
-    let n = char_segment(zeros, doubles, row, width);
+    let n = char_segment(by, row, width);
     if !word {
         return n;
     }

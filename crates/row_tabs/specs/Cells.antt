@@ -1,7 +1,8 @@
 -- What the contracts of `src/lib.rt` cite: the refusals of a row with a tabstop, and the cells of a character, over any width function w.
 -- From `geom.rs` and document 01, "Character facts". Definitions only; the laws are in `proofs/Accepted.antt`. Assumes nothing.
 use Rattle.std.specs.Prelude.{◌≡◌, ℕ, ◌-◌, ◌%◌, ◌≤◌, ◌<◌, List, cond, eqb, ltb}
-use Rattle.chars.specs.Width.{Widths}
+use Rattle.chars.specs.declared.Measure.{Measure}
+use Rattle.chars.specs.Width.{Measures}
 use Rattle.row_check.specs.Row.{row_refusal}
 
 -- 1 and 2 of the row, 6: a tabstop above 1,000; 0: accepted
@@ -27,6 +28,6 @@ pub record Stop (tab : ℕ) : Type 0 where
   pub near : tab ≤ 1000
 
 -- and the tables of widths
-pub record Tables (zeros doubles : List ℕ) (tab : ℕ) : Type 0 where
-  pub widths : Widths zeros doubles
+pub record Tables (m : Measure) (tab : ℕ) : Type 0 where
+  pub widths : Measures m
   pub stop : Stop tab

@@ -5,11 +5,12 @@
 #![tactic(auto)]
 
 ghost use Rattle.std.specs.Prelude.{◌≡◌, ◌-◌, ◌%◌};
-ghost use Rattle.chars.specs.Width.{width_by};
+ghost use Rattle.chars.specs.Width.{width_with};
 ghost use Rattle.row_tabs.specs.Cells.{column_refusal, stop_of, cells_at, CellsAre};
 ghost use Rattle.row_tabs.specs.Cells.{Stop, Tables};
 ghost use Rattle.row_tabs.specs.Indents.{leading_from, leading_visual_width, Indented};
 
+use chars::Measure;
 use row_check::Column;
 
 // 1 and 2 of the row, 6 for a tabstop above 1,000, else 0.
@@ -45,15 +46,15 @@ fn tab_width(visual: u32, tab: u32) -> u32
 }
 
 // The cells of x where it is painted from visual column `visual` on, by the tables that are lent.
-pub fn cell_width(zeros: &[u32], doubles: &[u32], x: u32, visual: u32, tab: u32) -> u32
-    requires { Tables zeros.now doubles.now tab }
-    ensures { CellsAre (cells_at (width_by zeros.now doubles.now) tab
+pub fn cell_width(by: Measure<'_>, x: u32, visual: u32, tab: u32) -> u32
+    requires { Tables by tab }
+    ensures { CellsAre (cells_at (width_with by.entry) tab
         visual x) result }
 {
     if x == 9 {
         return tab_width(visual, tab);
     }
-    chars::width_in(zeros, doubles, x)
+    chars::width_in(by, x)
 }
 
 // The visual column at which the row's leading spaces and tabs end.

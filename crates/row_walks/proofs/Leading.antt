@@ -1,6 +1,7 @@
 -- Where the rounds of a paragraph motion lead from a row of the text is a row of the text.
 -- Assumes nothing.
-use Rattle.lists.proofs.Kit.{List, Bool, true, false, cond, ◌&&◌, ◌||◌, not, ℕ, zero, suc, ◌+◌, ◌<◌, arith}
+use Rattle.lists.proofs.Kit.{List, Bool, true, false, cond, ◌&&◌, ◌||◌, not, ℕ, zero, suc, ◌+◌, ◌<◌, arith, Option}
+use Rattle.text.specs.declared.Line.{Line}
 use Rattle.text.specs.Text.{row_count, last_row}
 use Rattle.text.specs.Offsets.{line_at}
 use Rattle.text.proofs.Rows.{rows_pos}
@@ -10,7 +11,6 @@ use Rattle.row_walks.specs.Toward.{rows_left, onward}
 use Rattle.row_walks.specs.Paragraphs.{is_void, round_from, round_of, at_last, go_on, paragraphs, EndsIn, LeadsIn}
 use Rattle.row_walks.specs.declared.Round.{Round}
 use Rattle.row_walks.specs.declared.Round.TheVariants.{Found, RanOff}
-use Rattle.row_walks.specs.declared.Paragraph.{Paragraph}
 
 module _ (t : List ℕ) where
   choice_in : (b : Bool) (r s : Round) → EndsIn t r → EndsIn t s → EndsIn t (cond b r s)
@@ -47,7 +47,7 @@ module _ (t : List ℕ) where
   last_in (Found l) p = p
   last_in (RanOff l) p = p
 
-  on_in : (f : ℕ → Paragraph) → ((row : ℕ) → row < row_count t → LeadsIn t (f row)) → (r : Round) → EndsIn t r → LeadsIn t (go_on f r)
+  on_in : (f : ℕ → Option Line) → ((row : ℕ) → row < row_count t → LeadsIn t (f row)) → (r : Round) → EndsIn t r → LeadsIn t (go_on f r)
   on_in f h (Found l) p = h l.row p.in_row
   on_in f h (RanOff l) p = rows_pos t
 

@@ -1,6 +1,6 @@
 -- The steps of a round of a paragraph motion, and of rounds after each other.
 -- Assumes nothing.
-use Rattle.lists.proofs.Kit.{◌≡◌, refl, sym, ◌∙◌, List, Bool, true, false, ◌&&◌, ◌||◌, not, ℕ, zero, suc, ◌-◌, ◌≤◌, ◌<◌, ℕ_discrete, arith, length, get_or, eqb}
+use Rattle.lists.proofs.Kit.{◌≡◌, refl, sym, ◌∙◌, List, Bool, true, false, ◌&&◌, ◌||◌, not, ℕ, zero, suc, ◌-◌, ◌≤◌, ◌<◌, ℕ_discrete, arith, length, get_or, eqb, Option}
 use Rattle.lists.proofs.Kit.{eq-eqb, ne_eqb}
 use Rattle.text.specs.Text.{row_len}
 use Rattle.text.specs.Offsets.{At, IsLine, line_at}
@@ -9,7 +9,6 @@ use Rattle.text.proofs.At.{on_char, on_nl, on_end}
 use Rattle.row_walks.specs.Toward.{rows_left, onward}
 use Rattle.row_walks.specs.Paragraphs.{is_void, round_from, round_of, at_last, go_on, paragraphs}
 use Rattle.row_walks.specs.declared.Round.TheVariants.{Found, RanOff}
-use Rattle.row_walks.specs.declared.Paragraph.{Paragraph}
 
 -- a row is empty where a separator or the end of the text stands at its start
 module _ {t : List ℕ} {r at : ℕ} (a : At t r 0 at) where
@@ -52,7 +51,7 @@ module _ (t : List ℕ) (fwd skip : Bool) (row : ℕ) where
         rw (e, one)
 
 -- a round from a row and those owed after it lead where all of them do
-pub record Leads (t : List ℕ) (fwd : Bool) (whole : Paragraph) (here : Line) (owed : ℕ) : Type 0 where
+pub record Leads (t : List ℕ) (fwd : Bool) (whole : Option Line) (here : Line) (owed : ℕ) : Type 0 where
   pub line : IsLine t here
   pub same : whole ≡ paragraphs t fwd owed here.row
 

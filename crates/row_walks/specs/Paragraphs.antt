@@ -1,14 +1,12 @@
 -- Paragraphs: runs of rows between empty ones, as `find_paragraph` of motions.rs walks them.
 -- Definitions only; the laws are in `proofs/Walks.antt`. Assumes nothing.
-use Rattle.std.specs.Prelude.{◌≡◌, ℕ, zero, suc, ◌≤◌, ◌<◌, List, Bool, false, cond, ◌&&◌, ◌||◌, not, eqb, length}
+use Rattle.std.specs.Prelude.{◌≡◌, ℕ, zero, suc, ◌≤◌, ◌<◌, List, Bool, false, cond, ◌&&◌, ◌||◌, not, eqb, length, Option, Some, None}
 use Rattle.text.specs.Text.{row_count, row_len, last_row}
 use Rattle.text.specs.Offsets.{IsLine, line_at}
 use Rattle.text.specs.declared.Line.{Line}
 use Rattle.row_walks.specs.Toward.{rows_left, onward}
 use Rattle.row_walks.specs.declared.Round.{Round}
 use Rattle.row_walks.specs.declared.Round.TheVariants.{Found, RanOff}
-use Rattle.row_walks.specs.declared.Paragraph.{Paragraph}
-use Rattle.row_walks.specs.declared.Paragraph.TheVariants.{At, Nothing}
 
 abbrev pub is_void : List ℕ → ℕ → Bool
 is_void t row = eqb (row_len t row) 0
@@ -24,16 +22,16 @@ abbrev pub round_of : List ℕ → Bool → ℕ → Round
 round_of t fwd row = round_from t fwd false row (rows_left fwd (last_row t) row)
 
 -- the last round may run off: it stops at the edge. One before it that does ends it all
-abbrev pub at_last : Round → Paragraph
-at_last (Found l) = At l
-at_last (RanOff l) = At l
+abbrev pub at_last : Round → Option Line
+at_last (Found l) = Some l
+at_last (RanOff l) = Some l
 
-abbrev pub go_on : (ℕ → Paragraph) → Round → Paragraph
+abbrev pub go_on : (ℕ → Option Line) → Round → Option Line
 go_on next (Found l) = next l.row
-go_on next (RanOff l) = Nothing
+go_on next (RanOff l) = None
 
 -- a round, and n more
-unfoldable pub paragraphs : List ℕ → Bool → ℕ → ℕ → Paragraph
+unfoldable pub paragraphs : List ℕ → Bool → ℕ → ℕ → Option Line
 paragraphs t fwd zero row = at_last (round_of t fwd row)
 paragraphs t fwd (suc n) row = go_on (λ r. paragraphs t fwd n r) (round_of t fwd row)
 
@@ -43,9 +41,9 @@ EndsIn t (Found l) = IsLine t l
 EndsIn t (RanOff l) = IsLine t l
 
 -- and so is where all of them lead
-abbrev pub LeadsIn : List ℕ → Paragraph → Type 0
-LeadsIn t (At l) = IsLine t l
-LeadsIn t Nothing = 0 < row_count t
+abbrev pub LeadsIn : List ℕ → Option Line → Type 0
+LeadsIn t (Some l) = IsLine t l
+LeadsIn t None = 0 < row_count t
 
 -- what a round from a row requires, `last` the last row with content, and what n of them do
 pub record RoundReady (t : List ℕ) (last : ℕ) (from : Line) : Type 0 where
@@ -62,6 +60,6 @@ pub record RoundFrom (t : List ℕ) (fwd : Bool) (row : ℕ) (r : Round) : Type 
   pub answer : r ≡ round_of t fwd row
   pub line : EndsIn t r
 
-pub record ParagraphFrom (t : List ℕ) (fwd : Bool) (n row : ℕ) (r : Paragraph) : Type 0 where
+pub record ParagraphFrom (t : List ℕ) (fwd : Bool) (n row : ℕ) (r : Option Line) : Type 0 where
   pub answer : r ≡ paragraphs t fwd n row
   pub line : LeadsIn t r

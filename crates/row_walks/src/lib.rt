@@ -14,10 +14,3 @@ pub enum Round {
     Found(text::Line),
     RanOff(text::Line),
 }
-
-// The row that a counted paragraph motion leads to, with its start, if it leads anywhere.
-#[derive(Clone, Copy)]
-pub enum Paragraph {
-    At(text::Line),
-    Nothing,
-}

@@ -5,8 +5,8 @@ ghost use Rattle.text.specs.Offsets.{IsLine};
 ghost use Rattle.row_walks.specs.Paragraphs.{is_void, RoundReady, ParagraphReady};
 ghost use Rattle.row_walks.specs.Paragraphs.{RoundFrom, ParagraphFrom};
 
+use crate::Round;
 use crate::toward::{beside, direction};
-use crate::{Paragraph, Round};
 use text::Line;
 
 // Whether a row is empty.
@@ -60,7 +60,7 @@ fn paragraph_round(t: &[u32], forward: bool, last: usize, from: Line) -> Round
 
 // `find_paragraph`: so many rounds, where `last` is the last row with content. A round that runs
 // off with others still owed leads nowhere.
-pub fn find_paragraph(t: &[u32], forward: bool, last: usize, from: Line, n: usize) -> Paragraph
+pub fn find_paragraph(t: &[u32], forward: bool, last: usize, from: Line, n: usize) -> Option<Line>
     requires { ParagraphReady t.now last from n }
     ensures { ParagraphFrom t.now forward (n - 1) from.row result }
 {
@@ -71,16 +71,16 @@ pub fn find_paragraph(t: &[u32], forward: bool, last: usize, from: Line, n: usiz
         match paragraph_round(t, forward, last, here) {
             Round::Found(l) => {
                 if owed == 0 {
-                    return Paragraph::At(l);
+                    return Some(l);
                 }
                 owed -= 1;
                 here = l;
             }
             Round::RanOff(l) => {
                 if owed == 0 {
-                    return Paragraph::At(l);
+                    return Some(l);
                 }
-                return Paragraph::Nothing;
+                return None;
             }
         }
     }

@@ -2,8 +2,9 @@
 -- or what the definitions give by the widths of a setting.
 -- Definitions only. Assumes nothing.
 use Rattle.std.specs.Prelude.{ℕ, ◌*◌, ◌≤◌, ◌≡◌, List, [], ◌∷◌, Bool, cond, length, eqb}
+use Rattle.chars.specs.declared.Measure.{Measure}
 use Rattle.chars.specs.White.{is_white}
-use Rattle.chars.specs.Width.{width_by}
+use Rattle.chars.specs.Width.{width_with}
 use Rattle.widths.specs.declared.Ambiguous.{Ambiguous}
 use Rattle.widths.specs.Widths.{width_as}
 use Rattle.row_check.specs.Row.{row_refusal}
@@ -19,14 +20,14 @@ abbrev pub row_segments : (ℕ → ℕ) → Bool → ℕ → List ℕ → List �
 row_segments w word width row = segments_from w is_white word width 0 0 row
 
 -- what the walks require: the tables that they are lent, and a row that is not too long
-pub record RowLent (zeros doubles white row : List ℕ) : Type 0 where
-  pub tables : Tables zeros doubles white
+pub record RowLent (m : Measure) (white row : List ℕ) : Type 0 where
+  pub tables : Tables m white
   pub brief : length row ≤ 1048576
 
 -- and room for its segments
-pub record SegmentsRoom (zeros doubles white row : List ℕ) (width : ℕ) (word : Bool) (room : List ℕ) : Type 0 where
-  pub lent : RowLent zeros doubles white row
-  pub fits : length (row_segments (width_by zeros doubles) word width row) ≤ length room
+pub record SegmentsRoom (m : Measure) (white row : List ℕ) (width : ℕ) (word : Bool) (room : List ℕ) : Type 0 where
+  pub lent : RowLent m white row
+  pub fits : length (row_segments (width_with m) word width row) ≤ length room
 
 -- r is how many there are
 pub record Counted (w : ℕ → ℕ) (word : Bool) (width : ℕ) (row : List ℕ) (r : ℕ) : Type 0 where

@@ -3,27 +3,21 @@
 // between a break and the end of what fitted has no white space and fits the next segment, which
 // therefore reaches past it (`proofs/Twice.antt`).
 ghost use Rattle.std.specs.Prelude.{◌≡◌, ◌*◌, ◌≤◌, length};
-ghost use Rattle.chars.specs.Width.{width_by};
+ghost use Rattle.chars.specs.Width.{width_with};
 ghost use Rattle.widths.specs.Widths.{width_as};
-ghost use Rattle.row_wrap.specs.Modes.{is_none, is_word, is_whole};
+ghost use Rattle.row_wrap.specs.Modes.{is_whole};
 ghost use Rattle.row_wrap.specs.Calls.{Counted, Written, Broken, Whole, Wraps};
 ghost use Rattle.row_wrap.specs.Calls.{RowLent, SegmentsRoom};
 ghost use Rattle.row_segment.specs.Lent.{Tables};
 
 use crate::{Segments, Wrap};
+use chars::Measure;
 use widths::Ambiguous;
 
 // How many segments the row has.
-fn count_segments(
-    zeros: &[u32],
-    doubles: &[u32],
-    white: &[u32],
-    row: &[u32],
-    width: u32,
-    word: bool,
-) -> usize
-    requires { Tables zeros.now doubles.now white.now }
-    ensures { Counted (width_by zeros.now doubles.now) word width
+fn count_segments(by: Measure<'_>, white: &[u32], row: &[u32], width: u32, word: bool) -> usize
+    requires { Tables by white.now }
+    ensures { Counted (width_with by.entry) word width
         row.now result }
 {
     let mut n: usize = 0;
@@ -31,7 +25,7 @@ fn count_segments(
     // A `while`: the step differs from turn to turn.
     while start < row.len() {
         let rest = &row[start..];
-        start += row_segment::first_segment(zeros, doubles, white, rest, width, word);
+        start += row_segment::first_segment(by, white, rest, width, word);
         n += 1;
     }
     n
@@ -39,17 +33,16 @@ fn count_segments(
 
 // Writes the segments to the front of the room.
 fn write_segments(
-    zeros: &[u32],
-    doubles: &[u32],
+    by: Measure<'_>,
     white: &[u32],
     row: &[u32],
     width: u32,
     word: bool,
     out: &mut [u32],
 )
-    requires { SegmentsRoom zeros.now doubles.now white.now row.now width word
+    requires { SegmentsRoom by white.now row.now width word
         out.old }
-    ensures { Written (width_by zeros.now doubles.now) word width
+    ensures { Written (width_with by.entry) word width
         row.now out.old out.new }
 {
     let mut at: usize = 0;
@@ -57,7 +50,7 @@ fn write_segments(
     // A `while`: the step differs from turn to turn.
     while start < row.len() {
         let rest = &row[start..];
-        let end = start + row_segment::first_segment(zeros, doubles, white, rest, width, word);
+        let end = start + row_segment::first_segment(by, white, rest, width, word);
         row_segment::put_segment(out, at, start, end);
         at += 2;
         start = end;
@@ -67,70 +60,47 @@ fn write_segments(
 // The segments of a row that is broken: counted first, so that nothing is written where the room is
 // too small.
 fn fit_segments(
-    zeros: &[u32],
-    doubles: &[u32],
+    by: Measure<'_>,
     white: &[u32],
     row: &[u32],
     width: u32,
     word: bool,
     out: &mut [u32],
 ) -> Segments
-    requires { RowLent zeros.now doubles.now white.now row.now }
-    ensures { Broken (width_by zeros.now doubles.now) word width
+    requires { RowLent by white.now row.now }
+    ensures { Broken (width_with by.entry) word width
         row.now out.old result out.new }
 {
-    let n = count_segments(zeros, doubles, white, row, width, word);
+    let n = count_segments(by, white, row, width, word);
     if out.len() < 2 * n {
         return Segments::Refused(9);
     }
-    write_segments(zeros, doubles, white, row, width, word, out);
+    write_segments(by, white, row, width, word, out);
     Segments::Count(n as u32)
 }
 
-// The same by the tables of each setting. A table is built where a function names it, so that each
-// setting has a function of its own.
-fn narrow_broken(row: &[u32], width: u32, word: bool, out: &mut [u32]) -> Segments
-    requires { length row.now ≤ 1048576 }
-    ensures { Broken (width_as Ambiguous.Narrow) word width row.now
-        out.old result out.new }
-{
-    fit_segments(
-        &chars::ZERO_WIDTH,
-        &chars::DOUBLE_WIDTH,
-        &chars::WHITE,
-        row,
-        width,
-        word,
-        out,
-    )
-}
-
-// The segments where characters of class A take two cells: names the table of these widths.
-fn wide_broken(row: &[u32], width: u32, word: bool, out: &mut [u32]) -> Segments
-    requires { length row.now ≤ 1048576 }
-    ensures { Broken (width_as Ambiguous.Wide) word width row.now
-        out.old result out.new }
-{
-    fit_segments(
-        &chars::ZERO_WIDTH,
-        &widths::WIDE_DOUBLES,
-        &chars::WHITE,
-        row,
-        width,
-        word,
-        out,
-    )
-}
-
-// The segments of a row under the setting of the widths.
+// The segments of a row under the setting of the widths. No closure for `widths::lend`, since of one
+// that writes to `out` a proof knows nothing (tried).
 fn broken(row: &[u32], width: u32, word: bool, ambiguous: Ambiguous, out: &mut [u32]) -> Segments
     requires { length row.now ≤ 1048576 }
     ensures { Broken (width_as ambiguous) word width row.now out.old result
         out.new }
 {
     match ambiguous {
-        Ambiguous::Narrow => narrow_broken(row, width, word, out),
-        Ambiguous::Wide => wide_broken(row, width, word, out),
+        Ambiguous::Narrow => {
+            let by = Measure {
+                zeros: &chars::ZERO_WIDTH,
+                doubles: &chars::DOUBLE_WIDTH,
+            };
+            fit_segments(by, &chars::WHITE, row, width, word, out)
+        }
+        Ambiguous::Wide => {
+            let by = Measure {
+                zeros: &chars::ZERO_WIDTH,
+                doubles: &widths::WIDE_DOUBLES,
+            };
+            fit_segments(by, &chars::WHITE, row, width, word, out)
+        }
     }
 }
 
@@ -146,39 +116,11 @@ fn whole(row: &[u32], out: &mut [u32]) -> Segments
     Segments::Count(1)
 }
 
-// Whether rows are not wrapped.
-fn is_none(mode: Wrap) -> bool
-    ensures { result ≡ is_none mode }
-{
-    match mode {
-        Wrap::None => true,
-        Wrap::Char => false,
-        Wrap::Word => false,
-    }
-}
-
-// Whether rows are wrapped at words.
-fn is_word(mode: Wrap) -> bool
-    ensures { result ≡ is_word mode }
-{
-    match mode {
-        Wrap::None => false,
-        Wrap::Char => false,
-        Wrap::Word => true,
-    }
-}
-
 // Whether a row of `count` characters has one segment whatever its cells.
 fn is_whole(mode: Wrap, width: u32, count: usize) -> bool
     ensures { result ≡ is_whole mode width count }
 {
-    if is_none(mode) {
-        return true;
-    }
-    if width == 0 {
-        return true;
-    }
-    count == 0
+    mode == Wrap::None || width == 0 || count == 0
 }
 
 // Breaks a row into segments of at most `width` cells and writes them to the front of the room, as
@@ -202,5 +144,5 @@ pub fn wrap_segments(
     if is_whole(mode, cells, row.len()) {
         return whole(row, out);
     }
-    broken(row, cells, is_word(mode), ambiguous, out)
+    broken(row, cells, mode == Wrap::Word, ambiguous, out)
 }

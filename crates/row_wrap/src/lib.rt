@@ -8,7 +8,7 @@ mod breaks;
 pub use breaks::wrap_segments;
 
 // How a row is broken: not at all, at the last cell that fits, or after white space before it.
-#[derive(Clone, Copy)]
+#[derive(Clone, Copy, PartialEq, Eq, Debug)]
 pub enum Wrap {
     None,
     Char,

@@ -1,8 +1,7 @@
 -- From a spot to the place at it, and from a place to its spot. Assumes nothing.
-use Rattle.lists.proofs.Kit.{◌≡◌, sym, ap, ◌∙◌, List, Bool, ℕ, ◌-◌, ◌≤◌, ◌<◌, min, arith, length}
+use Rattle.lists.proofs.Kit.{◌≡◌, sym, ap, ◌∙◌, List, Bool, ℕ, ◌-◌, ◌≤◌, ◌<◌, min, arith, length, Option, Some, None}
 use Rattle.row_cells.specs.Offsets.{segment_index}
 use Rattle.text.specs.Text.{row_count, row_at, row_len}
-use Rattle.folds.specs.declared.Visible.TheVariants.{Row, NoRow}
 use Rattle.lists.specs.Rounds.{rounds}
 use Rattle.visible_rows.specs.Visible.{toward}
 use Rattle.screen_segments.specs.declared.Part.{Part}
@@ -10,7 +9,6 @@ use Rattle.screen_segments.specs.Parts.{segment_count, ahead_of, clamp_to, mode_
 use Rattle.screen_segments.proofs.Seats.{Laid, laid, seat_last, seat_within, start_within}
 use Rattle.screen_segments.proofs.Finding.{few_segments}
 use Rattle.text.specs.declared.Position.{Position}
-use Rattle.screen.specs.declared.Offset.{Offset}
 use Rattle.screen.specs.declared.Seat.{Seat}
 use Rattle.screen.specs.Screen.{step_screen}
 use Rattle.screen.specs.Walks.{place_at, ahead_at, seat_at}
@@ -87,10 +85,10 @@ module _ (w : ℕ → ℕ) (t folds : List ℕ) (word : Bool) (width : ℕ) (dow
     pub from_on : 0 < a → r ≡ rounds (step_screen t folds (lay_of w word width) down offset) n p
     from_on l = glides ∙ sym (same_on t folds (lay_of w word width) down offset lays p n h (omega (arith, e)))
 
-    pub from_off : (x : ℕ) → a ≡ 0 → toward folds (row_count t) down p.row ≡ Row x → r ≡ rounds (step_screen t folds (lay_of w word width) down offset) n p
+    pub from_off : (x : ℕ) → a ≡ 0 → toward folds (row_count t) down p.row ≡ Some x → r ≡ rounds (step_screen t folds (lay_of w word width) down offset) n p
     from_off x z found = glides ∙ sym (same_off t folds (lay_of w word width) down offset lays p n x h (sym e ∙ z) found)
 
-  pub from_stuck : a ≡ 0 → toward folds (row_count t) down p.row ≡ NoRow → p ≡ rounds (step_screen t folds (lay_of w word width) down offset) n p
+  pub from_stuck : a ≡ 0 → toward folds (row_count t) down p.row ≡ None → p ≡ rounds (step_screen t folds (lay_of w word width) down offset) n p
   from_stuck z none = sym (stuck t folds (lay_of w word width) down offset n p (sym e ∙ z) none)
 
 -- the seat of a place gives the segments ahead and its own offset
@@ -101,7 +99,7 @@ module _ (t folds : List ℕ) (lay : List ℕ → List ℕ) (down : Bool) (p : P
   pub seat_near : s.offset ≤ p.col
   seat_near = omega (arith, ap (λ (x : Seat). x.offset) e)
 
-  pub glided_made : (n : ℕ) (offset : Offset) {kept : ℕ} {q : Position} → kept ≡ or_own offset s.offset →
+  pub glided_made : (n : ℕ) (offset : Option ℕ) {kept : ℕ} {q : Position} → kept ≡ or_own offset s.offset →
       q ≡ rounds (step_screen t folds lay down kept) n p → record { place = q; offset = kept } ≡ glided t folds lay down n offset p
   glided_made n offset {kept} {q} k g = ap (λ (x : Position). record { place = x; offset = kept }) g ∙
       ap (λ (x : ℕ). record { place = rounds (step_screen t folds lay down x) n p; offset = x }) (k ∙ ap (λ (x : Seat). or_own offset x.offset) e)

@@ -1,8 +1,7 @@
 -- The rounds of a screen move: within a row k rounds go k segments, so that a row is walked once, and then into the next visible row.
 -- A place is kept by its row and how many segments lie ahead of it in the row. Assumes nothing.
-use Rattle.lists.proofs.Kit.{◌≡◌, refl, sym, ap, ◌∙◌, List, Bool, true, false, ℕ, zero, suc, ◌+◌, ◌-◌, ◌≤◌, ◌<◌, arith, length, lt-ltb, le-ltb}
+use Rattle.lists.proofs.Kit.{◌≡◌, refl, sym, ap, ◌∙◌, List, Bool, true, false, ℕ, zero, suc, ◌+◌, ◌-◌, ◌≤◌, ◌<◌, arith, length, lt-ltb, le-ltb, Some, None}
 use Rattle.text.specs.Text.{row_count, row_at}
-use Rattle.folds.specs.declared.Visible.TheVariants.{Row, NoRow}
 use Rattle.text.specs.declared.Position.{Position}
 use Rattle.lists.specs.Rounds.{rounds}
 use Rattle.visible_rows.specs.Visible.{toward, shift}
@@ -44,7 +43,7 @@ module _ (t folds : List ℕ) (lay : List ℕ → List ℕ) (down : Bool) (offse
   round_off p e = rw (le-ltb 0 (ahead_at t lay down p) (omega arith))
 
   -- no segment is ahead and no row: the place stays
-  pub stuck : (n : ℕ) (p : Position) → ahead_at t lay down p ≡ 0 → toward folds (row_count t) down p.row ≡ NoRow →
+  pub stuck : (n : ℕ) (p : Position) → ahead_at t lay down p ≡ 0 → toward folds (row_count t) down p.row ≡ None →
       rounds (step_screen t folds lay down offset) n p ≡ p
   stuck n p e none = rounds_still (step_screen t folds lay down offset) n p (round_off p e ∙ ap (entered t lay down offset p) none)
 
@@ -74,7 +73,7 @@ module _ (t folds : List ℕ) (lay : List ℕ → List ℕ) (down : Bool) (offse
           sym (round_on (own_place t lay down offset p) (omega (arith, own_ahead)))) ∙
           sym (rounds_on (step_screen t folds lay down offset) n (own_place t lay down offset p) h)
 
-      pub same_off : (n x : ℕ) → 0 < n → ahead_at t lay down p ≡ 0 → toward folds (row_count t) down p.row ≡ Row x →
+      pub same_off : (n x : ℕ) → 0 < n → ahead_at t lay down p ≡ 0 → toward folds (row_count t) down p.row ≡ Some x →
           rounds (step_screen t folds lay down offset) n p ≡ rounds (step_screen t folds lay down offset) n (own_place t lay down offset p)
       same_off n x h e found = rounds_on (step_screen t folds lay down offset) n p h ∙ ap (rounds (step_screen t folds lay down offset) (n - 1))
           (round_off p e ∙ ap (entered t lay down offset p) found ∙
@@ -105,12 +104,12 @@ module _ (t folds : List ℕ) (lay : List ℕ → List ℕ) (down : Bool) (offse
           rounds_add (step_screen t folds lay down offset) a (left - a) (place_at t lay down offset row a) ∙
           ap (rounds (step_screen t folds lay down offset) (left - a)) (rounds_in a row a (omega arith) h ∙ ap (place_at t lay down offset row) none)
 
-      pub crosses : (x : ℕ) → toward folds (row_count t) down row ≡ Row x → rounds (step_screen t folds lay down offset) left (place_at t lay down offset row a) ≡
+      pub crosses : (x : ℕ) → toward folds (row_count t) down row ≡ Some x → rounds (step_screen t folds lay down offset) left (place_at t lay down offset row a) ≡
           rounds (step_screen t folds lay down offset) (left - a - 1) (place_at t lay down offset x (count_of t lay x - 1))
       crosses x found = to_edge ∙ rounds_on (step_screen t folds lay down offset) (left - a) (place_at t lay down offset row 0) (omega arith) ∙
           ap (rounds (step_screen t folds lay down offset) (left - a - 1))
           (round_off (place_at t lay down offset row 0) (ahead_at_lem row 0 (omega arith)) ∙ ap (entered t lay down offset (place_at t lay down offset row 0)) found)
 
-      pub stops : toward folds (row_count t) down row ≡ NoRow →
+      pub stops : toward folds (row_count t) down row ≡ None →
           rounds (step_screen t folds lay down offset) left (place_at t lay down offset row a) ≡ place_at t lay down offset row 0
       stops none = to_edge ∙ stuck (left - a) (place_at t lay down offset row 0) (ahead_at_lem row 0 (omega arith)) none

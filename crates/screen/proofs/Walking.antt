@@ -1,9 +1,8 @@
 -- The walk of a screen move from spot to spot follows the rounds, whatever offset is kept. Assumes nothing.
-use Rattle.lists.proofs.Kit.{◌≡◌, refl, sym, ap, ◌∙◌, List, Bool, ℕ, ◌-◌, ◌≤◌, ◌<◌, arith}
+use Rattle.lists.proofs.Kit.{◌≡◌, refl, sym, ap, ◌∙◌, List, Bool, ℕ, ◌-◌, ◌≤◌, ◌<◌, arith, Some, None}
 use Rattle.text.specs.Text.{row_count, row_at}
 use Rattle.text.specs.Offsets.{Stands, line_at}
 use Rattle.text.specs.declared.Line.{Line}
-use Rattle.folds.specs.declared.Visible.TheVariants.{Row, NoRow}
 use Rattle.text.proofs.Stands.{line_there}
 use Rattle.text.specs.declared.Position.{Position}
 use Rattle.screen.specs.declared.Spot.{Spot}
@@ -41,7 +40,7 @@ walking_start s i = record { line = i.line; inside = i.inside; same = λ offset.
 module _ {w : ℕ → ℕ} {t folds : List ℕ} {word : Bool} {width : ℕ} {down : Bool} {n row₀ ahead₀ row start ahead left : ℕ}
     (so_far : Walking w t folds word width down n row₀ ahead₀ row start ahead left) where
   -- into the next visible row
-  pub walking_cross : (x m : ℕ) (next : Line) → ahead < left → toward folds (row_count t) down row ≡ Row x → x < row_count t → next ≡ line_at t x →
+  pub walking_cross : (x m : ℕ) (next : Line) → ahead < left → toward folds (row_count t) down row ≡ Some x → x < row_count t → next ≡ line_at t x →
       m ≡ segment_count (lay_of w word width (row_at t next.row)) → 0 < m →
       Walking w t folds word width down n row₀ ahead₀ next.row next.start (m - 1) (left - ahead - 1)
   walking_cross x m next l found h e c p =
@@ -58,7 +57,7 @@ module _ {w : ℕ → ℕ} {t folds : List ℕ} {word : Bool} {width : ℕ} {dow
       }
 
   -- no row is left, or no round
-  pub walking_edge : (s : Spot) → s.row ≡ row₀ → s.ahead ≡ ahead₀ → ahead < left → toward folds (row_count t) down row ≡ NoRow →
+  pub walking_edge : (s : Spot) → s.row ≡ row₀ → s.ahead ≡ ahead₀ → ahead < left → toward folds (row_count t) down row ≡ None →
       Leads t folds (lay_of w word width) down n s (record { row = row; start = start; ahead = 0 })
   walking_edge s e q l none offset = rw (e, q)
       (so_far.same offset ∙ stops t folds (lay_of w word width) down offset (λ r. laid w (mode_of word) width r) row ahead left so_far.inside l none)

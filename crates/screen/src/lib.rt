@@ -11,18 +11,11 @@ mod out_of_folds;
 mod walks;
 pub mod wrapped;
 
-// The offset within a segment that is kept from move to move, where there is one.
-#[derive(Clone, Copy)]
-pub enum Offset {
-    Absent,
-    At(u32),
-}
-
 // Where a move leads to, and the offset that is kept then.
 #[derive(Clone, Copy)]
 pub struct Kept {
     pub target: Target,
-    pub offset: Offset,
+    pub offset: Option<u32>,
 }
 
 // A place under wrap: its row with the row's start, and how many segments lie ahead of it in the

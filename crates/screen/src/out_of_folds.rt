@@ -6,9 +6,8 @@ ghost use Rattle.screen.specs.Walks.{JumpedTo};
 ghost use Rattle.screen.specs.Ready.{JumpReady, Leaves};
 ghost use Rattle.screen.specs.Keeping.{starts_at};
 
-use crate::{Jump, Offset};
-use folds::Span;
-use text::{Line, least, minus};
+use crate::Jump;
+use text::Line;
 
 // The last row downwards, the first upwards.
 fn pick(down: bool, last: usize, first: usize) -> usize
@@ -37,7 +36,7 @@ fn jump_to(t: &[u32], l: Line, col: usize, row: usize) -> Jump
     Jump {
         row: m.row,
         start: m.start,
-        col: least(col, minus(n, 1)),
+        col: col.min(n.saturating_sub(1)),
     }
 }
 
@@ -57,8 +56,8 @@ fn jump(
         result }
 {
     match folds::closed_fold_at(folds, rows, content, l.row) {
-        Span::Of(first, last) => jump_to(t, l, col, pick(down, last, first)),
-        Span::NoSpan => Jump {
+        Some((first, last)) => jump_to(t, l, col, pick(down, last, first)),
+        None => Jump {
             row: l.row,
             start: l.start,
             col: col,
@@ -75,15 +74,15 @@ pub fn start(
     down: bool,
     l: Line,
     col: usize,
-    offset: Offset,
+    offset: Option<u32>,
 ) -> Jump
     requires { Leaves t.now folds.now rows content l col }
     ensures { JumpedTo t.now (starts_at t.now folds.now down
         offset (record { row = l.row; col = col })) result }
 {
     match offset {
-        Offset::Absent => jump(t, folds, rows, content, down, l, col),
-        Offset::At(_) => Jump {
+        None => jump(t, folds, rows, content, down, l, col),
+        Some(_) => Jump {
             row: l.row,
             start: l.start,
             col: col,

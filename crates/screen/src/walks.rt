@@ -2,7 +2,7 @@
 // once to count its segments and once to come to the one wanted, whatever the count; no room for
 // segments is needed. Long by its lists of parameters, a line for each.
 ghost use Rattle.std.specs.Prelude.{◌≡◌, ◌≤◌};
-ghost use Rattle.chars.specs.Width.{width_by};
+ghost use Rattle.chars.specs.Width.{width_with};
 ghost use Rattle.screen_segments.specs.Parts.{lay_of};
 ghost use Rattle.lists.specs.Rounds.{rounds};
 ghost use Rattle.screen.specs.Screen.{step_screen};
@@ -10,15 +10,14 @@ ghost use Rattle.screen.specs.Walks.{place_at, seat_at, WalksTo};
 ghost use Rattle.screen.specs.Ready.{ReadyAt, Glides, LandReady, Sits, Seated, Placed};
 ghost use Rattle.screen.specs.Keeping.{or_own, OffsetIs, glided, GlidesTo};
 
-use crate::{Glided, Offset, Seat, Spot};
-use folds::Visible;
-use text::{Line, Position, minus};
+use crate::{Glided, Seat, Spot};
+use chars::Measure;
+use text::{Line, Position};
 use visible_rows::rows;
 
 // So many rounds from a spot: segments of its row, and then from row to visible row.
 fn walk(
-    zeros: &[u32],
-    doubles: &[u32],
+    by: Measure<'_>,
     white: &[u32],
     t: &[u32],
     folds: &[u32],
@@ -29,10 +28,10 @@ fn walk(
     from: Spot,
     n: usize,
 ) -> Spot
-    requires { ReadyAt zeros.now doubles.now white.now t.now folds.now rows width
+    requires { ReadyAt by white.now t.now folds.now rows width
         word from }
     ensures { WalksTo t.now folds.now
-        (lay_of (width_by zeros.now doubles.now) word width) down n from result }
+        (lay_of (width_with by.entry) word width) down n from result }
 {
     let mut row = from.row;
     let mut start = from.start;
@@ -44,17 +43,16 @@ fn walk(
         let hop = rows::hop(folds, rows, down, row, free);
         let seen = hop.next;
         match seen {
-            Visible::Row(x) => {
+            Some(x) => {
                 let next = text::offsets::line_to(t, row, start, x);
                 let line = text::offsets::row(t, next);
                 left = left - ahead - 1;
                 free = hop.free;
                 row = next.row;
                 start = next.start;
-                ahead = screen_segments::segment_count(zeros, doubles, white, line, width, word)
-                    - 1;
+                ahead = screen_segments::segment_count(by, white, line, width, word) - 1;
             }
-            Visible::NoRow => {
+            None => {
                 return Spot {
                     row: row,
                     start: start,
@@ -72,8 +70,7 @@ fn walk(
 
 // The place at a spot: so many characters behind the start of its segment.
 fn land(
-    zeros: &[u32],
-    doubles: &[u32],
+    by: Measure<'_>,
     white: &[u32],
     t: &[u32],
     width: u32,
@@ -82,9 +79,9 @@ fn land(
     s: Spot,
     offset: usize,
 ) -> Position
-    requires { LandReady zeros.now doubles.now white.now t.now width word s offset }
+    requires { LandReady by white.now t.now width word s offset }
     ensures { result ≡ place_at t.now
-        (lay_of (width_by zeros.now doubles.now) word width) down offset
+        (lay_of (width_with by.entry) word width) down offset
         s.row s.ahead }
 {
     let l = Line {
@@ -93,9 +90,9 @@ fn land(
     };
     let row = text::offsets::row(t, l);
     let n = row.len();
-    let count = screen_segments::segment_count(zeros, doubles, white, row, width, word);
+    let count = screen_segments::segment_count(by, white, row, width, word);
     let index = screen_segments::ahead_of(down, count, s.ahead);
-    let part = screen_segments::find_segment(zeros, doubles, white, row, width, word, n, index);
+    let part = screen_segments::find_segment(by, white, row, width, word, n, index);
     Position {
         row: s.row,
         col: screen_segments::clamp_to_segment(part.start, part.end, offset, n),
@@ -104,8 +101,7 @@ fn land(
 
 // So many rounds from a spot, with the offset that they keep.
 fn glide(
-    zeros: &[u32],
-    doubles: &[u32],
+    by: Measure<'_>,
     white: &[u32],
     t: &[u32],
     folds: &[u32],
@@ -117,25 +113,22 @@ fn glide(
     offset: usize,
     n: usize,
 ) -> Position
-    requires { Glides zeros.now doubles.now white.now t.now folds.now rows width
+    requires { Glides by white.now t.now folds.now rows width
         word from offset }
     ensures { result ≡ rounds
         (step_screen t.now folds.now
-        (lay_of (width_by zeros.now doubles.now) word width) down offset) n
+        (lay_of (width_with by.entry) word width) down offset) n
         (place_at t.now
-        (lay_of (width_by zeros.now doubles.now) word width) down offset
+        (lay_of (width_with by.entry) word width) down offset
         from.row from.ahead) }
 {
-    let s = walk(
-        zeros, doubles, white, t, folds, rows, width, word, down, from, n,
-    );
-    land(zeros, doubles, white, t, width, word, down, s, offset)
+    let s = walk(by, white, t, folds, rows, width, word, down, from, n);
+    land(by, white, t, width, word, down, s, offset)
 }
 
 // How many segments lie ahead of a place in its row, and its character offset in its segment.
 fn seat(
-    zeros: &[u32],
-    doubles: &[u32],
+    by: Measure<'_>,
     white: &[u32],
     t: &[u32],
     width: u32,
@@ -144,26 +137,25 @@ fn seat(
     l: Line,
     col: usize,
 ) -> Seat
-    requires { Sits zeros.now doubles.now white.now t.now width l }
+    requires { Sits by white.now t.now width l }
     ensures { result ≡ seat_at t.now
-        (lay_of (width_by zeros.now doubles.now) word width) down
+        (lay_of (width_with by.entry) word width) down
         (record { row = l.row; col = col }) }
 {
     let row = text::offsets::row(t, l);
     let n = row.len();
-    let part = screen_segments::find_segment(zeros, doubles, white, row, width, word, col, n);
-    let count = screen_segments::segment_count(zeros, doubles, white, row, width, word);
+    let part = screen_segments::find_segment(by, white, row, width, word, col, n);
+    let count = screen_segments::segment_count(by, white, row, width, word);
     Seat {
         ahead: screen_segments::ahead_of(down, count, part.index),
-        offset: minus(col, part.start),
+        offset: col.saturating_sub(part.start),
     }
 }
 
 // The rounds of a count from a place with so many segments ahead, by the offset that they keep.
 // Where no segment and no row lies ahead the place stays, even behind the row's last character.
 fn rounds_from(
-    zeros: &[u32],
-    doubles: &[u32],
+    by: Measure<'_>,
     white: &[u32],
     t: &[u32],
     folds: &[u32],
@@ -177,10 +169,10 @@ fn rounds_from(
     offset: usize,
     n: usize,
 ) -> Position
-    requires { Seated zeros.now doubles.now white.now t.now folds.now rows width
+    requires { Seated by white.now t.now folds.now rows width
         word down l col ahead offset n }
     ensures { result ≡ rounds (step_screen t.now folds.now
-        (lay_of (width_by zeros.now doubles.now) word width) down offset) n
+        (lay_of (width_with by.entry) word width) down offset) n
         (record { row = l.row; col = col }) }
 {
     let from = Spot {
@@ -190,14 +182,14 @@ fn rounds_from(
     };
     if ahead > 0 {
         return glide(
-            zeros, doubles, white, t, folds, rows, width, word, down, from, offset, n,
+            by, white, t, folds, rows, width, word, down, from, offset, n,
         );
     }
     match rows::visible_row(folds, rows, down, l.row) {
-        Visible::Row(x) => glide(
-            zeros, doubles, white, t, folds, rows, width, word, down, from, offset, n,
+        Some(x) => glide(
+            by, white, t, folds, rows, width, word, down, from, offset, n,
         ),
-        Visible::NoRow => Position {
+        None => Position {
             row: l.row,
             col: col,
         },
@@ -205,20 +197,19 @@ fn rounds_from(
 }
 
 // The offset at hand, or a place's own.
-fn or_own(offset: Offset, own: usize) -> usize
+fn or_own(offset: Option<u32>, own: usize) -> usize
     requires { own ≤ 1048576 }
     ensures { OffsetIs (or_own offset own) result }
 {
     match offset {
-        Offset::Absent => own,
-        Offset::At(x) => x as usize,
+        None => own,
+        Some(x) => x as usize,
     }
 }
 
 // The rounds of a count from a place, which keep the offset at hand or the place's own.
 pub fn screen_from(
-    zeros: &[u32],
-    doubles: &[u32],
+    by: Measure<'_>,
     white: &[u32],
     t: &[u32],
     folds: &[u32],
@@ -228,19 +219,19 @@ pub fn screen_from(
     down: bool,
     l: Line,
     col: usize,
-    offset: Offset,
+    offset: Option<u32>,
     n: usize,
 ) -> Glided
-    requires { Placed zeros.now doubles.now white.now t.now folds.now rows width
+    requires { Placed by white.now t.now folds.now rows width
         l col n }
     ensures { GlidesTo (glided t.now folds.now
-        (lay_of (width_by zeros.now doubles.now) word width) down n offset
+        (lay_of (width_with by.entry) word width) down n offset
         (record { row = l.row; col = col })) result }
 {
-    let s = seat(zeros, doubles, white, t, width, word, down, l, col);
+    let s = seat(by, white, t, width, word, down, l, col);
     let kept = or_own(offset, s.offset);
     let p = rounds_from(
-        zeros, doubles, white, t, folds, rows, width, word, down, l, col, s.ahead, kept, n,
+        by, white, t, folds, rows, width, word, down, l, col, s.ahead, kept, n,
     );
     Glided {
         place: p,

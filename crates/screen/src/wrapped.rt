@@ -3,52 +3,51 @@
 // offset within a segment that is at hand, or with none as the Rust's do, and answers with the one
 // that it kept.
 ghost use Rattle.std.specs.Prelude.{◌≡◌};
-ghost use Rattle.chars.specs.Width.{width_by};
+ghost use Rattle.chars.specs.Width.{width_with};
 ghost use Rattle.screen_segments.specs.Parts.{lay_of};
 ghost use Rattle.screen.specs.Ready.{Moving, MovingBroken};
 ghost use Rattle.screen.specs.Keeping.{screen_kept, move_screen_kept};
 ghost use Rattle.screen.specs.Keeping.{unkept as unkept_of};
 
-use crate::{Kept, Offset, out_of_folds, walks};
+use crate::{Kept, out_of_folds, walks};
+use chars::Measure;
 use row_wrap::Wrap;
-use text::{Line, most};
-use vertical::{Sticky, Target, moves};
+use text::Line;
+use vertical::{Target, moves};
 
 // The target where rows are broken, by words or by characters, and the offset that was kept.
 fn move_broken(
-    zeros: &[u32],
-    doubles: &[u32],
+    by: Measure<'_>,
     t: &[u32],
     folds: &[u32],
     rows: usize,
     content: usize,
     l: Line,
     col: usize,
-    sticky: Sticky,
-    offset: Offset,
+    sticky: Option<u32>,
+    offset: Option<u32>,
     down: bool,
     count: u32,
     tabstop: u32,
     width: u32,
     word: bool,
 ) -> Kept
-    requires { MovingBroken zeros.now doubles.now t.now folds.now rows content l col
+    requires { MovingBroken by t.now folds.now rows content l col
         tabstop width }
-    ensures { result ≡ screen_kept (width_by zeros.now doubles.now)
+    ensures { result ≡ screen_kept (width_with by.entry)
         t.now folds.now tabstop
-        (lay_of (width_by zeros.now doubles.now) word width) down count
+        (lay_of (width_with by.entry) word width) down count
         l.row col sticky offset }
 {
-    let want = moves::wanted(zeros, doubles, t, folds, l, col, sticky, tabstop);
+    let want = moves::wanted(by, t, folds, l, col, sticky, tabstop);
     let j = out_of_folds::start(t, folds, rows, content, down, l, col, offset);
     let m = Line {
         row: j.row,
         start: j.start,
     };
-    let n = most(count as usize, 1);
+    let n = (count as usize).max(1);
     let g = walks::screen_from(
-        zeros,
-        doubles,
+        by,
         &chars::WHITE,
         t,
         folds,
@@ -68,7 +67,7 @@ fn move_broken(
     };
     Kept {
         target: to,
-        offset: Offset::At(g.offset as u32),
+        offset: Some(g.offset as u32),
     }
 }
 
@@ -78,52 +77,47 @@ fn unkept(to: Target) -> Kept
 {
     Kept {
         target: to,
-        offset: Offset::Absent,
+        offset: None,
     }
 }
 
 // So many segments down or up, count 0 as 1, by the offset at hand; with mode None or width 0 as
 // `j` and `k`, and then none is kept.
 pub fn move_screen(
-    zeros: &[u32],
-    doubles: &[u32],
+    by: Measure<'_>,
     t: &[u32],
     folds: &[u32],
     rows: usize,
     content: usize,
     l: Line,
     col: usize,
-    sticky: Sticky,
-    offset: Offset,
+    sticky: Option<u32>,
+    offset: Option<u32>,
     down: bool,
     count: u32,
     tabstop: u32,
     mode: Wrap,
     width: u16,
 ) -> Kept
-    requires { Moving zeros.now doubles.now t.now folds.now rows content l col
+    requires { Moving by t.now folds.now rows content l col
         tabstop }
-    ensures { result ≡ move_screen_kept (width_by zeros.now doubles.now)
+    ensures { result ≡ move_screen_kept (width_with by.entry)
         t.now folds.now tabstop mode width down count l.row col sticky
         offset }
 {
     let cells = width as u32;
     if cells == 0 {
-        return unkept(moves::move_rows(
-            zeros, doubles, t, folds, rows, l, col, sticky, down, count, tabstop,
-        ));
+        return unkept(moves::move_rows(by, t, folds, rows, l, col, sticky, down, count, tabstop));
     }
     match mode {
         Wrap::None => unkept(moves::move_rows(
-            zeros, doubles, t, folds, rows, l, col, sticky, down, count, tabstop,
+            by, t, folds, rows, l, col, sticky, down, count, tabstop,
         )),
         Wrap::Char => move_broken(
-            zeros, doubles, t, folds, rows, content, l, col, sticky, offset, down, count, tabstop,
-            cells, false,
+            by, t, folds, rows, content, l, col, sticky, offset, down, count, tabstop, cells, false,
         ),
         Wrap::Word => move_broken(
-            zeros, doubles, t, folds, rows, content, l, col, sticky, offset, down, count, tabstop,
-            cells, true,
+            by, t, folds, rows, content, l, col, sticky, offset, down, count, tabstop, cells, true,
         ),
     }
 }

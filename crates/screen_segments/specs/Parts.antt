@@ -1,6 +1,7 @@
 -- The segments of a row by their number: `lay` is how a row is broken, start, end, start, end .. From `step_screen` of motions.rs.
 -- Definitions only; the laws are in `proofs/Seats.antt` and `proofs/Finding.antt`. Assumes nothing.
 use Rattle.std.specs.Prelude.{ℕ, ◌+◌, ◌-◌, ◌*◌, ◌/◌, ◌≤◌, ◌<◌, min, max, ◌≡◌, List, Bool, cond, ltb, length, get_or}
+use Rattle.chars.specs.declared.Measure.{Measure}
 use Rattle.chars.specs.White.{is_white}
 use Rattle.row_wrap.specs.declared.Wrap.{Wrap}
 use Rattle.row_wrap.specs.declared.Wrap.TheVariants.{Char, Word}
@@ -40,8 +41,8 @@ abbrev pub part_for : List ℕ → ℕ → ℕ → Part
 part_for segs col index = part_at segs (min index (segment_index segs col))
 
 -- what breaking a row requires: the tables that are lent, and a width of at least one cell
-pub record Breaks (zeros doubles white : List ℕ) (width : ℕ) : Type 0 where
-  pub tables : Tables zeros doubles white
+pub record Breaks (m : Measure) (white : List ℕ) (width : ℕ) : Type 0 where
+  pub tables : Tables m white
   pub wide : 0 < width
 
 -- r is that segment, and how many there are

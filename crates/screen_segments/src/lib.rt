@@ -4,11 +4,11 @@
 #![tactic(auto)]
 
 ghost use Rattle.std.specs.Prelude.{◌≡◌, cond, ◌+◌, ◌-◌, ◌≤◌, ◌<◌, ltb};
-ghost use Rattle.chars.specs.Width.{width_by};
+ghost use Rattle.chars.specs.Width.{width_with};
 ghost use Rattle.screen_segments.specs.Parts.{ahead_of, clamp_to};
 ghost use Rattle.screen_segments.specs.Parts.{lay_of, Breaks, PartIs, CountIs};
 
-use text::{least, minus, most};
+use chars::Measure;
 
 // A segment of a row: its number, and where it starts and ends in the row.
 #[derive(Clone, Copy)]
@@ -21,8 +21,7 @@ pub struct Part {
 // The segment of a row that holds column `col`, or an earlier one that has the number `index`;
 // past the row's end the last.
 pub fn find_segment(
-    zeros: &[u32],
-    doubles: &[u32],
+    by: Measure<'_>,
     white: &[u32],
     row: &[u32],
     width: u32,
@@ -30,9 +29,9 @@ pub fn find_segment(
     col: usize,
     index: usize,
 ) -> Part
-    requires { Breaks zeros.now doubles.now white.now width }
+    requires { Breaks by white.now width }
     ensures { PartIs row.now
-        (lay_of (width_by zeros.now doubles.now) word width row.now)
+        (lay_of (width_with by.entry) word width row.now)
         col index result }
 {
     let mut k: usize = 0;
@@ -40,7 +39,7 @@ pub fn find_segment(
     // A `while`: the segments differ in length.
     while start < row.len() {
         let rest = &row[start..];
-        let end = start + row_segment::first_segment(zeros, doubles, white, rest, width, word);
+        let end = start + row_segment::first_segment(by, white, rest, width, word);
         if k == index {
             return Part {
                 index: k,
@@ -73,21 +72,14 @@ pub fn find_segment(
 }
 
 // How many segments a row has.
-pub fn segment_count(
-    zeros: &[u32],
-    doubles: &[u32],
-    white: &[u32],
-    row: &[u32],
-    width: u32,
-    word: bool,
-) -> usize
-    requires { Breaks zeros.now doubles.now white.now width }
+pub fn segment_count(by: Measure<'_>, white: &[u32], row: &[u32], width: u32, word: bool) -> usize
+    requires { Breaks by white.now width }
     ensures { CountIs
-        (lay_of (width_by zeros.now doubles.now) word width row.now)
+        (lay_of (width_with by.entry) word width row.now)
         result }
 {
     let n = row.len();
-    let last = find_segment(zeros, doubles, white, row, width, word, n, n);
+    let last = find_segment(by, white, row, width, word, n, n);
     last.index + 1
 }
 
@@ -113,10 +105,10 @@ pub fn clamp_to_segment(start: usize, end: usize, offset: usize, len: usize) -> 
     requires { start + offset ≤ 8589934592 }
     ensures { result ≡ clamp_to start end offset len }
 {
-    let line_max = minus(len, 1);
+    let line_max = len.saturating_sub(1);
     let seg_max = last_of(start, end);
-    most(
-        least(least(start + offset, seg_max), line_max),
-        least(start, line_max),
-    )
+    (start + offset)
+        .min(seg_max)
+        .min(line_max)
+        .max(start.min(line_max))
 }

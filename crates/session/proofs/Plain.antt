@@ -1,13 +1,11 @@
 -- What a session prints is ASCII, and so its own encoding: keys that are known, numbers, spaces and ends of lines. Assumes nothing.
-use Rattle.lists.proofs.Kit.{◌≡◌, refl, List, [], ◌∷◌, ◌++◌, Bool, true, false, cond, ◌||◌, ℕ, zero, suc, ◌+◌, ◌/◌, ◌%◌, ◌<◌, arith, eqb, ltb, le-ltb, ltb-true}
+use Rattle.lists.proofs.Kit.{◌≡◌, refl, List, [], ◌∷◌, ◌++◌, Bool, true, false, cond, ◌||◌, ℕ, zero, suc, ◌+◌, ◌/◌, ◌%◌, ◌<◌, arith, eqb, ltb, le-ltb, ltb-true, Option, Some, None}
 use Rattle.lists.specs.Lists.{any}
 use Rattle.lists.specs.Codes.{codes}
 use Rattle.utf8.specs.Encoding.{utf8, is_above}
 use Rattle.utf8.proofs.Ascii.{utf8_ascii}
 use Rattle.print.specs.Print.{spell, decimal}
 use Rattle.session_row.specs.Commands.{key_part, count_in}
-use Rattle.session_row.specs.declared.Count.{Count}
-use Rattle.session_row.specs.declared.Count.TheVariants.{Of, Malformed}
 use Rattle.motions.specs.declared.Caret.{Caret}
 use Rattle.motions.specs.declared.Moved.{Moved}
 use Rattle.motions.specs.declared.Moved.TheVariants.{To, Refused}
@@ -47,10 +45,10 @@ unfolding decimal
 plain_decimal n = plain_spell 10 n
 
 -- what stands in the key's place, a line, and all of them
-shown_plain : (name t : List ℕ) (k : Caret) (c : Count) → any is_above (shown_of name (counted name c t k)) ≡ false
+shown_plain : (name t : List ℕ) (k : Caret) (c : Option ℕ) → any is_above (shown_of name (counted name c t k)) ≡ false
 unfolding shown_of counted codes any
-shown_plain name t k Malformed = refl
-shown_plain name t k (Of n) = go (pressed name t n k) refl
+shown_plain name t k None = refl
+shown_plain name t k (Some n) = go (pressed name t n k) refl
   where
     go : (m : Moved) → pressed name t n k ≡ m → any is_above (shown_of name m) ≡ false
     go (To q) e = pressed_plain name t n k q e

@@ -1,9 +1,8 @@
 -- Laws of what an input prints: refused or run, and within the room. Assumes nothing.
-use Rattle.lists.proofs.Kit.{◌≡◌, refl, ap, sym, ◌∙◌, List, Bool, true, false, cond, ℕ, ◌≤◌, arith, length, drop, sets-eq, length-take-le}
+use Rattle.lists.proofs.Kit.{◌≡◌, refl, ap, sym, ◌∙◌, List, Bool, true, false, cond, ℕ, ◌≤◌, arith, length, drop, sets-eq, length-take-le, Some, None}
 use Rattle.lists.specs.Codes.{codes}
 use Rattle.print.specs.Print.{Wrote}
 use Rattle.utf8.specs.Walks.{points_of}
-use Rattle.session_input.specs.declared.Begin.TheVariants.{At, Refused}
 use Rattle.session_input.specs.Parts.{text_of, is_refused, begin_of}
 use Rattle.session_input.proofs.Inputs.{taken_short, begin_refused, begin_taken}
 use Rattle.session.specs.Session.{output_of, session_of}
@@ -12,15 +11,15 @@ use Rattle.session.proofs.Lengths.{lines_fit}
 
 -- what an input prints
 module _ (input : List ℕ) where
-  pub session_refused : Refused ≡ begin_of input → session_of input ≡ codes "refused\n"
+  pub session_refused : None ≡ begin_of input → session_of input ≡ codes "refused\n"
   unfolding session_of
   session_refused e = rw (begin_refused input e)
 
-  pub session_runs : {i : ℕ} → At i ≡ begin_of input → session_of input ≡ output_of (points_of (drop i input)) input
+  pub session_runs : {i : ℕ} → Some i ≡ begin_of input → session_of input ≡ output_of (points_of (drop i input)) input
   unfolding session_of
   session_runs e = let by_begin_taken = begin_taken input e in rw (by_begin_taken.0, by_begin_taken.1)
 
-  pub session_short : {i : ℕ} → At i ≡ begin_of input → length input ≤ 16384
+  pub session_short : {i : ℕ} → Some i ≡ begin_of input → length input ≤ 16384
   session_short e = taken_short input (begin_taken input e).0
 
   -- the room of the public call is enough for every input

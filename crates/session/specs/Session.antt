@@ -1,14 +1,11 @@
 -- What a session prints. Document 01, "The session".
 -- Definitions only; the laws are in `proofs/Lengths.antt` and `proofs/Printing.antt`. Assumes nothing.
-use Rattle.std.specs.Prelude.{ℕ, List, [], ◌∷◌, ◌++◌, cond, eqb}
+use Rattle.std.specs.Prelude.{ℕ, List, [], ◌∷◌, ◌++◌, cond, eqb, Option, Some, None}
 use Rattle.text.specs.Text.{rows}
 use Rattle.lists.specs.Codes.{codes}
 use Rattle.print.specs.Print.{decimal}
 use Rattle.session_row.specs.Commands.{key_part, count_in}
-use Rattle.session_row.specs.declared.Count.{Count}
-use Rattle.session_row.specs.declared.Count.TheVariants.{Of, Malformed}
 use Rattle.motions.specs.declared.Caret.{Caret}
-use Rattle.vertical.specs.declared.Sticky.TheVariants.{Absent}
 use Rattle.motions.specs.declared.Moved.{Moved}
 use Rattle.motions.specs.declared.Moved.TheVariants.{To, Refused}
 use Rattle.motions.specs.Carets.{caret_after, caret_at}
@@ -16,9 +13,9 @@ use Rattle.session_input.specs.Parts.{command_rows, text_of, is_refused}
 use Rattle.session_presses.specs.Pressed.{pressed}
 
 -- a key with its count, or a malformed row: 0, which no call refuses with
-unfoldable pub counted : List ℕ → Count → List ℕ → Caret → Moved
-counted name (Of n) t k = pressed name t n k
-counted name Malformed t k = Refused 0
+unfoldable pub counted : List ℕ → Option ℕ → List ℕ → Caret → Moved
+counted name (Some n) t k = pressed name t n k
+counted name None t k = Refused 0
 
 -- what a command row does
 abbrev pub turned : List ℕ → Caret → List ℕ → Moved
@@ -40,7 +37,7 @@ lines_of t k (row ∷ rest) =
     line_of (shown_of (key_part row) m) (caret_after k m) ++ lines_of t (caret_after k m) rest
 
 abbrev pub start : Caret
-start = caret_at 0 0 Absent
+start = caret_at 0 0 None
 
 -- what the commands of an input print with a text, from row 0 and column 0 on
 abbrev pub output_of : List ℕ → List ℕ → List ℕ

@@ -14,9 +14,7 @@ ghost use Rattle.session.specs.Written.{Printed};
 
 use motions::{Caret, Moved};
 use print::{put, put_bytes, put_decimal};
-use session_input::Begin;
-use session_row::{Count, find};
-use vertical::Sticky;
+use session_row::find;
 
 // What a command row does: where it leads to, or the number that it is refused with, 0 for an
 // unknown key or a malformed row.
@@ -24,8 +22,8 @@ fn turn(t: &[u32], k: Caret, row: &[u8]) -> Moved
     ensures { result ≡ turned t.now k row.now }
 {
     match session_row::count_in(row) {
-        Count::Of(n) => session_presses::press(session_row::key(row), k, t, n),
-        Count::Malformed => Moved::Refused(0),
+        Some(n) => session_presses::press(session_row::key(row), k, t, n),
+        None => Moved::Refused(0),
     }
 }
 
@@ -78,7 +76,7 @@ fn lines(input: &[u8], t: &[u32], out: &mut [u8]) -> usize
     ensures { Wrote out.old 0 (output_of t.now input.now) result
         out.new }
 {
-    let mut k = Caret::at(0, 0, Sticky::Absent);
+    let mut k = Caret::at(0, 0, None);
     let mut at: usize = 0;
     let mut i: usize = 0;
     while i <= input.len() {
@@ -123,7 +121,7 @@ pub fn session(input: &[u8], out: &mut [u8; 393240]) -> usize
         out.new }
 {
     match session_input::begins(input) {
-        Begin::At(from) => run(input, from, out),
-        Begin::Refused => refuse(out),
+        Some(from) => run(input, from, out),
+        None => refuse(out),
     }
 }

@@ -1,11 +1,10 @@
 -- Laws of an input: its rows one after another, and where the text begins. Assumes nothing.
-use Rattle.lists.proofs.Kit.{◌≡◌, ap, sym, ◌∙◌, List, ◌∷◌, true, false, ℕ, ◌+◌, ◌-◌, ◌≤◌, ◌<◌, arith, length, take, drop, length-drop, length-take-le}
+use Rattle.lists.proofs.Kit.{◌≡◌, ap, sym, ◌∙◌, List, ◌∷◌, true, false, ℕ, ◌+◌, ◌-◌, ◌≤◌, ◌<◌, arith, length, take, drop, length-drop, length-take-le, Some, None}
 use Rattle.lists.specs.Lists.{up_to}
 use Rattle.lists.proofs.Splits.{split_from, split_from_start, split_from_end, split_from_step}
 use Rattle.text.specs.Text.{rows}
 use Rattle.text.proofs.Rows.{rows_split}
 use Rattle.session_row.specs.Commands.{Ends}
-use Rattle.session_input.specs.declared.Begin.TheVariants.{At, Refused}
 use Rattle.session_input.specs.Parts.{is_stop, has_stop, text_at, stop_of}
 
 -- the rows of an input from an index on; the first of them is what `&l[i..e]` reads
@@ -60,12 +59,12 @@ module _ {input : List ℕ} {i e : ℕ} (so_far : Sought input i) (h : i ≤ len
         begins = omega (arith, so_far.begins, stop_past p, w.after);
       }
 
-  pub sought_here : is_stop (take (e - i) (drop i input)) ≡ true → At (e + 1) ≡ stop_of input
+  pub sought_here : is_stop (take (e - i) (drop i input)) ≡ true → Some (e + 1) ≡ stop_of input
   unfolding stop_of
   sought_here p =
       let text_is : text_at (rows input) ≡ e + 1 = omega (arith, so_far.begins, stop_at p, w.after) in
       rw (so_far.stops ∙ has_here p, text_is)
 
-pub sought_end : {input : List ℕ} {i : ℕ} → Sought input i → length input < i → Refused ≡ stop_of input
+pub sought_end : {input : List ℕ} {i : ℕ} → Sought input i → length input < i → None ≡ stop_of input
 unfolding stop_of has_stop
 sought_end {input} {i} s h = rw (s.stops ∙ ap has_stop (split_from_end 10 input i h))

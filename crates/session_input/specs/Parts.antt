@@ -1,13 +1,11 @@
 -- The parts of an input: command rows, the first row with only a full stop, and the text; and when it is refused. Document 01, "The session", and
 -- document 02, #105. Definitions only; the laws are in `proofs/`. Assumes nothing.
-use Rattle.std.specs.Prelude.{ℕ, ◌+◌, ◌≤◌, ◌≡◌, List, [], ◌∷◌, Bool, true, false, cond, not, ◌||◌, ltb, length, take, drop}
+use Rattle.std.specs.Prelude.{ℕ, ◌+◌, ◌≤◌, ◌≡◌, List, [], ◌∷◌, Bool, true, false, cond, not, ◌||◌, ltb, length, take, drop, Option, Some, None}
 use Rattle.lists.specs.Lists.{is_same}
 use Rattle.text.specs.Text.{rows}
 use Rattle.lists.specs.Codes.{codes}
 use Rattle.utf8.specs.Decoding.{Reading, text, bad, decoding}
 use Rattle.utf8.specs.Walks.{points_of}
-use Rattle.session_input.specs.declared.Begin.{Begin}
-use Rattle.session_input.specs.declared.Begin.TheVariants.{At, Refused}
 
 -- a row with only a full stop
 abbrev pub is_stop : List ℕ → Bool
@@ -40,12 +38,12 @@ is_bad (bad place) = true
 unfoldable pub is_refused : List ℕ → Bool
 is_refused input = ltb 16384 (length input) || (is_bad (decoding input) || not (has_stop (rows input)))
 
-unfoldable pub begin_of : List ℕ → Begin
-begin_of input = cond (is_refused input) Refused (At (text_at (rows input)))
+unfoldable pub begin_of : List ℕ → Option ℕ
+begin_of input = cond (is_refused input) None (Some (text_at (rows input)))
 
 -- the same by the full-stop row alone
-unfoldable pub stop_of : List ℕ → Begin
-stop_of input = cond (has_stop (rows input)) (At (text_at (rows input))) Refused
+unfoldable pub stop_of : List ℕ → Option ℕ
+stop_of input = cond (has_stop (rows input)) (Some (text_at (rows input))) None
 
 -- the first n places of the room hold the code points of the text that begins at an index
 pub record TextIn (input : List ℕ) (from n : ℕ) (room : List ℕ) : Type 0 where

@@ -7,14 +7,6 @@ ghost use Rattle.std.specs.Prelude.{◌≡◌, ◌≤◌, length};
 ghost use Rattle.session_input.specs.Parts.{is_stop, stop_of, begin_of, TextIn};
 
 use session_row::find;
-use utf8::{Checked, Decoded};
-
-// Where a text begins in an input, or that the input is refused.
-#[derive(Clone, Copy)]
-pub enum Begin {
-    At(usize),
-    Refused,
-}
 
 // Whether a row has only a full stop.
 pub fn is_stop(row: &[u8]) -> bool
@@ -24,7 +16,7 @@ pub fn is_stop(row: &[u8]) -> bool
 }
 
 // Where the text begins, past the first such row. A `while`: the step differs from turn to turn.
-fn find_stop(input: &[u8]) -> Begin
+fn find_stop(input: &[u8]) -> Option<usize>
     requires { length input.now ≤ 16384 }
     ensures { result ≡ stop_of input.now }
 {
@@ -33,25 +25,23 @@ fn find_stop(input: &[u8]) -> Begin
         let e = find(input, i, b'\n');
         let next = e + 1;
         if is_stop(&input[i..e]) {
-            return Begin::At(next);
+            return Some(next);
         }
         i = next;
     }
-    Begin::Refused
+    None
 }
 
 // Where the text of an input begins. Input over 16,384 bytes, that is no UTF-8 or with no full-stop
 // row is refused.
-pub fn begins(input: &[u8]) -> Begin
+pub fn begins(input: &[u8]) -> Option<usize>
     ensures { result ≡ begin_of input.now }
 {
     if input.len() > 16384 {
-        return Begin::Refused;
+        return None;
     }
-    match utf8::check(input) {
-        Checked::Points(_) => find_stop(input),
-        Checked::Bad(_) => Begin::Refused,
-    }
+    utf8::check(input).ok()?;
+    find_stop(input)
 }
 
 // Puts the code points of the text that begins at an index into the room, and answers how many
@@ -63,9 +53,5 @@ pub fn read_text(input: &[u8], from: usize, room: &mut [u32]) -> usize
     if from >= input.len() {
         return 0;
     }
-    match utf8::decode(&input[from..], room) {
-        Decoded::Text(n) => n,
-        Decoded::Bad(_) => 0,
-        Decoded::Refused(_) => 0,
-    }
+    utf8::decode(&input[from..], room).unwrap_or(0)
 }

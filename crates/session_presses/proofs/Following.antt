@@ -1,5 +1,5 @@
 -- After `$`, `j` and `k` follow the ends of the rows: the sticky column is past the cells of every row. Assumes nothing.
-use Rattle.lists.proofs.Kit.{◌≡◌, refl, subst, List, [], ◌∷◌, Bool, true, false, cond, ℕ, ◌≤◌, arith, eqb}
+use Rattle.lists.proofs.Kit.{◌≡◌, refl, subst, List, [], ◌∷◌, Bool, true, false, cond, ℕ, ◌≤◌, arith, eqb, Some}
 use Rattle.lists.specs.Codes.{codes}
 use Rattle.lists.specs.Lists.{is_same}
 use Rattle.chars.specs.Width.{zero_widths, double_widths, width_of}
@@ -11,7 +11,6 @@ use Rattle.text_check.proofs.Accepted.{accepted_short}
 use Rattle.text.specs.Text.{last_col}
 use Rattle.positions.proofs.Lowest.{lowest_none}
 use Rattle.visible_rows.specs.Visible.{delta_of}
-use Rattle.vertical.specs.declared.Sticky.TheVariants.{At}
 use Rattle.vertical.specs.Moves.{landed, move_vertical}
 use Rattle.vertical.proofs.Ends.{vertical_last}
 use Rattle.text_moves.specs.declared.Way.TheVariants.{LineEnd}
@@ -74,7 +73,7 @@ module _ (t : List ℕ) (n : ℕ) (k : Caret) where
     where
       go : (b : Bool) → held Ends (cond b (To (put k (gone t LineEnd n (here k)))) (Refused (refusal_of t k))) ≡ To c → AtEnd t c
       go true q =
-          let same : caret_at k.row (last_col t k.row) (At past_ends) ≡ c = cc in
+          let same : caret_at k.row (last_col t k.row) (Some past_ends) ≡ c = cc in
           subst (AtEnd t) same (record { on_last = refl; aims_past = refl })
       go false q = let never : ◌≡◌ {A = ℕ} 0 1 = cc in absurd (omega arith)
 

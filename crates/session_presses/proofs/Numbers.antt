@@ -1,12 +1,10 @@
 -- No key that is known refuses with 0: so 0 stands for an unknown key alone. Assumes nothing.
-use Rattle.lists.proofs.Kit.{◌≡◌, refl, sym, ◌∙◌, List, [], ◌∷◌, Bool, true, false, cond, ◌&&◌, ◌||◌, ℕ, ◌+◌, arith, eqb, ltb, eqb-false}
+use Rattle.lists.proofs.Kit.{◌≡◌, refl, sym, ◌∙◌, List, [], ◌∷◌, Bool, true, false, cond, ◌&&◌, ◌||◌, ℕ, ◌+◌, arith, eqb, ltb, eqb-false, Option, Some, None}
 use Rattle.text_check.specs.Accept.{text_refusal}
 use Rattle.text.specs.Text.{row_count, row_len, row_at}
 use Rattle.text.specs.Offsets.{row_start}
-use Rattle.row_search.specs.declared.Found.{Found}
-use Rattle.row_search.specs.declared.Found.TheVariants.{At, Nothing}
 use Rattle.bracket_walks.specs.declared.Partner.{Partner}
-use Rattle.bracket_walks.specs.declared.Partner.TheVariants.{There, None, Refused as Partner-as-Refused}
+use Rattle.bracket_walks.specs.declared.Partner.TheVariants.{There, None as Partner-as-None, Refused as Partner-as-Refused}
 use Rattle.bracket_walks.specs.Matching.{partner_of, placed}
 use Rattle.brackets.specs.Matching.{matching_bracket_pos}
 use Rattle.bracket_kinds.specs.Find.{first_bracket}
@@ -24,8 +22,6 @@ use Rattle.motions.specs.Carets.{moving, refusal_of}
 use Rattle.motions.specs.Finds.{partner_to, lands_on, seeking}
 use Rattle.motions.specs.Going.{landed, moved_by}
 use Rattle.session_keys.specs.Keys.{Named, two_bytes, word_keys, line_keys, place_keys, table, found, key_of, is_known}
-use Rattle.session_presses.specs.declared.Act.{Act}
-use Rattle.session_presses.specs.declared.Act.TheVariants.{Does, Unknown}
 use Rattle.session_presses.specs.declared.Column.{Column}
 use Rattle.session_presses.specs.Pressed.{act_of, does, held, acted, pressed}
 
@@ -42,10 +38,10 @@ moves f c = go (eqb f 0) refl
     go false p q = let f_is : f ≡ 0 = cc in eqb-false f 0 p f_is
 
 -- the partner of a bracket is refused for its text alone
-placed_numbered : (t : List ℕ) (f : Found) → placed t f ≡ Partner-as-Refused 0 → ⊥
+placed_numbered : (t : List ℕ) (f : Option ℕ) → placed t f ≡ Partner-as-Refused 0 → ⊥
 unfolding placed
-placed_numbered t (At j) q = let never : ◌≡◌ {A = ℕ} 0 1 = cc in omega arith
-placed_numbered t Nothing q = let never : ◌≡◌ {A = ℕ} 0 1 = cc in omega arith
+placed_numbered t (Some j) q = let never : ◌≡◌ {A = ℕ} 0 1 = cc in omega arith
+placed_numbered t None q = let never : ◌≡◌ {A = ℕ} 0 1 = cc in omega arith
 
 partner_numbered : (t : List ℕ) (row col : ℕ) → matching_bracket_pos t row col ≡ Partner-as-Refused 0 → ⊥
 unfolding matching_bracket_pos
@@ -54,15 +50,15 @@ partner_numbered t row col = go (eqb (text_refusal t) 0) (ltb row (row_count t) 
     here : Partner
     here = placed t (partner_of t (row_start t row + col))
 
-    go : (b i : Bool) → eqb (text_refusal t) 0 ≡ b → cond b (cond i here None) (Partner-as-Refused (text_refusal t)) ≡ Partner-as-Refused 0 → ⊥
+    go : (b i : Bool) → eqb (text_refusal t) 0 ≡ b → cond b (cond i here Partner-as-None) (Partner-as-Refused (text_refusal t)) ≡ Partner-as-Refused 0 → ⊥
     go true true p q = placed_numbered t (partner_of t (row_start t row + col)) q
     go true false p q = let never : ◌≡◌ {A = ℕ} 0 1 = cc in omega arith
     go false i p q = let text_refusal_is : text_refusal t ≡ 0 = cc in eqb-false (text_refusal t) 0 p text_refusal_is
 
-key_numbered : (t : List ℕ) (row : ℕ) (f : Found) → key_to t row f ≡ Partner-as-Refused 0 → ⊥
+key_numbered : (t : List ℕ) (row : ℕ) (f : Option ℕ) → key_to t row f ≡ Partner-as-Refused 0 → ⊥
 unfolding key_to
-key_numbered t row (At i) q = partner_numbered t row i q
-key_numbered t row Nothing q = let never : ◌≡◌ {A = ℕ} 0 1 = cc in omega arith
+key_numbered t row (Some i) q = partner_numbered t row i q
+key_numbered t row None q = let never : ◌≡◌ {A = ℕ} 0 1 = cc in omega arith
 
 seeking_numbered : (f : ℕ) (s : Sought) → (s ≡ Sought-as-Refused 0 → ⊥) → Numbered (landed (seeking f s))
 unfolding seeking
@@ -77,13 +73,13 @@ seeking_numbered f s h = go (eqb f 0) refl s h
 partner_to_lem : (k : Caret) (p : Partner) → (p ≡ Partner-as-Refused 0 → ⊥) → partner_to k p ≡ Sought-as-Refused 0 → ⊥
 unfolding partner_to
 partner_to_lem k (There x) h q = let never : ◌≡◌ {A = ℕ} 0 1 = cc in omega arith
-partner_to_lem k None h q = let never : ◌≡◌ {A = ℕ} 0 1 = cc in omega arith
+partner_to_lem k Partner-as-None h q = let never : ◌≡◌ {A = ℕ} 0 1 = cc in omega arith
 partner_to_lem k (Partner-as-Refused g) h q = let g_is : g ≡ 0 = cc in h (rw g_is)
 
-lands_on_lem : (k : Caret) (f : Found) → lands_on k f ≡ Sought-as-Refused 0 → ⊥
+lands_on_lem : (k : Caret) (f : Option ℕ) → lands_on k f ≡ Sought-as-Refused 0 → ⊥
 unfolding lands_on
-lands_on_lem k (At i) q = let never : ◌≡◌ {A = ℕ} 0 1 = cc in omega arith
-lands_on_lem k Nothing q = let never : ◌≡◌ {A = ℕ} 0 1 = cc in omega arith
+lands_on_lem k (Some i) q = let never : ◌≡◌ {A = ℕ} 0 1 = cc in omega arith
+lands_on_lem k None q = let never : ◌≡◌ {A = ℕ} 0 1 = cc in omega arith
 
 -- every move
 numbered : (t folds list : List ℕ) (tabstop : ℕ) (m : Move) (n : ℕ) (k : Caret) → Numbered (moved_by t folds list tabstop m n k)
@@ -100,9 +96,9 @@ numbered t folds list tabstop Bracket n k =
 numbered t folds list tabstop (Find x forward till skip) n k = seeking_numbered _ _ (lands_on_lem k _)
 
 -- whether a key does something; all of a table do
-is_act : Act → Bool
-is_act (Does m c) = true
-is_act Unknown = false
+is_act : Option (Move × Column) → Bool
+is_act (Some (m, c)) = true
+is_act None = false
 
 all_acts : List Named → Bool
 all_acts [] = true
@@ -129,10 +125,10 @@ module _ (t : List ℕ) (n : ℕ) (k : Caret) where
   held_zero c (To k) q = let never : ◌≡◌ {A = ℕ} 0 1 = cc in absurd (omega arith)
   held_zero c (Refused f) q = q
 
-  acted_unknown : (a : Act) → acted a t n k ≡ Refused 0 → is_act a ≡ false
+  acted_unknown : (a : Option (Move × Column)) → acted a t n k ≡ Refused 0 → is_act a ≡ false
   unfolding acted is_act
-  acted_unknown (Does m c) q = absurd (numbered t [] (codes "@,48-57,_") 8 m n k (held_zero c (does m t n k) q))
-  acted_unknown Unknown q = refl
+  acted_unknown (Some (m, c)) q = absurd (numbered t [] (codes "@,48-57,_") 8 m n k (held_zero c (does m t n k) q))
+  acted_unknown None q = refl
 
   -- a key that is refused with 0 is in no table
   pub pressed_unknown : (name : List ℕ) → pressed name t n k ≡ Refused 0 → is_known table name ≡ false

@@ -1,9 +1,8 @@
 -- After `$`, `j` and `k` follow the ends of the rows. Document 02, #104.
 -- Definitions only; the proof is in `proofs/Following.antt`. Assumes nothing.
-use Rattle.std.specs.Prelude.{ℕ, ◌≡◌, List, [], ◌∷◌, Bool, true, false}
+use Rattle.std.specs.Prelude.{ℕ, ◌≡◌, List, [], ◌∷◌, Bool, true, false, Some}
 use Rattle.lists.specs.Codes.{codes}
 use Rattle.text.specs.Text.{last_col}
-use Rattle.vertical.specs.declared.Sticky.TheVariants.{At}
 use Rattle.motions.specs.declared.Caret.{Caret}
 use Rattle.motions.specs.declared.Moved.TheVariants.{To}
 use Rattle.motions.specs.Carets.{caret_after}
@@ -12,7 +11,7 @@ use Rattle.session_presses.specs.Pressed.{past_ends, pressed}
 -- the caret stands on the last character of its row, or in column 0 of an empty one, and aims past the end of every row
 pub record AtEnd (t : List ℕ) (k : Caret) : Type 0 where
   pub on_last : k.col ≡ last_col t k.row
-  pub aims_past : k.sticky ≡ At past_ends
+  pub aims_past : k.sticky ≡ Some past_ends
 
 -- `j` or `k` with a count
 pub record Stroke : Type 0 where

@@ -2,14 +2,13 @@
 
 #![tactic(auto)]
 
-ghost use Rattle.std.specs.Prelude.{◌≡◌, false};
+ghost use Rattle.std.specs.Prelude.{◌≡◌, false, Some};
 ghost use Rattle.session_presses.specs.Pressed.{act_of, does, sticky_after, pressed};
 ghost use Rattle.session_presses.specs.Pressed.{held as held_of};
 
 use motions::{Caret, Move, Moved};
 use session_keys::Key;
 use text_moves::Way;
-use vertical::Sticky;
 use widths::Ambiguous;
 use word_rounds::Motion;
 
@@ -25,45 +24,38 @@ pub enum Column {
     Ends,
 }
 
-// What a key does: a move, and what becomes of the sticky column; or nothing, for an unknown key.
-#[derive(Clone, Copy)]
-pub enum Act {
-    Does(Move, Column),
-    Unknown,
-}
-
 // A move on the text alone, after which there is no sticky column.
-fn by(w: Way) -> Act
-    ensures { result ≡ Act.Does (Move.By w) Column.Cleared }
+fn by(w: Way) -> Option<(Move, Column)>
+    ensures { result ≡ Some (Move.By w, Column.Cleared) }
 {
-    Act::Does(Move::By(w), Column::Cleared)
+    Some((Move::By(w), Column::Cleared))
 }
 
 // A word motion; `e` and `E` have stop off.
-fn word(big: bool, motion: Motion) -> Act
-    ensures { result ≡ Act.Does (Move.Word motion big false) Column.Cleared }
+fn word(big: bool, motion: Motion) -> Option<(Move, Column)>
+    ensures { result ≡ Some (Move.Word motion big false, Column.Cleared) }
 {
     let m = Move::Word {
         motion: motion,
         big: big,
         stop: false,
     };
-    Act::Does(m, Column::Cleared)
+    Some((m, Column::Cleared))
 }
 
 // Up or down, by the sticky column that there is. A session has no setting for widths: narrow.
-fn rows(down: bool) -> Act
-    ensures { result ≡ Act.Does (Move.Rows down Ambiguous.Narrow) Column.Kept }
+fn rows(down: bool) -> Option<(Move, Column)>
+    ensures { result ≡ Some (Move.Rows down Ambiguous.Narrow, Column.Kept) }
 {
     let m = Move::Rows {
         down: down,
         ambiguous: Ambiguous::Narrow,
     };
-    Act::Does(m, Column::Kept)
+    Some((m, Column::Kept))
 }
 
 // What each key does.
-fn act_of(key: Key) -> Act
+fn act_of(key: Key) -> Option<(Move, Column)>
     ensures { result ≡ act_of key }
 {
     match key {
@@ -79,7 +71,7 @@ fn act_of(key: Key) -> Act
         Key::BigEndBack => word(true, Motion::EndBack),
         Key::LineStart => by(Way::LineStart),
         Key::FirstNonBlank => by(Way::FirstNonBlank),
-        Key::LineEnd => Act::Does(Move::By(Way::LineEnd), Column::Ends),
+        Key::LineEnd => Some((Move::By(Way::LineEnd), Column::Ends)),
         Key::LastNonBlank => by(Way::LastNonBlank),
         Key::ParagraphPrev => by(Way::ParagraphPrev),
         Key::ParagraphNext => by(Way::ParagraphNext),
@@ -93,21 +85,21 @@ fn act_of(key: Key) -> Act
         Key::Top => by(Way::Top),
         Key::Bottom => by(Way::Bottom),
         Key::Column => by(Way::GotoColumn),
-        Key::Bracket => Act::Does(Move::Bracket, Column::Cleared),
+        Key::Bracket => Some((Move::Bracket, Column::Cleared)),
         Key::Down => rows(true),
         Key::Up => rows(false),
-        Key::Unknown => Act::Unknown,
+        Key::Unknown => None,
     }
 }
 
 // The sticky column after a move that left `s`.
-fn sticky_after(c: Column, s: Sticky) -> Sticky
+fn sticky_after(c: Column, s: Option<u32>) -> Option<u32>
     ensures { result ≡ sticky_after c s }
 {
     match c {
-        Column::Cleared => Sticky::Absent,
+        Column::Cleared => None,
         Column::Kept => s,
-        Column::Ends => Sticky::At(4294967295),
+        Column::Ends => Some(4294967295),
     }
 }
 
@@ -139,7 +131,7 @@ pub fn press(key: &[u8], k: Caret, t: &[u32], n: u32) -> Moved
     ensures { result ≡ pressed key.now t.now n k }
 {
     match act_of(session_keys::key_of(key)) {
-        Act::Does(m, c) => held(c, motion(m, t, n, k)),
-        Act::Unknown => Moved::Refused(0),
+        Some((m, c)) => held(c, motion(m, t, n, k)),
+        None => Moved::Refused(0),
     }
 }

@@ -1,9 +1,8 @@
 -- Laws of command rows: the value of digits, and a row's count. Assumes nothing.
-use Rattle.lists.proofs.Kit.{◌≡◌, List, ℕ, ◌+◌, ◌*◌, ◌-◌, ◌^◌, ◌≤◌, ◌<◌, pow-suc, pow-le-pow_right, add-one, arith, length, get_or, take, drop}
+use Rattle.lists.proofs.Kit.{◌≡◌, List, ℕ, ◌+◌, ◌*◌, ◌-◌, ◌^◌, ◌≤◌, ◌<◌, pow-suc, pow-le-pow_right, add-one, arith, length, get_or, take, drop, Some, None}
 use Rattle.lists.proofs.Kit.{drop_of_length-le, length-drop, take_all, lt-ltb, le-ltb, le-leb, lt-leb}
 use Rattle.lists.specs.Lists.{up_to}
 use Rattle.lists.proofs.Lists.{drop_at}
-use Rattle.session_row.specs.declared.Count.TheVariants.{Of, Malformed}
 use Rattle.session_row.specs.Commands.{digits_from, digits_of, count_in}
 
 -- digits
@@ -12,15 +11,15 @@ module _ (l : List ℕ) (n i : ℕ) where
   unfolding digits_from
   digits_on h p q = rw (drop_at l i h, le-leb 48 (get_or l i 0) p, le-leb (get_or l i 0) 57 q)
 
-  pub digits_low : i < length l → get_or l i 0 < 48 → digits_from n (drop i l) ≡ Malformed
+  pub digits_low : i < length l → get_or l i 0 < 48 → digits_from n (drop i l) ≡ None
   unfolding digits_from
   digits_low h p = rw (drop_at l i h, lt-leb 48 (get_or l i 0) p)
 
-  pub digits_high : i < length l → 48 ≤ get_or l i 0 → 57 < get_or l i 0 → digits_from n (drop i l) ≡ Malformed
+  pub digits_high : i < length l → 48 ≤ get_or l i 0 → 57 < get_or l i 0 → digits_from n (drop i l) ≡ None
   unfolding digits_from
   digits_high h p q = rw (drop_at l i h, le-leb 48 (get_or l i 0) p, lt-leb (get_or l i 0) 57 q)
 
-  pub digits_end : length l ≤ i → digits_from n (drop i l) ≡ Of n
+  pub digits_end : length l ≤ i → digits_from n (drop i l) ≡ Some n
   unfolding digits_from
   digits_end h = rw (drop_of_length-le l h)
 
@@ -34,11 +33,11 @@ pub digits_of_lem : (l : List ℕ) → 1 ≤ length l → length l ≤ 9 → dig
 unfolding digits_of
 digits_of_lem l p q = rw (le-leb 1 (length l) p, le-leb (length l) 9 q)
 
-pub digits_none : (l : List ℕ) → length l ≡ 0 → digits_of l ≡ Malformed
+pub digits_none : (l : List ℕ) → length l ≡ 0 → digits_of l ≡ None
 unfolding digits_of
 digits_none l e = rw e
 
-pub digits_many : (l : List ℕ) → 9 < length l → digits_of l ≡ Malformed
+pub digits_many : (l : List ℕ) → 9 < length l → digits_of l ≡ None
 unfolding digits_of
 digits_many l h = rw (le-leb 1 (length l) (omega arith), lt-leb (length l) 9 h)
 
@@ -47,7 +46,7 @@ module _ (row : List ℕ) (e : ℕ) (at : e ≡ 0 + up_to 32 row) where
   pub space_at : e ≡ up_to 32 row
   space_at = omega arith
 
-  pub count_none : e ≡ length row → count_in row ≡ Of 0
+  pub count_none : e ≡ length row → count_in row ≡ Some 0
   unfolding count_in
   count_none h = rw (← space_at, le-ltb e (length row) (omega arith))
 

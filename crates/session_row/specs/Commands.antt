@@ -1,27 +1,25 @@
 -- A command row: a key, then optionally a space and 1 to 9 digits (missing: 0). Document 01, "The session".
 -- What the contracts of `session_row` and `session` cite. Definitions only; the laws are in `proofs/`. Assumes nothing.
-use Rattle.std.specs.Prelude.{ℕ, ◌+◌, ◌*◌, ◌-◌, ◌≤◌, ◌≡◌, List, [], ◌∷◌, Bool, true, cond, ◌&&◌, ltb, leb, length, take, drop}
+use Rattle.std.specs.Prelude.{ℕ, ◌+◌, ◌*◌, ◌-◌, ◌≤◌, ◌≡◌, List, [], ◌∷◌, Bool, true, cond, ◌&&◌, ltb, leb, length, take, drop, Option, Some, None}
 use Rattle.lists.specs.Lists.{up_to, is_same}
 use Rattle.lists.specs.Codes.{is_digit}
-use Rattle.session_row.specs.declared.Count.{Count}
-use Rattle.session_row.specs.declared.Count.TheVariants.{Of, Malformed}
 
 -- the bytes before the first space
 abbrev pub key_part : List ℕ → List ℕ
 key_part row = take (up_to 32 row) row
 
 -- digits in base ten, after those whose value is n
-unfoldable pub digits_from : ℕ → List ℕ → Count
-digits_from n [] = Of n
-digits_from n (x ∷ l) = cond (is_digit x) (digits_from (n * 10 + (x - 48)) l) Malformed
+unfoldable pub digits_from : ℕ → List ℕ → Option ℕ
+digits_from n [] = Some n
+digits_from n (x ∷ l) = cond (is_digit x) (digits_from (n * 10 + (x - 48)) l) None
 
 -- 1 to 9 of them
-unfoldable pub digits_of : List ℕ → Count
-digits_of l = cond (leb 1 (length l) && leb (length l) 9) (digits_from 0 l) Malformed
+unfoldable pub digits_of : List ℕ → Option ℕ
+digits_of l = cond (leb 1 (length l) && leb (length l) 9) (digits_from 0 l) None
 
 -- what follows the first space, or 0 where there is none
-unfoldable pub count_in : List ℕ → Count
-count_in row = cond (ltb (up_to 32 row) (length row)) (digits_of (drop (up_to 32 row + 1) row)) (Of 0)
+unfoldable pub count_in : List ℕ → Option ℕ
+count_in row = cond (ltb (up_to 32 row) (length row)) (digits_of (drop (up_to 32 row + 1) row)) (Some 0)
 
 -- r tells whether two lists are the same. The last follows
 pub record Same (a b : List ℕ) (r : Bool) : Type 0 where

@@ -6,13 +6,6 @@
 ghost use Rattle.std.specs.Prelude.{◌≡◌, ◌≤◌, length};
 ghost use Rattle.session_row.specs.Commands.{key_part, digits_of, count_in, Ends};
 
-// The count of a command row, or that the row is malformed.
-#[derive(Clone, Copy)]
-pub enum Count {
-    Of(u32),
-    Malformed,
-}
-
 // Where the first x stands at or after `from`, or the length where there is none.
 pub fn find(s: &[u8], from: usize, x: u8) -> usize
     requires { from ≤ length s.now }
@@ -27,26 +20,26 @@ pub fn find(s: &[u8], from: usize, x: u8) -> usize
 }
 
 // The number that 1 to 9 digits make.
-fn digits(s: &[u8]) -> Count
+fn digits(s: &[u8]) -> Option<u32>
     ensures { result ≡ digits_of s.now }
 {
     if s.len() == 0 {
-        return Count::Malformed;
+        return None;
     }
     if s.len() > 9 {
-        return Count::Malformed;
+        return None;
     }
     let mut n: u32 = 0;
     for b in s {
         if *b < 48 {
-            return Count::Malformed;
+            return None;
         }
         if *b > 57 {
-            return Count::Malformed;
+            return None;
         }
         n = n * 10 + (*b as u32 - 48);
     }
-    Count::Of(n)
+    Some(n)
 }
 
 // The key of a row: its bytes before the first space.
@@ -58,12 +51,12 @@ pub fn key(row: &[u8]) -> &[u8]
 }
 
 // The count of a row: that of the digits after its first space, 0 where it has no space.
-pub fn count_in(row: &[u8]) -> Count
+pub fn count_in(row: &[u8]) -> Option<u32>
     ensures { result ≡ count_in row.now }
 {
     let e = find(row, 0, 32);
     if e == row.len() {
-        return Count::Of(0);
+        return Some(0);
     }
     let d = e + 1;
     digits(&row[d..])

@@ -6,7 +6,7 @@ ghost use Rattle.lists.specs.Rounds.{rounds};
 ghost use Rattle.steps.specs.Steps.{times, space_fwd, backspace_back};
 
 use positions::Entry;
-use text::{Position, most};
+use text::Position;
 
 // On by so many characters, over the ends of rows.
 pub fn space_fwd(t: &[u32], p: Position, e: Entry, count: u32) -> Position
@@ -16,7 +16,7 @@ pub fn space_fwd(t: &[u32], p: Position, e: Entry, count: u32) -> Position
     let mut row = p.row;
     let mut start = e.start;
     let mut at = e.start + p.col;
-    for _ in 0..most(count as usize, 1) {
+    for _ in 0..(count as usize).max(1) {
         if at >= t.len() {
             return Position {
                 row,
@@ -54,7 +54,7 @@ pub fn backspace_back(t: &[u32], p: Position, e: Entry, count: u32) -> Position
 {
     let mut row = p.row;
     let mut at = e.start + p.col;
-    for _ in 0..most(count as usize, 1) {
+    for _ in 0..(count as usize).max(1) {
         if at == 0 {
             return Position { row: 0, col: 0 };
         }

@@ -98,24 +98,3 @@ pub fn content_row_count(t: &[u32]) -> Counted
     let n = content_rows(t);
     Counted::Rows(n as u32)
 }
-
-// The smaller and the greater of two numbers, and a difference that stops at 0.
-pub fn least(a: usize, b: usize) -> usize
-    ensures { result ≡ min a b }
-{
-    if a < b { a } else { b }
-}
-
-// The greater of two.
-pub fn most(a: usize, b: usize) -> usize
-    ensures { result ≡ max a b }
-{
-    if a < b { b } else { a }
-}
-
-// The difference, 0 where the second is the greater.
-pub fn minus(a: usize, b: usize) -> usize
-    ensures { result ≡ a - b }
-{
-    if a < b { 0 } else { a - b }
-}

@@ -1,13 +1,12 @@
 -- Where each move to another row leads from a position in the text is a position of the text: a row of it, and at most the row's character count.
 -- Assumes nothing.
-use Rattle.lists.proofs.Kit.{List, Bool, true, false, cond, ℕ, zero, suc, ◌+◌, ◌-◌, ◌≤◌, ◌<◌, min, max, arith, eqb}
+use Rattle.lists.proofs.Kit.{List, Bool, true, false, cond, ℕ, zero, suc, ◌+◌, ◌-◌, ◌≤◌, ◌<◌, min, max, arith, eqb, Option, Some, None}
+use Rattle.text.specs.declared.Line.{Line}
 use Rattle.text.specs.Text.{row_count, row_len, content_rows}
 use Rattle.text.proofs.Content.{content_near}
 use Rattle.margins.specs.Margins.{first_non_blank}
 use Rattle.row_walks.specs.Sections.{begins, section_up, section_down}
 use Rattle.row_walks.specs.Paragraphs.{LeadsIn}
-use Rattle.row_walks.specs.declared.Paragraph.{Paragraph}
-use Rattle.row_walks.specs.declared.Paragraph.TheVariants.{At, Nothing}
 use Rattle.text.specs.declared.Position.{Position}
 use Rattle.positions.specs.Positions.{Inside}
 use Rattle.steps.proofs.Staying.{position_in}
@@ -50,14 +49,14 @@ module _ (t : List ℕ) (p : Position) (i : Inside t p) where
   on_in x n = position_in t _ 0 (omega (arith, down_in t x (max n 1) p.row (content_rows t - 1 - p.row), i.in_row, content_near t)) (omega arith)
 
   -- paragraphs
-  pub up_at_in : (r : Paragraph) → LeadsIn t r → Inside t (up_at p r)
-  up_at_in (At l) h = position_in t l.row 0 h.in_row (omega arith)
-  up_at_in Nothing h = i
+  pub up_at_in : (r : Option Line) → LeadsIn t r → Inside t (up_at p r)
+  up_at_in (Some l) h = position_in t l.row 0 h.in_row (omega arith)
+  up_at_in None h = i
 
   side : (r : ℕ) (b : Bool) → cond b (row_len t r - 1) 0 ≤ row_len t r
   side r true = omega arith
   side r false = omega arith
 
-  pub down_at_in : (r : Paragraph) → LeadsIn t r → Inside t (down_at t p r)
-  down_at_in (At l) h = position_in t l.row _ h.in_row (side l.row (eqb l.row (content_rows t - 1)))
-  down_at_in Nothing h = i
+  pub down_at_in : (r : Option Line) → LeadsIn t r → Inside t (down_at t p r)
+  down_at_in (Some l) h = position_in t l.row _ h.in_row (side l.row (eqb l.row (content_rows t - 1)))
+  down_at_in None h = i

@@ -1,13 +1,11 @@
 // By paragraphs: the moves of `{` and `}`.
-ghost use Rattle.std.specs.Prelude.{◌≡◌};
-ghost use Rattle.row_walks.specs.declared.Paragraph.TheVariants.{At};
+ghost use Rattle.std.specs.Prelude.{◌≡◌, Some};
 ghost use Rattle.positions.specs.Positions.{Accepted};
 ghost use Rattle.text_moves.specs.Paragraphs.{down_at, paragraph_prev, paragraph_next, DownTo};
 
 use positions::Entry;
-use row_walks::Paragraph;
 use row_walks::paragraphs::find_paragraph;
-use text::{Line, Position, minus, most};
+use text::{Line, Position};
 
 // Back over so many paragraphs, to the empty row before them or the first place of the text.
 pub fn paragraph_prev(t: &[u32], p: Position, e: Entry, count: u32) -> Position
@@ -19,9 +17,9 @@ pub fn paragraph_prev(t: &[u32], p: Position, e: Entry, count: u32) -> Position
         start: e.start,
     };
     let last = e.content - 1;
-    match find_paragraph(t, false, last, from, most(count as usize, 1)) {
-        Paragraph::At(l) => Position { row: l.row, col: 0 },
-        Paragraph::Nothing => p,
+    match find_paragraph(t, false, last, from, (count as usize).max(1)) {
+        Some(l) => Position { row: l.row, col: 0 },
+        None => p,
     }
 }
 
@@ -29,14 +27,14 @@ pub fn paragraph_prev(t: &[u32], p: Position, e: Entry, count: u32) -> Position
 // content.
 fn down_at(t: &[u32], p: Position, last: usize, l: Line) -> Position
     requires { DownTo t.now last l }
-    ensures { result ≡ down_at t.now p (At l) }
+    ensures { result ≡ down_at t.now p (Some l) }
 {
     let row = l.row;
     if row == last {
         let n = text::offsets::row_len(t, l);
         return Position {
             row: row,
-            col: minus(n, 1),
+            col: n.saturating_sub(1),
         };
     }
     Position { row: row, col: 0 }
@@ -52,8 +50,8 @@ pub fn paragraph_next(t: &[u32], p: Position, e: Entry, count: u32) -> Position
         start: e.start,
     };
     let last = e.content - 1;
-    match find_paragraph(t, true, last, from, most(count as usize, 1)) {
-        Paragraph::At(l) => down_at(t, p, last, l),
-        Paragraph::Nothing => p,
+    match find_paragraph(t, true, last, from, (count as usize).max(1)) {
+        Some(l) => down_at(t, p, last, l),
+        None => p,
     }
 }

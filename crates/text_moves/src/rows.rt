@@ -6,7 +6,7 @@ ghost use Rattle.text_moves.specs.Rows.{at_row, bottom, next_line, prev_line, th
 
 use margins::first_non_blank;
 use positions::Entry;
-use text::{Line, Position, least, minus, most};
+use text::{Line, Position};
 
 // The first character of a row that is no blank.
 pub fn at_line(t: &[u32], l: Line) -> Position
@@ -50,7 +50,7 @@ pub fn bottom(t: &[u32], p: Position, e: Entry, count: u32) -> Position
     if count == 0 {
         return at_row(t, p, e, last);
     }
-    at_row(t, p, e, least(count as usize - 1, last))
+    at_row(t, p, e, (count as usize - 1).min(last))
 }
 
 // So many rows down, no further than the last.
@@ -62,7 +62,7 @@ pub fn next_line(t: &[u32], p: Position, e: Entry, count: u32) -> Position
     if p.row >= last {
         return p;
     }
-    at_row(t, p, e, least(p.row + most(count as usize, 1), last))
+    at_row(t, p, e, (p.row + (count as usize).max(1)).min(last))
 }
 
 // So many rows up, no further than the first.
@@ -73,7 +73,7 @@ pub fn prev_line(t: &[u32], p: Position, e: Entry, count: u32) -> Position
     if p.row == 0 {
         return p;
     }
-    at_row(t, p, e, minus(p.row, most(count as usize, 1)))
+    at_row(t, p, e, p.row.saturating_sub((count as usize).max(1)))
 }
 
 // One row less than `count` down, no further than the last.
@@ -81,10 +81,10 @@ pub fn this_line(t: &[u32], p: Position, e: Entry, count: u32) -> Position
     requires { Accepted t.now p e }
     ensures { result ≡ this_line t.now count p }
 {
-    let n = most(count as usize, 1) - 1;
+    let n = (count as usize).max(1) - 1;
     let last = e.content - 1;
     if (n > 0) & (p.row >= last) {
         return p;
     }
-    at_row(t, p, e, least(p.row + n, last))
+    at_row(t, p, e, (p.row + n).min(last))
 }

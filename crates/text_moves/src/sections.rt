@@ -4,7 +4,7 @@ ghost use Rattle.text_moves.specs.Sections.{section_back, section_on, Marked};
 
 use positions::Entry;
 use row_walks::sections::{section_down, section_up};
-use text::{Line, Position, most};
+use text::{Line, Position};
 
 // Back to the start of the row that begins with x, so many times, or to the first row.
 pub fn section_back(t: &[u32], p: Position, e: Entry, x: u32, count: u32) -> Position
@@ -15,7 +15,7 @@ pub fn section_back(t: &[u32], p: Position, e: Entry, x: u32, count: u32) -> Pos
         row: p.row,
         start: e.start,
     };
-    let row = section_up(t, l, x, most(count as usize, 1));
+    let row = section_up(t, l, x, (count as usize).max(1));
     Position { row: row, col: 0 }
 }
 
@@ -28,6 +28,6 @@ pub fn section_on(t: &[u32], p: Position, e: Entry, x: u32, count: u32) -> Posit
         row: p.row,
         start: e.start,
     };
-    let row = section_down(t, l, e.content - 1, x, most(count as usize, 1));
+    let row = section_down(t, l, e.content - 1, x, (count as usize).max(1));
     Position { row: row, col: 0 }
 }

@@ -11,7 +11,7 @@ use margins::{first_non_blank, last_non_blank};
 use positions::Entry;
 use steps::walks::{backspace_back, space_fwd};
 use text::offsets::row_len;
-use text::{Line, Position, least, minus, most};
+use text::{Line, Position};
 
 // The position that a move of a text and position that were accepted leads to. `{` is 123 and `}`
 // is 125.
@@ -23,17 +23,17 @@ pub fn go(t: &[u32], p: Position, e: Entry, w: Way, count: u32) -> Position
         row: p.row,
         start: e.start,
     };
-    let n = most(count as usize, 1);
+    let n = (count as usize).max(1);
     match w {
-        Way::Left => in_row(p, minus(p.col, n)),
+        Way::Left => in_row(p, p.col.saturating_sub(n)),
         Way::RightInLine => in_row(p, to_col(t, l, p.col + n)),
-        Way::RightToEnd => in_row(p, least(p.col + n, row_len(t, l))),
+        Way::RightToEnd => in_row(p, (p.col + n).min(row_len(t, l))),
         Way::SpaceFwd => space_fwd(t, p, e, count),
         Way::BackspaceBack => backspace_back(t, p, e, count),
         Way::LineStart => in_row(p, 0),
         Way::FirstNonBlank => in_row(p, first_non_blank(t, l)),
-        Way::LineEnd => in_row(p, minus(row_len(t, l), 1)),
-        Way::GotoColumn => in_row(p, to_col(t, l, minus(count as usize, 1))),
+        Way::LineEnd => in_row(p, row_len(t, l).saturating_sub(1)),
+        Way::GotoColumn => in_row(p, to_col(t, l, (count as usize).saturating_sub(1))),
         Way::LastNonBlank => in_row(p, last_non_blank(t, l)),
         Way::ParagraphPrev => paragraph_prev(t, p, e, count),
         Way::ParagraphNext => paragraph_next(t, p, e, count),

@@ -5,7 +5,7 @@ ghost use Rattle.text.specs.Text.{last_col};
 ghost use Rattle.positions.specs.Positions.{in_row};
 
 use text::offsets::row_len;
-use text::{Line, Position, least, minus};
+use text::{Line, Position};
 
 // The position at another column of its row.
 pub(crate) fn in_row(p: Position, col: usize) -> Position
@@ -22,5 +22,5 @@ pub(crate) fn to_col(t: &[u32], l: Line, want: usize) -> usize
     requires { IsLine t.now l }
     ensures { result ≡ min want (last_col t.now l.row) }
 {
-    least(want, minus(row_len(t, l), 1))
+    want.min(row_len(t, l).saturating_sub(1))
 }

@@ -3,12 +3,9 @@ use Rattle.lists.proofs.Kit.{◌≡◌, refl, ap, sym, subst, ◌∙◌, List, f
 use Rattle.lists.proofs.Kit.{drop_of_length-le}
 use Rattle.lists.specs.Lists.{any}
 use Rattle.lists.proofs.Lists.{drop_at}
-use Rattle.utf8.specs.declared.Step.{Step}
-use Rattle.utf8.specs.declared.Step.TheVariants.{Good, Bad}
-use Rattle.utf8.specs.declared.Checked.{Checked}
-use Rattle.utf8.specs.declared.Checked.TheVariants.{Points, Bad as Checked-as-Bad}
-use Rattle.utf8.specs.declared.Walk.{Walk}
-use Rattle.utf8.specs.declared.Walk.TheVariants.{On, Bad as Walk-as-Bad}
+use Rattle.std.proofs.Common.{Result, Ok, Err}
+use Rattle.utf8.specs.declared.BadAt.{BadAt}
+use Rattle.utf8.specs.declared.Spot.{Spot}
 use Rattle.utf8.specs.Encoding.{is_above}
 use Rattle.utf8.specs.Decoding.{Reading, text, bad, onto, reading, reading_from}
 use Rattle.utf8.specs.Sequences.{Stepped}
@@ -18,30 +15,30 @@ use Rattle.utf8.proofs.Ascii.{plain_first}
 use Rattle.utf8.proofs.Starts.{begins_one}
 
 -- what a step answered, by its case
-pub stepped_good : (b : List ℕ) (from : ℕ) (r : Reading) {s : Step} {next x : ℕ} → Stepped b from r s → s ≡ Good next x →
-    (r ≡ onto x (reading_from next (drop next b))) × (from ≤ next) × (next ≤ length b)
-stepped_good b from r w e = subst (λ (q : Step). Stepped b from r q) e w
+pub stepped_good : (b : List ℕ) (from : ℕ) (r : Reading) {q : Result (ℕ × ℕ) BadAt} {s : ℕ × ℕ} → Stepped b from r q → q ≡ Ok s →
+    (r ≡ onto s.1 (reading_from s.0 (drop s.0 b))) × (from ≤ s.0) × (s.0 ≤ length b)
+stepped_good b from r w e = subst (λ (q : Result (ℕ × ℕ) BadAt). Stepped b from r q) e w
 
-pub stepped_bad : (b : List ℕ) (from : ℕ) (r : Reading) {s : Step} {n : ℕ} → Stepped b from r s → s ≡ Bad n → r ≡ bad n
-stepped_bad b from r w e = subst (λ (q : Step). Stepped b from r q) e w
+pub stepped_bad : (b : List ℕ) (from : ℕ) (r : Reading) {q : Result (ℕ × ℕ) BadAt} {at : BadAt} → Stepped b from r q → q ≡ Err at → r ≡ bad at.place
+stepped_bad b from r w e = subst (λ (q : Result (ℕ × ℕ) BadAt). Stepped b from r q) e w
 
 -- and what a walk did
-pub walked_on : (b : List ℕ) (until : ℕ) {w : Walk} {next n : ℕ} → Walked b until w → w ≡ On next n → Counts b next n × (until ≤ next)
-walked_on b until h e = subst (λ (q : Walk). Walked b until q) e h
+pub walked_on : (b : List ℕ) (until : ℕ) {w : Result Spot BadAt} {s : Spot} → Walked b until w → w ≡ Ok s → Counts b s.at s.count × (until ≤ s.at)
+walked_on b until h e = subst (λ (q : Result Spot BadAt). Walked b until q) e h
 
-pub walked_bad : (b : List ℕ) (until : ℕ) {w : Walk} {place : ℕ} → Walked b until w → w ≡ Walk-as-Bad place → checked b ≡ Checked-as-Bad place
-walked_bad b until h e = subst (λ (q : Walk). Walked b until q) e h
+pub walked_bad : (b : List ℕ) (until : ℕ) {w : Result Spot BadAt} {at : BadAt} → Walked b until w → w ≡ Err at → checked b ≡ Err at
+walked_bad b until h e = subst (λ (q : Result Spot BadAt). Walked b until q) e h
 
 -- one code point more
 plus_onto : (n x : ℕ) (r : Reading) → plus n (tally (onto x r)) ≡ plus (n + 1) (tally r)
 unfolding plus tally onto
-plus_onto n x (text t) = ap Points (omega arith)
+plus_onto n x (text t) = ap Ok (omega arith)
 plus_onto n x (bad p) = refl
 
-plus_none : (c : Checked) → c ≡ plus 0 c
+plus_none : (c : Result ℕ BadAt) → c ≡ plus 0 c
 unfolding plus
-plus_none (Points n) = ap Points (sym (zero-add n))
-plus_none (Checked-as-Bad p) = refl
+plus_none (Ok n) = ap Ok (sym (zero-add n))
+plus_none (Err at) = refl
 
 pub counts_start : (b : List ℕ) → Counts b 0 0
 counts_start b = record { within = omega arith; fewer = omega arith; count = plus_none (checked b) }
@@ -55,13 +52,13 @@ module _ {b : List ℕ} {at n : ℕ} (w : Counts b at n) where
         count = w.count ∙ rw e (plus_onto n x (reading_from next (drop next b)));
       }
 
-  pub counts_bad : {place : ℕ} → reading_from at (drop at b) ≡ bad place → checked b ≡ Checked-as-Bad place
+  pub counts_bad : {place : ℕ} → reading_from at (drop at b) ≡ bad place → checked b ≡ Err (record { place = place })
   unfolding plus tally
   counts_bad e = w.count ∙ rw e
 
-  pub counts_end : length b ≤ at → checked b ≡ Points n
+  pub counts_end : length b ≤ at → checked b ≡ Ok n
   unfolding plus tally reading
-  counts_end h = w.count ∙ rw (drop_of_length-le b h) (ap Points (add-zero n))
+  counts_end h = w.count ∙ rw (drop_of_length-le b h) (ap Ok (add-zero n))
 
 -- a stretch of ASCII
 pub counts_plain : (b : List ℕ) (m at n : ℕ) → Counts b at n → at + m ≤ length b → any is_above (take m (drop at b)) ≡ false → Counts b (at + m) (n + m)

@@ -3,9 +3,13 @@ use Rattle.lists.proofs.Kit.{◌≡◌, refl, ap, sym, ◌∙◌, List, [], ◌�
 use Rattle.lists.proofs.Kit.{length-set, length-drop, drop_of_length-le, take-append-drop, take-suc, take-suc-set, take_all, drop-set-lt, drop-drop}
 use Rattle.lists.specs.Lists.{any}
 use Rattle.lists.proofs.Lists.{drop_at}
+use Rattle.std.proofs.Common.{Result, Ok, Err}
+use Rattle.std.specs.Result.{IsOk}
+use Rattle.utf8.specs.declared.BadAt.{BadAt}
 use Rattle.utf8.specs.declared.Spot.{Spot}
 use Rattle.utf8.specs.Encoding.{is_above}
 use Rattle.utf8.specs.Decoding.{Reading, text, bad, onto, reading, reading_from}
+use Rattle.utf8.specs.Sequences.{Stepped}
 use Rattle.utf8.specs.Walks.{points_of, Holds, Wrote}
 
 -- the first of a text that is read
@@ -91,11 +95,15 @@ module _ {b room points : List ℕ} {before at n : ℕ} (g : Going b room before
         }
 
   -- no sequence goes wrong
-  pub going_bad : {place : ℕ} → reading_from at (drop at b) ≡ bad place → ⊥
+  going_bad : {place : ℕ} → reading_from at (drop at b) ≡ bad place → ⊥
   going_bad e =
       let rest = g.holds.rest in
       let never : ◌≡◌ {A = ℕ} 0 1 = cc in
       omega arith
+
+  pub going_ok : (q : Result (ℕ × ℕ) BadAt) → Stepped b (at + 1) (reading_from at (drop at b)) q → IsOk q
+  going_ok (Ok s) w = refl
+  going_ok (Err e) w = absurd (going_bad w)
 
 -- all are written
 pub going_end : {b room points : List ℕ} {at n : ℕ} → Going b room 0 at n points → length b ≤ at → points ≡ points_of b ++ drop (length (points_of b)) room

@@ -1,19 +1,16 @@
 -- How far the two passes of the decoder have come, the first of which counts code points and the second writes them; and what the encoder writes.
 -- Definitions only. Assumes nothing.
-use Rattle.std.specs.Prelude.{ℕ, ◌+◌, ◌≤◌, ◌<◌, ◌≡◌, List, [], length, take, drop}
+use Rattle.std.specs.Prelude.{ℕ, ◌+◌, ◌≤◌, ◌<◌, ◌≡◌, List, [], length, take, drop, Result, Ok, Err}
 use Rattle.std.proofs.lemmas.List.Edits.{sets}
-use Rattle.utf8.specs.declared.Checked.{Checked}
-use Rattle.utf8.specs.declared.Checked.TheVariants.{Points, Bad}
-use Rattle.utf8.specs.declared.Walk.{Walk}
-use Rattle.utf8.specs.declared.Walk.TheVariants.{On, Bad as Walk-as-Bad}
+use Rattle.utf8.specs.declared.BadAt.{BadAt}
 use Rattle.utf8.specs.declared.Spot.{Spot}
 use Rattle.utf8.specs.Decoding.{Reading, text, bad, reading_from, decoding}
 use Rattle.utf8.specs.Calls.{tally, checked}
 
 -- with n code points before it
-unfoldable pub plus : ℕ → Checked → Checked
-plus n (Points m) = Points (n + m)
-plus n (Bad place) = Bad place
+unfoldable pub plus : ℕ → Result ℕ BadAt → Result ℕ BadAt
+plus n (Ok m) = Ok (n + m)
+plus n (Err e) = Err e
 
 -- n code points stand before index at, where a sequence begins
 pub record Counts (b : List ℕ) (at n : ℕ) : Type 0 where
@@ -27,9 +24,9 @@ pub record Onward (at len r : ℕ) : Type 0 where
   pub inside : r ≤ len
 
 -- the count went on to an index at or past `until`, or met the place
-abbrev pub Walked : List ℕ → ℕ → Walk → Type 0
-Walked b until (On next n) = Counts b next n × (until ≤ next)
-Walked b until (Walk-as-Bad place) = checked b ≡ Bad place
+abbrev pub Walked : List ℕ → ℕ → Result Spot BadAt → Type 0
+Walked b until (Ok s) = Counts b s.at s.count × (until ≤ s.at)
+Walked b until (Err e) = checked b ≡ Err e
 
 -- the text that was read
 unfoldable pub text_of : Reading → List ℕ

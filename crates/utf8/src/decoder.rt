@@ -9,7 +9,7 @@ ghost use Rattle.utf8.specs.Walks.{Onward, Walked, Holds, Wrote};
 ghost use Rattle.utf8.specs.Rooms.{CountsUntil, HoldsUntil, PlainUntil};
 
 use crate::sequences::step;
-use crate::{Checked, Decoded, Spot, Step, Walk};
+use crate::{BadAt, DecodeError, Spot};
 
 // How many bytes a stretch has.
 const STRETCH: usize = 64;
@@ -39,7 +39,7 @@ fn stretch(at: usize, len: usize) -> usize
 }
 
 // Counts on, sequence by sequence, to an index at or past `until`.
-fn count_on(bytes: &[u8], at: usize, until: usize, count: usize) -> Walk
+fn count_on(bytes: &[u8], at: usize, until: usize, count: usize) -> Result<Spot, BadAt>
     requires { CountsUntil bytes.now at count until }
     ensures { Walked bytes.now until result }
 {
@@ -47,22 +47,16 @@ fn count_on(bytes: &[u8], at: usize, until: usize, count: usize) -> Walk
     let mut n = count;
     // A `while`: it goes on by a sequence of bytes, as long as its first byte says.
     while i < until {
-        match step(bytes, i) {
-            Step::Good(next, _) => {
-                n += 1;
-                i = next;
-            }
-            Step::Bad(place) => {
-                return Walk::Bad(place);
-            }
-        }
+        let (next, _) = step(bytes, i)?;
+        n += 1;
+        i = next;
     }
-    Walk::On(i, n)
+    Ok(Spot { at: i, count: n })
 }
 
 // How many code points bytes make, or the place of the first byte that can't stand there: their
 // length where they are cut off.
-pub fn check(bytes: &[u8]) -> Checked
+pub fn check(bytes: &[u8]) -> Result<usize, BadAt>
     ensures { result ≡ checked bytes.now }
 {
     let mut i: usize = 0;
@@ -74,18 +68,12 @@ pub fn check(bytes: &[u8]) -> Checked
             n += until - i;
             i = until;
         } else {
-            match count_on(bytes, i, until, n) {
-                Walk::On(next, count) => {
-                    n = count;
-                    i = next;
-                }
-                Walk::Bad(place) => {
-                    return Checked::Bad(place);
-                }
-            }
+            let s = count_on(bytes, i, until, n)?;
+            i = s.at;
+            n = s.count;
         }
     }
-    Checked::Points(n)
+    Ok(n)
 }
 
 // Writes on, byte by byte, what is ASCII up to `until`.
@@ -116,19 +104,10 @@ fn write_on(bytes: &[u8], points: &mut [u32], at: usize, until: usize, count: us
     let mut n = count;
     // A `while`: it goes on by a sequence of bytes, as long as its first byte says.
     while i < until {
-        match step(bytes, i) {
-            Step::Good(next, x) => {
-                points[n] = x;
-                n += 1;
-                i = next;
-            }
-            Step::Bad(place) => {
-                return Spot {
-                    at: place,
-                    count: n,
-                };
-            }
-        }
+        let (next, x) = step(bytes, i).unwrap();
+        points[n] = x;
+        n += 1;
+        i = next;
     }
     Spot { at: i, count: n }
 }
@@ -159,17 +138,13 @@ fn write(bytes: &[u8], points: &mut [u32])
 // Puts the code points of bytes at the start of `points`. Refused are bytes that are no UTF-8, with
 // the place of the first byte that can't stand there (13), and then too little room (14); nothing
 // is written then.
-pub fn decode(bytes: &[u8], points: &mut [u32]) -> Decoded
+pub fn decode(bytes: &[u8], points: &mut [u32]) -> Result<usize, DecodeError>
     ensures { DecodesTo bytes.now points.old result points.new }
 {
-    match check(bytes) {
-        Checked::Points(n) => {
-            if n > points.len() {
-                return Decoded::Refused(14);
-            }
-            write(bytes, points);
-            Decoded::Text(n)
-        }
-        Checked::Bad(place) => Decoded::Bad(place),
+    let n = check(bytes)?;
+    if n > points.len() {
+        return Err(DecodeError::NoRoom);
     }
+    write(bytes, points);
+    Ok(n)
 }

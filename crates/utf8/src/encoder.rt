@@ -6,7 +6,7 @@ ghost use Rattle.utf8.specs.Calls.{EncodesTo};
 ghost use Rattle.utf8.specs.Walks.{Put};
 ghost use Rattle.utf8.specs.Rooms.{PointRoom, TextRoom};
 
-use crate::Encoded;
+use crate::EncodeError;
 
 // How many bytes the encoding of x has.
 fn size(x: u32) -> usize
@@ -78,19 +78,19 @@ fn write(points: &[u32], bytes: &mut [u8])
 // Puts the encoding of code points at the start of `bytes`. Refused are more than 1,048,576 code
 // points (1), a value that is no scalar value (2) and then too little room (14); nothing is written
 // then.
-pub fn encode(points: &[u32], bytes: &mut [u8]) -> Encoded
+pub fn encode(points: &[u32], bytes: &mut [u8]) -> Result<usize, EncodeError>
     ensures { EncodesTo points.now bytes.old result bytes.new }
 {
     if points.len() > 1048576 {
-        return Encoded::Refused(1);
+        return Err(EncodeError::TooLong);
     }
     if !chars::all_scalar(points) {
-        return Encoded::Refused(2);
+        return Err(EncodeError::NotScalar);
     }
     let n = size_all(points);
     if n > bytes.len() {
-        return Encoded::Refused(14);
+        return Err(EncodeError::NoRoom);
     }
     write(points, bytes);
-    Encoded::Bytes(n)
+    Ok(n)
 }

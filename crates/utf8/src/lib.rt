@@ -3,6 +3,10 @@
 
 #![tactic(auto)]
 
+ghost use Rattle.std.specs.Prelude.{◌≡◌};
+ghost use Rattle.utf8.specs.declared.DecodeError.TheVariants.{Bad};
+ghost use Rattle.utf8.specs.Numbers.{decode_number, encode_number};
+
 mod decoder;
 mod encoder;
 mod sequences;
@@ -10,48 +14,69 @@ mod sequences;
 pub use decoder::{check, decode};
 pub use encoder::encode;
 
-// One sequence of bytes: the index behind it and its value, or the place of the first byte that
-// can't stand there.
-#[derive(Clone, Copy)]
-pub enum Step {
-    Good(usize, u32),
-    Bad(usize),
+// The place of the first byte that can't stand there: the length of the bytes where they are cut
+// off.
+#[derive(Clone, Copy, Debug, PartialEq, Eq)]
+pub struct BadAt {
+    pub place: usize,
 }
 
-// How many code points bytes make, or the place of the first byte that can't stand there, their
-// length where they are cut off.
-#[derive(Clone, Copy)]
-pub enum Checked {
-    Points(usize),
-    Bad(usize),
+// Why bytes aren't decoded.
+#[derive(Clone, Copy, Debug, PartialEq, Eq)]
+pub enum DecodeError {
+    // They are no UTF-8.
+    Bad(BadAt),
+    // There is too little room.
+    NoRoom,
 }
 
-// The answer of the decoder: how many code points it wrote, that place (refusal 13), or the number
-// of another refusal.
-#[derive(Clone, Copy)]
-pub enum Decoded {
-    Text(usize),
-    Bad(usize),
-    Refused(u32),
+// Why code points aren't encoded.
+#[derive(Clone, Copy, Debug, PartialEq, Eq)]
+pub enum EncodeError {
+    // There are more than 1,048,576.
+    TooLong,
+    // One of them is no scalar value.
+    NotScalar,
+    // There is too little room.
+    NoRoom,
 }
 
-// The answer of the encoder: how many bytes it wrote, or the number that it refuses with.
-#[derive(Clone, Copy)]
-pub enum Encoded {
-    Bytes(usize),
-    Refused(u32),
-}
-
-// How far a count has come: an index and the code points before it, or the place.
-#[derive(Clone, Copy)]
-pub enum Walk {
-    On(usize, usize),
-    Bad(usize),
-}
-
-// How far the writing has come: an index, and how many code points stand before it.
+// How far a pass has come: an index, and how many code points stand before it.
 #[derive(Clone, Copy)]
 pub struct Spot {
     pub at: usize,
     pub count: usize,
+}
+
+impl From<BadAt> for DecodeError {
+    ghost from_gives = { λ at e. e ≡ Bad at };
+
+    fn from(at: BadAt) -> DecodeError {
+        DecodeError::Bad(at)
+    }
+}
+
+impl DecodeError {
+    // Its number in the calls for hosts.
+    pub fn number(self) -> u32
+        ensures { result ≡ decode_number self }
+    {
+        match self {
+            DecodeError::Bad(_) => 13,
+            DecodeError::NoRoom => 14,
+        }
+    }
+}
+
+impl EncodeError {
+    // Its number in the calls for hosts.
+    pub fn number(self) -> u32
+        ensures { result ≡ encode_number self }
+    {
+        match self {
+            EncodeError::TooLong => 1,
+            EncodeError::NotScalar => 2,
+            EncodeError::NoRoom => 14,
+        }
+    }
 }

@@ -1,13 +1,12 @@
 -- A sticky column past the cells of every row: `j` and `k` from a row's last character lead to the last of each row that they come to.
 -- Over any width function and tabstop of at most 1,000. Assumes nothing.
-use Rattle.lists.proofs.Kit.{◌≡◌, ap, sym, ◌∙◌, List, ℕ, ◌≤◌, ◌<◌, ℕ_discrete, arith, length, eq-eqb, ne_eqb}
+use Rattle.lists.proofs.Kit.{◌≡◌, ap, sym, ◌∙◌, List, ℕ, ◌≤◌, ◌<◌, ℕ_discrete, arith, length, eq-eqb, ne_eqb, Some}
 use lib.IntN.{ℤ}
 use Rattle.text.specs.Text.{row_count, row_at, row_len, last_col}
 use Rattle.text.proofs.Parts.{row_fits}
 use Rattle.row_tabs.proofs.Accepted.{stop_most}
 use Rattle.row_columns.proofs.Laws.{column_most, char_past}
 use Rattle.visible_rows.specs.Visible.{vertical_row}
-use Rattle.vertical.specs.declared.Sticky.TheVariants.{At}
 use Rattle.vertical.specs.Moves.{aimed_col, landed, move_vertical}
 use Rattle.vertical.proofs.Inside.{vertical_within}
 
@@ -21,13 +20,13 @@ module _ (w : ℕ → ℕ) (wide : (x : ℕ) → w x ≤ 1000) (t : List ℕ) (b
       rw end (omega arith)
 
   pub vertical_last : (folds : List ℕ) (z : ℤ) (row col : ℕ) → row < row_count t → col ≡ last_col t row →
-      let move_vertical_lem = move_vertical w t folds tabstop z row col (At want) in move_vertical_lem.col ≡ last_col t move_vertical_lem.row
+      let move_vertical_lem = move_vertical w t folds tabstop z row col (Some want) in move_vertical_lem.col ≡ last_col t move_vertical_lem.row
   unfolding landed
   vertical_last folds z row col h e = go (ℕ_discrete target row)
     where
       target : ℕ
       target = vertical_row folds (row_count t) z row
 
-      go : Dec (target ≡ row) → (move_vertical w t folds tabstop z row col (At want)).col ≡ last_col t (move_vertical w t folds tabstop z row col (At want)).row
+      go : Dec (target ≡ row) → (move_vertical w t folds tabstop z row col (Some want)).col ≡ last_col t (move_vertical w t folds tabstop z row col (Some want)).row
       go (yes same) = rw (eq-eqb target row same) (e ∙ ap (last_col t) (sym same))
       go (no other) = rw (ne_eqb target row other) (aimed_last target (vertical_within folds (row_count t) z row h))

@@ -1,12 +1,9 @@
 -- From a place in the text `j` and `k` lead to a place in the text: a row of its rows, a column of at most the row's count.
 -- Assumes nothing.
-use Rattle.lists.proofs.Kit.{◌≡◌, refl, ap, List, Bool, true, false, cond, ℕ, suc, ◌≤◌, ◌<◌, ℕ_discrete, arith, eq-eqb, ne_eqb}
+use Rattle.lists.proofs.Kit.{◌≡◌, refl, ap, List, Bool, true, false, cond, ℕ, suc, ◌≤◌, ◌<◌, ℕ_discrete, arith, eq-eqb, ne_eqb, Option, Some, None}
 use lib.IntN.{ℤ, pos, negsuc}
 use Rattle.text.specs.Text.{row_count, row_len}
 use Rattle.folds.specs.Folds.{hidden}
-use Rattle.folds.specs.declared.Visible.{Visible}
-use Rattle.folds.specs.declared.Visible.TheVariants.{Row, NoRow}
-use Rattle.vertical.specs.declared.Sticky.{Sticky}
 use Rattle.lists.proofs.Rounds.{rounds_keep}
 use Rattle.visible_rows.specs.Visible.{toward, row_or, step_row, shown_row, vertical_row}
 use Rattle.vertical.specs.Moves.{landed, move_vertical}
@@ -21,9 +18,9 @@ module _ (folds : List ℕ) (rows : ℕ) where
   step_within : (down : Bool) (row : ℕ) → row < rows → step_row folds rows down row < rows
   step_within down row h = go (toward folds rows down row) refl
     where
-      go : (v : Visible) → toward folds rows down row ≡ v → row_or row v < rows
-      go (Row x) e = toward_within folds rows down row x h e
-      go NoRow e = h
+      go : (v : Option ℕ) → toward folds rows down row ≡ v → row_or row v < rows
+      go (Some x) e = toward_within folds rows down row x h e
+      go None e = h
 
   shown_within : (row : ℕ) → row < rows → shown_row folds rows row < rows
   shown_within row h = go (hidden folds row)
@@ -48,6 +45,6 @@ landed_inside w t tabstop want row col target i h = go (ℕ_discrete target row)
     go (yes e) = record { in_row = h; in_col = rw (eq-eqb target row e) (omega (arith, i.in_col, ap (row_len t) e)) }
     go (no n) = record { in_row = h; in_col = rw (ne_eqb target row n) (omega arith) }
 
-pub rows_inside : (w : ℕ → ℕ) (t folds : List ℕ) (tabstop row col : ℕ) (sticky : Sticky) (z : ℤ) → Inside t row col →
+pub rows_inside : (w : ℕ → ℕ) (t folds : List ℕ) (tabstop row col : ℕ) (sticky : Option ℕ) (z : ℤ) → Inside t row col →
     let move_vertical_lem = move_vertical w t folds tabstop z row col sticky in Inside t move_vertical_lem.row move_vertical_lem.col
 rows_inside w t folds tabstop row col sticky z i = landed_inside w t tabstop _ row col _ i (vertical_within folds (row_count t) z row i.in_row)

@@ -1,23 +1,22 @@
 -- `j` and `k`: where `move_vertical` of motions.rs leads to, over any width function w. Definitions only; the laws are in `proofs/Landed.antt` and
 -- `proofs/Inside.antt`. Assumes nothing.
-use Rattle.std.specs.Prelude.{ℕ, ◌+◌, ◌≤◌, ◌<◌, min, ◌≡◌, List, cond, eqb, ℤ, neg_ℤ, length}
+use Rattle.std.specs.Prelude.{ℕ, ◌+◌, ◌≤◌, ◌<◌, min, ◌≡◌, List, cond, eqb, ℤ, neg_ℤ, length, Option, Some, None}
+use Rattle.chars.specs.declared.Measure.{Measure}
 use Rattle.std.specs.Int.{w64}
 use Rattle.std.proofs.Common.{SFits}
-use Rattle.chars.specs.Width.{Widths}
+use Rattle.chars.specs.Width.{Measures}
 use Rattle.row_columns.specs.Columns.{cursor_col, char_col}
 use Rattle.text.specs.Text.{row_count, row_at, last_col}
 use Rattle.text.specs.Offsets.{Stands, IsLine}
 use Rattle.folds.specs.Folds.{fold_refusal}
 use Rattle.text.specs.declared.Line.{Line}
-use Rattle.vertical.specs.declared.Sticky.{Sticky}
-use Rattle.vertical.specs.declared.Sticky.TheVariants.{Absent, At}
 use Rattle.vertical.specs.declared.Target.{Target}
 use Rattle.visible_rows.specs.Visible.{vertical_row}
 
 -- the visual column to aim for: the sticky one, or else where the cursor is drawn
-abbrev pub wanted_col : (ℕ → ℕ) → List ℕ → ℕ → ℕ → ℕ → Sticky → ℕ
-wanted_col w t tabstop row col Absent = cursor_col w tabstop (row_at t row) col
-wanted_col w t tabstop row col (At want) = want
+abbrev pub wanted_col : (ℕ → ℕ) → List ℕ → ℕ → ℕ → ℕ → Option ℕ → ℕ
+wanted_col w t tabstop row col None = cursor_col w tabstop (row_at t row) col
+wanted_col w t tabstop row col (Some want) = want
 
 -- the character of a row at a visual column, and no further than the row's last
 abbrev pub aimed_col : (ℕ → ℕ) → List ℕ → ℕ → ℕ → ℕ → ℕ
@@ -28,7 +27,7 @@ unfoldable pub landed : (ℕ → ℕ) → List ℕ → ℕ → ℕ → ℕ → �
 landed w t tabstop want row col target =
     record { row = target; col = cond (eqb target row) col (aimed_col w t tabstop want target); want = want }
 
-abbrev pub move_vertical : (ℕ → ℕ) → List ℕ → List ℕ → ℕ → ℤ → ℕ → ℕ → Sticky → Target
+abbrev pub move_vertical : (ℕ → ℕ) → List ℕ → List ℕ → ℕ → ℤ → ℕ → ℕ → Option ℕ → Target
 move_vertical w t folds tabstop delta row col sticky =
     landed w t tabstop (wanted_col w t tabstop row col sticky) row col (vertical_row folds (row_count t) delta row)
 
@@ -45,22 +44,22 @@ pub record Accepted (t folds : List ℕ) (l : Line) (col tabstop : ℕ) : Type 0
   pub folds_good : fold_refusal folds (row_count t) ≡ 0
 
 -- the same with the tables of widths that are lent, and with the count of rows
-pub record AcceptedBy (zeros doubles t folds : List ℕ) (l : Line) (col tabstop : ℕ) : Type 0 where
-  pub widths : Widths zeros doubles
+pub record AcceptedBy (m : Measure) (t folds : List ℕ) (l : Line) (col tabstop : ℕ) : Type 0 where
+  pub widths : Measures m
   pub place : Accepted t folds l col tabstop
 
-pub record Ready (zeros doubles t folds : List ℕ) (rows : ℕ) (l : Line) (col tabstop : ℕ) : Type 0 where
-  pub accepted : AcceptedBy zeros doubles t folds l col tabstop
+pub record Ready (m : Measure) (t folds : List ℕ) (rows : ℕ) (l : Line) (col tabstop : ℕ) : Type 0 where
+  pub accepted : AcceptedBy m t folds l col tabstop
   pub all_rows : rows ≡ row_count t
 
 -- and with a delta whose negative fits in 64 bits, too
-pub record ReadyBy (zeros doubles t folds : List ℕ) (rows : ℕ) (l : Line) (col tabstop : ℕ) (delta : ℤ) : Type 0 where
-  pub ready : Ready zeros doubles t folds rows l col tabstop
+pub record ReadyBy (m : Measure) (t folds : List ℕ) (rows : ℕ) (l : Line) (col tabstop : ℕ) (delta : ℤ) : Type 0 where
+  pub ready : Ready m t folds rows l col tabstop
   pub turns : SFits w64 (neg_ℤ delta)
 
 -- what the search for a column of a row requires, from a row with its start
-pub record Aims (zeros doubles t : List ℕ) (rows : ℕ) (from : Line) (row tabstop : ℕ) : Type 0 where
-  pub widths : Widths zeros doubles
+pub record Aims (m : Measure) (t : List ℕ) (rows : ℕ) (from : Line) (row tabstop : ℕ) : Type 0 where
+  pub widths : Measures m
   pub row_good : AcceptedRow t row tabstop
   pub line : IsLine t from
   pub all_rows : rows ≡ row_count t

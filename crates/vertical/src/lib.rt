@@ -7,13 +7,6 @@
 pub mod moves;
 pub mod viewport;
 
-// The visual column that vertical motions aim for, where one is kept.
-#[derive(Clone, Copy)]
-pub enum Sticky {
-    Absent,
-    At(u32),
-}
-
 // Where a motion leads to, and the visual column that it aims for: the sticky column from then on.
 #[derive(Clone, Copy)]
 pub struct Target {

@@ -7,14 +7,14 @@ ghost use Rattle.vertical.specs.Viewport.{bottom_row, top_row, middle_row, base_
 ghost use Rattle.vertical.specs.Viewport.{viewport_row, Counts};
 
 use crate::Edge;
-use text::{Line, least, minus, most};
+use text::Line;
 
 // Row `row`, or the last row with content where there are fewer of those.
 fn content_line(t: &[u32], rows: usize, content: usize, row: usize) -> Line
     requires { Counts t.now rows content }
     ensures { result ≡ line_at t.now (min row (content_rows t.now - 1)) }
 {
-    text::offsets::row_line(t, rows, least(row, content - 1))
+    text::offsets::row_line(t, rows, row.min(content - 1))
 }
 
 // The last row of the viewport, or the last row with content.
@@ -23,7 +23,7 @@ fn bottom_row(t: &[u32], content: usize, top: u32, height: u16) -> usize
     ensures { result ≡ bottom_row t.now top height }
 {
     let last = content - 1;
-    least(top as usize + minus(height as usize, 1), last)
+    (top as usize + (height as usize).saturating_sub(1)).min(last)
 }
 
 // `H`: so many rows below the viewport's first, or the last row with content.
@@ -44,7 +44,7 @@ fn viewport_middle(t: &[u32], rows: usize, content: usize, top: u32, height: u16
         t,
         rows,
         content,
-        top as usize + minus(bottom, top as usize) / 2,
+        top as usize + bottom.saturating_sub(top as usize) / 2,
     )
 }
 
@@ -66,7 +66,7 @@ fn viewport_bottom(
         t,
         rows,
         content,
-        most(minus(bottom, offset as usize), top as usize),
+        bottom.saturating_sub(offset as usize).max(top as usize),
     )
 }
 

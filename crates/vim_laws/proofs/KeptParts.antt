@@ -1,10 +1,9 @@
 -- A part that both readers read alike, and the token that the first reader keeps of it: a number, a range of numbers, a character, `@`.
 -- Assumes nothing.
-use Rattle.lists.proofs.Kit.{◌≡◌, refl, ap, sym, ◌∙◌, List, [], ◌∷◌, ◌++◌, Bool, true, false, cond, true≢false, ℕ, ◌+◌, ◌<◌, arith, length, eqb, ne_eqb, lt-ltb}
+use Rattle.lists.proofs.Kit.{◌≡◌, refl, ap, sym, ◌∙◌, List, [], ◌∷◌, ◌++◌, Bool, true, false, cond, true≢false, ℕ, ◌+◌, ◌<◌, arith, length, eqb, ne_eqb, lt-ltb, Some, None}
 use Rattle.lists.specs.Codes.{is_digit}
 use Rattle.lists.specs.Lists.{up_to}
 use Rattle.chars.specs.White.{whites, is_white}
-use Rattle.list_parts.specs.declared.numbers.Number.TheVariants.{Value, Not}
 use Rattle.list_parts.specs.Numbers.{all_digits, value, number_of}
 use Rattle.list_parts.specs.Parts.{trim}
 use Rattle.list_parts.proofs.NumberLaws.{digits_some, number_plain}
@@ -33,7 +32,7 @@ pub record Kept (p : List ℕ) (t : VimToken) : Type 0 where
   pub commas : no_comma p ≡ true
 
 -- a number
-number_is : (ds : List ℕ) (v : ℕ) → Number ds v → number_of ds ≡ Value v
+number_is : (ds : List ℕ) (v : ℕ) → Number ds v → number_of ds ≡ Some v
 number_is [] v n = absurd (omega (arith, n.some))
 number_is (x ∷ ds) v n =
     let low = digit_low x (digits_first x ds n.all) in
@@ -63,11 +62,11 @@ kept_range a b lo hi n m =
     }
 
 -- a character
-char_number : (c : ℕ) → is_digit c ≡ false → number_of (c ∷ []) ≡ Not
+char_number : (c : ℕ) → is_digit c ≡ false → number_of (c ∷ []) ≡ None
 unfolding all_digits
 char_number c d = go (eqb c 43) refl
   where
-    go : (b : Bool) → eqb c 43 ≡ b → number_of (c ∷ []) ≡ Not
+    go : (b : Bool) → eqb c 43 ≡ b → number_of (c ∷ []) ≡ None
     go true e = rw e
     go false e = rw (e, d)
 

@@ -14,15 +14,6 @@ use vim_reader::VimSpec;
 use word_kinds::Spot;
 use word_rounds::Motion;
 
-// The caret at another row and column: its sticky column stays.
-fn placed(k: Caret, row: usize, col: usize) -> Caret
-    requires { (row < 2 ^ 32) × (col < 2 ^ 32) }
-    ensures { result ≡ placed k row col }
-{
-    let s = k.sticky;
-    Caret::at(row as u32, col as u32, s)
-}
-
 // Where a word motion leads to, of inputs that were accepted.
 fn to_word(
     k: Caret,
@@ -46,7 +37,7 @@ fn to_word(
     };
     let r = vim_motion(t, own, spec, big, e.rows, e.content, m, stop, count, from);
     let l = text::offsets::up(t, r.row, r.at, 0);
-    placed(k, r.row, r.at - l.start)
+    motions::placed(k, r.row, r.at - l.start)
 }
 
 // A word motion by a Vim list: where it leads to, or why not. By `a_c` `w` leads from column 0 of

@@ -1,17 +1,8 @@
 // Code points written one after another into lent room: each function writes from an index on and
 // answers the next index.
-ghost use Rattle.std.specs.Prelude.{[], ◌∷◌, ◌≡◌, ◌+◌, ◌≤◌, ◌<◌, length, take};
+ghost use Rattle.std.specs.Prelude.{◌≡◌, ◌+◌, ◌≤◌, length, take};
 ghost use Rattle.print.specs.Print.{Wrote, decimal};
 ghost use Rattle.vim_writer.specs.Rooms.{PartRoom};
-
-// Writes one code point.
-pub fn put(out: &mut [u32], at: usize, x: u32) -> usize
-    requires { at < length out.old }
-    ensures { Wrote out.old at (x ∷ []) result out.new }
-{
-    out[at] = x;
-    at + 1
-}
 
 // Writes the first n of s, which are ASCII characters.
 fn put_ascii(out: &mut [u32], at: usize, s: &[u8], n: usize) -> usize

@@ -28,7 +28,7 @@ fn put_end(out: &mut [u32], at: usize, char: bool, c: u32) -> usize
     ensures { Wrote out.old at (end_text char c) result out.new }
 {
     if char {
-        return crate::points::put(out, at, c);
+        return print::put(out, at, c);
     }
     crate::points::put_number(out, at, c)
 }
@@ -60,13 +60,13 @@ fn put_item(out: &mut [u32], at: usize, t: VimToken) -> usize
         return at;
     }
     if t.kind == 1 {
-        return crate::points::put(out, at, AT);
+        return print::put(out, at, AT);
     }
     if t.kind == 2 {
         return put_end(out, at, t.lochar, t.lo);
     }
     let dash = put_end(out, at, t.lochar, t.lo);
-    let next = crate::points::put(out, dash, MINUS);
+    let next = print::put(out, dash, MINUS);
     put_end(out, next, t.hichar, t.hi)
 }
 
@@ -87,7 +87,7 @@ pub fn put_token(out: &mut [u32], at: usize, t: VimToken) -> usize
     ensures { Wrote out.old at (token_text t) result out.new }
 {
     if t.out {
-        let next = crate::points::put(out, at, CARET);
+        let next = print::put(out, at, CARET);
         return put_item(out, next, t);
     }
     put_item(out, at, t)

@@ -34,7 +34,7 @@ fn put_list(spec: VimSpec, room: &mut [u32]) -> usize
     let mut at: usize = 0;
     for (i, t) in spec.tokens[..spec.len].iter().enumerate() {
         if i > 0 {
-            at = crate::points::put(room, at, COMMA);
+            at = print::put(room, at, COMMA);
         }
         at = crate::tokens::put_token(room, at, *t);
     }

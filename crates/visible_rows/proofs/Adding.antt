@@ -1,9 +1,7 @@
 -- Counts of visible rows add, down and up. Up starts from the first row of the fold that hides its row: it lands on a row that shows, or no row above
 -- shows, so that this start happens once. Assumes nothing.
-use Rattle.lists.proofs.Kit.{◌≡◌, refl, ap, sym, ◌∙◌, List, Bool, true, false, cond, ℕ, zero, suc, ◌+◌, ◌-◌, ◌≤◌, ◌<◌, max, arith}
+use Rattle.lists.proofs.Kit.{◌≡◌, refl, ap, sym, ◌∙◌, List, Bool, true, false, cond, ℕ, zero, suc, ◌+◌, ◌-◌, ◌≤◌, ◌<◌, max, arith, Option, Some, None}
 use Rattle.folds.specs.Folds.{hidden, next_visible, prev_visible}
-use Rattle.folds.specs.declared.Visible.{Visible}
-use Rattle.folds.specs.declared.Visible.TheVariants.{Row, NoRow}
 use Rattle.folds.proofs.Past.{visible_within, prev_within, prev_shown}
 use Rattle.lists.specs.Rounds.{rounds}
 use Rattle.lists.proofs.Rounds.{rounds_on, rounds_none, rounds_add, rounds_keep}
@@ -13,16 +11,16 @@ module _ (folds : List ℕ) (rows : ℕ) where
   step_down : (row : ℕ) → row ≤ step_row folds rows true row
   step_down row = go (next_visible folds rows row) refl
     where
-      go : (v : Visible) → next_visible folds rows row ≡ v → row ≤ row_or row v
-      go (Row x) e = omega (arith, visible_within folds (row + 1) (rows - (row + 1)) x e)
-      go NoRow e = omega arith
+      go : (v : Option ℕ) → next_visible folds rows row ≡ v → row ≤ row_or row v
+      go (Some x) e = omega (arith, visible_within folds (row + 1) (rows - (row + 1)) x e)
+      go None e = omega arith
 
   step_up : (row : ℕ) → step_row folds rows false row ≤ row
   step_up row = go (prev_visible folds row) refl
     where
-      go : (v : Visible) → prev_visible folds row ≡ v → row_or row v ≤ row
-      go (Row x) e = omega (arith, prev_within folds row x e)
-      go NoRow e = omega arith
+      go : (v : Option ℕ) → prev_visible folds row ≡ v → row_or row v ≤ row
+      go (Some x) e = omega (arith, prev_within folds row x e)
+      go None e = omega arith
 
   shown_up : (row : ℕ) → shown_row folds rows row ≤ row
   shown_up row = go (hidden folds row)
@@ -39,9 +37,9 @@ module _ (folds : List ℕ) (rows : ℕ) where
       same true = refl
       same false = refl
 
-      go : (v : Visible) → prev_visible folds row ≡ v → shown_row folds rows (row_or row v) ≡ row_or row v
-      go (Row x) e = rw (prev_shown folds row x e)
-      go NoRow e = rw e (same (hidden folds row))
+      go : (v : Option ℕ) → prev_visible folds row ≡ v → shown_row folds rows (row_or row v) ≡ row_or row v
+      go (Some x) e = rw (prev_shown folds row x e)
+      go None e = rw e (same (hidden folds row))
 
   shown_after : (m row : ℕ) → 0 < m → let up = rounds (step_row folds rows false) m row in shown_row folds rows up ≡ up
   shown_after m row h = rw last (shown_there (rounds (step_row folds rows false) (m - 1) row))

@@ -1,7 +1,6 @@
 -- From visible row to visible row: rows that no fold hides are as many rounds. Assumes nothing.
-use Rattle.lists.proofs.Kit.{◌≡◌, sym, ap, ◌∙◌, List, Bool, true, false, ℕ, zero, suc, ◌+◌, ◌-◌, ◌*◌, ◌≤◌, ◌<◌, add-zero, arith}
+use Rattle.lists.proofs.Kit.{◌≡◌, sym, ap, ◌∙◌, List, Bool, true, false, ℕ, zero, suc, ◌+◌, ◌-◌, ◌*◌, ◌≤◌, ◌<◌, add-zero, arith, Some, None}
 use Rattle.folds.specs.Folds.{hidden}
-use Rattle.folds.specs.declared.Visible.TheVariants.{Row, NoRow}
 use Rattle.folds.proofs.Past.{next_here, prev_here, visible_within, prev_within}
 use Rattle.lists.specs.Rounds.{rounds}
 use Rattle.visible_rows.specs.Visible.{toward, row_or, step_row, rows_beyond, Free, HopTo, shift}
@@ -10,12 +9,12 @@ use Rattle.lists.proofs.Rounds.{rounds_on, rounds_none, rounds_still, rounds_add
 module _ (folds : List ℕ) (rows : ℕ) where
   -- the next row, where no fold hides it
   pub toward_next : (down : Bool) (row : ℕ) → 0 < rows_beyond down rows row → hidden folds (shift down row 1) ≡ false →
-      toward folds rows down row ≡ Row (shift down row 1)
+      toward folds rows down row ≡ Some (shift down row 1)
   toward_next true row h v = next_here folds rows (row + 1) v (omega arith)
   toward_next false row h v = prev_here folds row v h
 
   -- a visible row is one of the text's
-  pub toward_within : (down : Bool) (row x : ℕ) → row < rows → toward folds rows down row ≡ Row x → x < rows
+  pub toward_within : (down : Bool) (row x : ℕ) → row < rows → toward folds rows down row ≡ Some x → x < rows
   toward_within true row x h e = omega (arith, visible_within folds (row + 1) (rows - (row + 1)) x e)
   toward_within false row x h e = omega (arith, prev_within folds row x e)
 
@@ -70,12 +69,12 @@ module _ {folds : List ℕ} {rows : ℕ} {down : Bool} {row free : ℕ} (f : Fre
         rounds_add (step_row folds rows down) free (left - free) row ∙
         ap (rounds (step_row folds rows down) (left - free)) (free_rounds free (omega arith))
 
-    pub free_hop : (x : ℕ) → toward folds rows down (shift down row free) ≡ Row x →
+    pub free_hop : (x : ℕ) → toward folds rows down (shift down row free) ≡ Some x →
         rounds (step_row folds rows down) left row ≡ rounds (step_row folds rows down) (left - free - 1) x
     free_hop x e = rest ∙ rounds_on (step_row folds rows down) (left - free) (shift down row free) (omega arith) ∙
         ap (rounds (step_row folds rows down) (left - free - 1)) (ap (row_or (shift down row free)) e)
 
-    pub free_edge : toward folds rows down (shift down row free) ≡ NoRow → rounds (step_row folds rows down) left row ≡ shift down row free
+    pub free_edge : toward folds rows down (shift down row free) ≡ None → rounds (step_row folds rows down) left row ≡ shift down row free
     free_edge e = rest ∙ rounds_still (step_row folds rows down) (left - free) (shift down row free) (ap (row_or (shift down row free)) e)
 
 -- one row further in them
@@ -98,17 +97,17 @@ free_less {folds} {rows} false {row} {free} f h =
 
 -- the hop by them, and past them
 module _ {folds : List ℕ} {rows : ℕ} {down : Bool} {row free : ℕ} (f : Free folds rows down row free) where
-  pub hop_free : (x : ℕ) → x ≡ shift down row 1 → 0 < free → HopTo folds rows down row (record { next = Row x; free = free - 1 })
+  pub hop_free : (x : ℕ) → x ≡ shift down row 1 → 0 < free → HopTo folds rows down row (record { next = Some x; free = free - 1 })
   hop_free x e h =
       record {
-        found = ap Row e ∙ sym (toward_next folds rows down row (omega (arith, f.within)) (f.shown 1 (omega arith) h));
+        found = ap Some e ∙ sym (toward_next folds rows down row (omega (arith, f.within)) (f.shown 1 (omega arith) h));
         onward = λ y q. let x_is : x ≡ y = cc in rw (sym x_is ∙ e) (free_less down f h);
       }
 
-pub hop_past : {folds : List ℕ} {rows : ℕ} {down : Bool} {row x : ℕ} (free : ℕ) → toward folds rows down row ≡ Row x → Free folds rows down x free →
-    HopTo folds rows down row (record { next = Row x; free = free })
+pub hop_past : {folds : List ℕ} {rows : ℕ} {down : Bool} {row x : ℕ} (free : ℕ) → toward folds rows down row ≡ Some x → Free folds rows down x free →
+    HopTo folds rows down row (record { next = Some x; free = free })
 hop_past {folds} {rows} {down} {row} {x} free e f = record { found = sym e; onward = λ y q. let x_is : x ≡ y = cc in rw (sym x_is) f }
 
-pub hop_none : {folds : List ℕ} {rows : ℕ} {down : Bool} {row : ℕ} → toward folds rows down row ≡ NoRow →
-    HopTo folds rows down row (record { next = NoRow; free = 0 })
+pub hop_none : {folds : List ℕ} {rows : ℕ} {down : Bool} {row : ℕ} → toward folds rows down row ≡ None →
+    HopTo folds rows down row (record { next = None; free = 0 })
 hop_none e = record { found = sym e; onward = λ y q. let never : ◌≡◌ {A = ℕ} 0 1 = cc in absurd (omega arith) }

@@ -1,9 +1,7 @@
 -- From visible row to visible row, as `move_vertical` of motions.rs goes, down or up.
 -- Definitions only; the laws are in `proofs/Visible.antt`. Assumes nothing.
-use Rattle.std.specs.Prelude.{ℕ, suc, ◌+◌, ◌-◌, ◌≤◌, ◌<◌, max, ◌≡◌, List, Bool, true, false, cond, ℤ, pos, negsuc, neg_ℤ}
+use Rattle.std.specs.Prelude.{ℕ, suc, ◌+◌, ◌-◌, ◌≤◌, ◌<◌, max, ◌≡◌, List, Bool, true, false, cond, ℤ, pos, negsuc, neg_ℤ, Option, Some, None}
 use Rattle.folds.specs.Folds.{fold_hides, hidden, next_visible, prev_visible}
-use Rattle.folds.specs.declared.Visible.{Visible}
-use Rattle.folds.specs.declared.Visible.TheVariants.{Row, NoRow}
 use Rattle.visible_rows.specs.declared.Hop.{Hop}
 use Rattle.lists.specs.Rounds.{rounds}
 
@@ -12,13 +10,13 @@ abbrev pub shift : Bool → ℕ → ℕ → ℕ
 shift down i n = cond down (i + n) (i - n)
 
 -- the nearest visible row below or above
-abbrev pub toward : List ℕ → ℕ → Bool → ℕ → Visible
+abbrev pub toward : List ℕ → ℕ → Bool → ℕ → Option ℕ
 toward folds rows down row = cond down (next_visible folds rows row) (prev_visible folds row)
 
 -- the row itself, where there is none
-abbrev pub row_or : ℕ → Visible → ℕ
-row_or row (Row next) = next
-row_or row NoRow = row
+abbrev pub row_or : ℕ → Option ℕ → ℕ
+row_or row (Some next) = next
+row_or row None = row
 
 -- one visible row on
 abbrev pub step_row : List ℕ → ℕ → Bool → ℕ → ℕ
@@ -59,4 +57,4 @@ pub record Free (folds : List ℕ) (rows : ℕ) (down : Bool) (row free : ℕ) :
 -- the next visible row, and rows after it that no fold hides
 pub record HopTo (folds : List ℕ) (rows : ℕ) (down : Bool) (row : ℕ) (r : Hop) : Type 0 where
   pub found : r.next ≡ toward folds rows down row
-  pub onward : (x : ℕ) → r.next ≡ Row x → Free folds rows down x r.free
+  pub onward : (x : ℕ) → r.next ≡ Some x → Free folds rows down x r.free

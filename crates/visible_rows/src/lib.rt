@@ -8,6 +8,6 @@ pub mod rows;
 // The next visible row, and how many rows come after it that no fold hides.
 #[derive(Clone, Copy)]
 pub struct Hop {
-    pub next: folds::Visible,
+    pub next: Option<usize>,
     pub free: usize,
 }

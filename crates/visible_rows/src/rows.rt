@@ -12,15 +12,13 @@ ghost use Rattle.visible_rows.specs.Visible.{RowIs, rows_beyond, Clear, Free, Ho
 ghost use Rattle.visible_rows.specs.Ready.{RowReady, WalkReady, HopReady, DeltaReady};
 
 use crate::Hop;
-use folds::Visible;
-use text::{least, minus, most};
 
 // So many rows or segments further, down or up, where up stops at 0.
 pub fn shifted(down: bool, i: usize, n: usize) -> usize
     requires { i + n ≤ 8388608 }
     ensures { result ≡ shift down i n }
 {
-    if down { i + n } else { minus(i, n) }
+    if down { i + n } else { i.saturating_sub(n) }
 }
 
 // How many of a text's rows are below or above.
@@ -42,12 +40,12 @@ fn clear_of(down: bool, row: usize, s: u32, e: u32, closed: u32, free: usize) ->
         if e as usize <= row {
             return free;
         }
-        return least(free, minus(s as usize, row));
+        return free.min((s as usize).saturating_sub(row));
     }
     if row <= s as usize + 1 {
         return free;
     }
-    least(free, minus(row - 1, e as usize))
+    free.min((row - 1).saturating_sub(e as usize))
 }
 
 // How many rows come next that no fold hides.
@@ -63,7 +61,7 @@ pub fn free_rows(folds: &[u32], rows: usize, down: bool, row: usize) -> usize
 }
 
 // The nearest visible row below or above.
-pub fn visible_row(folds: &[u32], rows: usize, down: bool, row: usize) -> Visible
+pub fn visible_row(folds: &[u32], rows: usize, down: bool, row: usize) -> Option<usize>
     requires { RowReady folds.now rows row }
     ensures { result ≡ toward folds.now rows down row }
 {
@@ -81,17 +79,17 @@ pub fn hop(folds: &[u32], rows: usize, down: bool, row: usize, free: usize) -> H
 {
     if free > 0 {
         return Hop {
-            next: Visible::Row(shifted(down, row, 1)),
+            next: Some(shifted(down, row, 1)),
             free: free - 1,
         };
     }
     match visible_row(folds, rows, down, row) {
-        Visible::Row(x) => Hop {
-            next: Visible::Row(x),
+        Some(x) => Hop {
+            next: Some(x),
             free: free_rows(folds, rows, down, x),
         },
-        Visible::NoRow => Hop {
-            next: Visible::NoRow,
+        None => Hop {
+            next: None,
             free: 0,
         },
     }
@@ -112,11 +110,11 @@ fn rows_on(folds: &[u32], rows: usize, down: bool, row: usize, n: usize) -> usiz
         }
         let edge = shifted(down, r, free);
         match visible_row(folds, rows, down, edge) {
-            Visible::Row(x) => {
+            Some(x) => {
                 r = x;
                 left = left - free - 1;
             }
-            Visible::NoRow => {
+            None => {
                 return edge;
             }
         }
@@ -152,7 +150,7 @@ fn unsigned(z: i64) -> usize
 pub fn delta_of(down: bool, count: u32) -> i64
     ensures { result ≡ delta_of down count }
 {
-    let n = signed(most(count as usize, 1));
+    let n = signed((count as usize).max(1));
     if down { n } else { negated(n) }
 }
 
@@ -165,8 +163,8 @@ fn shown_row(folds: &[u32], rows: usize, row: usize) -> usize
         return row;
     }
     match visible_row(folds, rows, false, row) {
-        Visible::Row(first) => first,
-        Visible::NoRow => row,
+        Some(first) => first,
+        None => row,
     }
 }
 

@@ -5,9 +5,10 @@ use Rattle.ranges.proofs.Bounds.{table_low}
 use Rattle.chars.specs.Width.{zero_widths, double_widths, width_by, width_of, Widths}
 use Rattle.chars.proofs.Tables.{zero_widths_ascend, double_widths_ascend}
 use Rattle.chars.proofs.Lent.{zeros_low}
+use Rattle.chars.specs.declared.Measure.{Measure}
 use Rattle.widths.specs.declared.Ambiguous.{Ambiguous}
 use Rattle.widths.specs.declared.Ambiguous.TheVariants.{Narrow, Wide}
-use Rattle.widths.specs.Widths.{class_a, is_ambiguous, wide_width, width_as}
+use Rattle.widths.specs.Widths.{class_a, is_ambiguous, wide_width, width_as, Lends}
 use Rattle.widths.proofs.WideTable.{wide_doubles}
 use Rattle.widths.proofs.Tables.{is_none, is_two, is_classed, is_two_wide, kind, class_ascends, wide_doubles_ascend, none_in, two_in, class_in, wide_in}
 
@@ -70,3 +71,6 @@ module _ (s : Ambiguous) {zeros doubles : List ℕ} (none : zeros ≡ zero_width
         doubles_ascend = rw two (doubles_ascend s);
         low = λ x h. rw none (zeros_low x h);
       }
+
+pub lends_of : (a : Ambiguous) (m : Measure) → m.zeros.now ≡ zero_widths → m.doubles.now ≡ doubles_of a → Lends a m
+lends_of a m none two = record { fit = widths_lent a none two; same = width_lent a none two }

@@ -1,8 +1,6 @@
 -- What a round and a motion require, for their parts. Assumes nothing.
-use Rattle.lists.proofs.Kit.{◌≡◌, refl, ap, sym, ◌∙◌, List, true, false, ℕ, zero, suc, ◌+◌, ◌-◌, ◌≤◌, ◌<◌, arith, length}
+use Rattle.lists.proofs.Kit.{◌≡◌, refl, ap, sym, ◌∙◌, List, true, false, ℕ, zero, suc, ◌+◌, ◌-◌, ◌≤◌, ◌<◌, arith, length, Option, Some}
 use Rattle.folds.specs.Folds.{closed_fold_at}
-use Rattle.folds.specs.declared.Span.{Span}
-use Rattle.folds.specs.declared.Span.TheVariants.{Of}
 use Rattle.text.specs.Text.{position}
 use Rattle.text.specs.declared.Position.{Position}
 use Rattle.text.proofs.Stands.{row_there}
@@ -33,11 +31,11 @@ module _ {c folds : List ℕ} {rows content : ℕ} {p : Spot} (w : Ready c folds
       )
 
   -- the closed fold at the spot's row
-  pub span_at : {r : Span} → r ≡ closed_fold_at folds rows content p.row → r ≡ fold_at c folds p.at
+  pub span_at : {r : Option (ℕ × ℕ)} → r ≡ closed_fold_at folds rows content p.row → r ≡ fold_at c folds p.at
   span_at e = e ∙ ap (λ (x : ℕ). closed_fold_at folds x content p.row) w.all_rows
       ∙ ap (λ (x : ℕ). closed_fold_at folds (rows_of c) x p.row) w.content_rows ∙ ap (closed_fold_at folds (rows_of c) (content_of c)) w.stands.row_is
 
-  pub span_rows : {r : Span} → r ≡ closed_fold_at folds rows content p.row → (a b : ℕ) → r ≡ Of a b → (a ≤ p.row) × (b < rows_of c)
+  pub span_rows : {r : Option (ℕ × ℕ)} → r ≡ closed_fold_at folds rows content p.row → (a b : ℕ) → r ≡ Some (a, b) → (a ≤ p.row) × (b < rows_of c)
   span_rows e a b q =
       let by_ready_row = ready_row in (
         fold_first folds rows content p.row a b (sym e ∙ q),

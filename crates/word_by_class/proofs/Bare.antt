@@ -1,7 +1,6 @@
 -- A round at a row of a stretch without closed folds. Assumes nothing.
-use Rattle.lists.proofs.Kit.{◌≡◌, refl, List, [], Bool, true, ◌&&◌, ℕ, ltb, leb}
+use Rattle.lists.proofs.Kit.{◌≡◌, refl, List, [], Bool, true, ◌&&◌, ℕ, ltb, leb, None}
 use Rattle.folds.specs.Folds.{any_fold, fold_refusal}
-use Rattle.folds.specs.declared.Span.TheVariants.{NoSpan}
 use Rattle.fold_stretches.specs.declared.Stretch.{Stretch}
 use Rattle.fold_stretches.specs.Stretches.{NoFold}
 use Rattle.fold_stretches.proofs.Spans.{no_span, none_span}
@@ -13,10 +12,10 @@ use Rattle.word_by_class.specs.Rounds.{fold_at, round_of, Ready}
 
 module _ (c folds : List ℕ) {w : Stretch} (b : NoFold folds w) (i row : ℕ) (e : row ≡ row_of c i)
     (h : (leb w.lo row && ltb row w.hi) ≡ true) where
-  gone : fold_at c folds i ≡ NoSpan
+  gone : fold_at c folds i ≡ None
   gone = rw (← e) (no_span (rows_of c) (content_of c) row b h)
 
-  none : fold_at c [] i ≡ NoSpan
+  none : fold_at c [] i ≡ None
   none = none_span (rows_of c) (content_of c) (row_of c i)
 
   pub round_bare : (big : Bool) (m : Motion) (stop : Bool) → round_of c [] big m stop i ≡ round_of c folds big m stop i

@@ -4,19 +4,19 @@ use Rattle.fold_stretches.specs.declared.Stretch.{Stretch}
 use Rattle.fold_stretches.specs.Stretches.{NoFold}
 use Rattle.word_kinds.specs.declared.Spot.{Spot}
 use Rattle.word_class_rows.specs.Rows.{StandsAt}
-use Rattle.word_by_class.specs.declared.Turn.{Turn}
-use Rattle.word_by_class.specs.declared.Turn.TheVariants.{On, Off}
+use Rattle.word_ends.specs.declared.Turn.{Turn}
+use Rattle.word_ends.specs.declared.Turn.TheVariants.{On, Off}
 use Rattle.word_by_class.specs.Rounds.{counted, Ready}
 use Rattle.word_by_class.proofs.Counts.{counted_none, counted_on, counted_off, counted_still}
 use Rattle.word_by_class.proofs.Asks.{ready_at}
 
 -- the rounds left from `cur` on come to where all of them come, and there is no closed fold at the rows of the stretch
-pub record Counting (c folds : List ℕ) (rows content : ℕ) (round : ℕ → Turn) (count : ℕ) (from cur : Spot) (left : ℕ) (w : Stretch) : Type 0 where
+pub record Counting (c folds : List ℕ) (rows content : ℕ) (round : ℕ → Turn ℕ) (count : ℕ) (from cur : Spot) (left : ℕ) (w : Stretch) : Type 0 where
   pub ready : Ready c folds rows content cur
   pub rest : counted round left cur.at ≡ counted round count from.at
   pub bare : NoFold folds w
 
-module _ {c folds : List ℕ} {rows content : ℕ} {round : ℕ → Turn} {count : ℕ} {from cur : Spot} {left : ℕ} {w : Stretch}
+module _ {c folds : List ℕ} {rows content : ℕ} {round : ℕ → Turn ℕ} {count : ℕ} {from cur : Spot} {left : ℕ} {w : Stretch}
     (so_far : Counting c folds rows content round count from cur left w) where
   -- no round is left
   pub counting_none : left ≡ 0 → cur.at ≡ counted round count from.at

@@ -1,11 +1,11 @@
 -- Counts of rounds by the classes. A round that changes nothing ends them. Assumes nothing.
 use Rattle.lists.proofs.Kit.{◌≡◌, refl, List, Bool, false, ℕ, zero, suc, ◌-◌, ◌<◌, max, arith}
 use Rattle.word_rounds.specs.declared.Motion.{Motion}
-use Rattle.word_by_class.specs.declared.Turn.{Turn}
-use Rattle.word_by_class.specs.declared.Turn.TheVariants.{On, Off}
+use Rattle.word_ends.specs.declared.Turn.{Turn}
+use Rattle.word_ends.specs.declared.Turn.TheVariants.{On, Off}
 use Rattle.word_by_class.specs.Rounds.{round_of, counted, motion}
 
-module _ (round : ℕ → Turn) where
+module _ (round : ℕ → Turn ℕ) where
   pub counted_none : (n i : ℕ) → n ≡ 0 → counted round n i ≡ i
   unfolding counted
   counted_none n i e = rw e

@@ -1,9 +1,7 @@
 -- What the code of a round leans on: the slice holds classes, so that every jump and round stays in it. Assumes nothing.
-use Rattle.lists.proofs.Kit.{◌≡◌, refl, sym, subst, ◌∙◌, List, [], ◌∷◌, Bool, true, false, cond, ℕ, ◌+◌, ◌≤◌, ◌<◌, arith, length, eqb, leb}
+use Rattle.lists.proofs.Kit.{◌≡◌, refl, sym, subst, ◌∙◌, List, [], ◌∷◌, Bool, true, false, cond, ℕ, ◌+◌, ◌≤◌, ◌<◌, arith, length, eqb, leb, Option, Some, None}
+use Rattle.folds.proofs.Spans.{same_first}
 use Rattle.folds.specs.Folds.{hidden, prev_visible, next_visible, last_before, closed_from, closed_fold_at}
-use Rattle.folds.specs.declared.Span.TheVariants.{Of, NoSpan}
-use Rattle.folds.specs.declared.Visible.{Visible}
-use Rattle.folds.specs.declared.Visible.TheVariants.{Row, NoRow}
 use Rattle.folds.proofs.Past.{prev_within}
 use Rattle.text.proofs.Content.{content_near}
 use Rattle.text.proofs.Stands.{row_there}
@@ -16,8 +14,8 @@ use Rattle.word_class_rows.specs.Rows.{row_of, rows_of, content_of}
 use Rattle.word_class_laws.specs.Determines.{Classes, Determines}
 use Rattle.word_class_laws.proofs.Points.{char_says}
 use Rattle.word_class_laws.proofs.Law.{determined}
-use Rattle.word_by_class.specs.declared.Turn.{Turn}
-use Rattle.word_by_class.specs.declared.Turn.TheVariants.{On, Off}
+use Rattle.word_ends.specs.declared.Turn.{Turn}
+use Rattle.word_ends.specs.declared.Turn.TheVariants.{On, Off}
 use Rattle.word_by_class.specs.Rounds.{jump_fwd, jump_back, round_of, motion}
 use Rattle.word_by_class.proofs.Jumping.{fwd_same, back_same}
 use Rattle.word_by_class.proofs.Same.{Turns, round_same, motion_same}
@@ -33,20 +31,20 @@ first_of word (x ∷ t) e = go (eqb x 10) e
     go false w = let never : ◌≡◌ {A = ℕ} 0 1 = cc (sym w ∙ (char_says word true x).1) in absurd (omega arith)
 
 -- the first row of a closed fold is not behind the row that it is at
-pub fold_first : (folds : List ℕ) (rows content row a b : ℕ) → closed_fold_at folds rows content row ≡ Of a b → a ≤ row
+pub fold_first : (folds : List ℕ) (rows content row a b : ℕ) → closed_fold_at folds rows content row ≡ Some (a, b) → a ≤ row
 fold_first folds rows content row a b e = go (hidden folds row) refl
   where
-    from : (v : Visible) → ((x : ℕ) → v ≡ Row x → x ≤ row) → closed_from folds rows content v ≡ Of a b → a ≤ row
-    from NoRow f w = let never : ◌≡◌ {A = ℕ} 0 1 = cc in absurd (omega arith)
-    from (Row x) f w = pick (hidden folds (x + 1)) w
+    from : (v : Option ℕ) → ((x : ℕ) → v ≡ Some x → x ≤ row) → closed_from folds rows content v ≡ Some (a, b) → a ≤ row
+    from None f w = let never : ◌≡◌ {A = ℕ} 0 1 = cc in absurd (omega arith)
+    from (Some x) f w = pick (hidden folds (x + 1)) w
       where
-        pick : (s : Bool) → cond s (Of x (last_before content (next_visible folds rows x))) NoSpan ≡ Of a b → a ≤ row
-        pick true v = let x_is : x ≡ a = cc in rw x_is at (f x refl)
+        pick : (s : Bool) → cond {A = Option (ℕ × ℕ)} s (Some (x, last_before content (next_visible folds rows x))) None ≡ Some (a, b) → a ≤ row
+        pick true v = let x_is : x ≡ a = same_first v in rw x_is at (f x refl)
         pick false v = let never : ◌≡◌ {A = ℕ} 0 1 = cc in absurd (omega arith)
 
     go : (s : Bool) → hidden folds row ≡ s → a ≤ row
     go true s = from (prev_visible folds row) (λ x v. omega (arith, prev_within folds row x v)) (rw s at e)
-    go false s = from (Row row) (λ x v. let row_is : row ≡ x = cc in omega arith) (rw s at e)
+    go false s = from (Some row) (λ x v. let row_is : row ≡ x = cc in omega arith) (rw s at e)
 
 module _ {c : List ℕ} (k : Classes c) where
   -- the one law, of a slice that holds classes
@@ -71,7 +69,7 @@ module _ {c : List ℕ} (k : Classes c) where
     back_in = omega (arith, (back_same (held true) folds i in_text_lem).1, (held true).long)
 
     module _ (big : Bool) (m : Motion) (stop : Bool) (j : ℕ) where
-      turn_in : (r : Turn) (v : first.Turn) → Turns k.text r v → r ≡ On j → j + 1 ≤ length c
+      turn_in : (r : Turn ℕ) (v : first.Turn) → Turns k.text r v → r ≡ On j → j + 1 ≤ length c
       turn_in (On x) v w e = let x_is : x ≡ j = cc in omega (arith, w.1, (held true).long)
       turn_in (Off x) v w e = let never : ◌≡◌ {A = ℕ} 0 1 = cc in absurd (omega arith)
 

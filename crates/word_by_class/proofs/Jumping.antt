@@ -1,5 +1,5 @@
 -- Out of a closed fold by the classes is out of it in the text. Assumes nothing.
-use Rattle.lists.proofs.Kit.{◌≡◌, refl, ap, sym, ◌∙◌, List, Bool, true, false, cond, ◌&&◌, ℕ, zero, suc, ◌+◌, ◌-◌, ◌≤◌, ◌<◌, add-one, arith, length, eqb}
+use Rattle.lists.proofs.Kit.{◌≡◌, refl, ap, sym, ◌∙◌, List, Bool, true, false, cond, ◌&&◌, ℕ, zero, suc, ◌+◌, ◌-◌, ◌≤◌, ◌<◌, add-one, arith, length, eqb, Option, Some, None}
 use Rattle.lists.proofs.Kit.{eq-eqb, eqb-true, eqb-false, le-ltb}
 use Rattle.text.specs.Text.{row_count, row_len, content_rows, position}
 use Rattle.text.specs.Offsets
@@ -10,8 +10,6 @@ use Rattle.text.proofs.Parts.{next_start_lem}
 use Rattle.text.proofs.Content.{content_near}
 use Rattle.text.proofs.Stands.{row_there, stands_row, at_stands}
 use Rattle.folds.specs.Folds.{closed_fold_at}
-use Rattle.folds.specs.declared.Span.{Span}
-use Rattle.folds.specs.declared.Span.TheVariants.{Of, NoSpan}
 use Rattle.word_kinds.specs.Places
 use Rattle.word_kinds.proofs.Onto.{spot_at, col_at}
 use Rattle.word_rounds.specs.Rounds as first
@@ -90,7 +88,7 @@ module _ {t : List ℕ} {tell : ℕ → ℕ} {c : List ℕ} {big : Bool} (d : De
     same_fold = ap (λ (x : ℕ). closed_fold_at folds x (content_rows t) (Offsets.row_of t i)) d.rows
         ∙ ap (λ (x : ℕ). closed_fold_at folds (rows_of c) x (Offsets.row_of t i)) d.content_rows ∙ ap (closed_fold_at folds (rows_of c) (content_of c)) (d.row i h)
 
-    rows_of_lem : (a b : ℕ) → fold_at c folds i ≡ Of a b → (a < row_count t) × (b < row_count t)
+    rows_of_lem : (a b : ℕ) → fold_at c folds i ≡ Some (a, b) → (a < row_count t) × (b < row_count t)
     rows_of_lem a b e =
         let by_content_near = content_near t in
         span_within folds (row_count t) (content_rows t) (Offsets.row_of t i) a b (same_fold ∙ e) (row_there t i h).in_row (omega arith) (omega arith)
@@ -98,13 +96,13 @@ module _ {t : List ℕ} {tell : ℕ → ℕ} {c : List ℕ} {big : Bool} (d : De
     pub fwd_same : (first.jump_fwd t folds (pos t i) ≡ pos t (jump_fwd c folds i)) × (jump_fwd c folds i ≤ length t)
     fwd_same = rw same_fold (go (fold_at c folds i) refl)
       where
-        go : (s : Span) → fold_at c folds i ≡ s → (first.to_last t (pos t i) s ≡ pos t (to_last c i s)) × (to_last c i s ≤ length t)
-        go (Of a b) e = let by_last_place = last_place b (rows_of_lem a b e).1 in (sym by_last_place.0, by_last_place.1)
-        go NoSpan e = (refl, h)
+        go : (s : Option (ℕ × ℕ)) → fold_at c folds i ≡ s → (first.to_last t (pos t i) s ≡ pos t (to_last c i s)) × (to_last c i s ≤ length t)
+        go (Some (a, b)) e = let by_last_place = last_place b (rows_of_lem a b e).1 in (sym by_last_place.0, by_last_place.1)
+        go None e = (refl, h)
 
     pub back_same : (first.jump_back t folds (pos t i) ≡ pos t (jump_back c folds i)) × (jump_back c folds i ≤ length t)
     back_same = rw same_fold (go (fold_at c folds i) refl)
       where
-        go : (s : Span) → fold_at c folds i ≡ s → (first.to_first (pos t i) s ≡ pos t (to_first c i s)) × (to_first c i s ≤ length t)
-        go (Of a b) e = let by_first_place = first_place a (rows_of_lem a b e).0 in (sym by_first_place.0, by_first_place.1)
-        go NoSpan e = (refl, h)
+        go : (s : Option (ℕ × ℕ)) → fold_at c folds i ≡ s → (first.to_first (pos t i) s ≡ pos t (to_first c i s)) × (to_first c i s ≤ length t)
+        go (Some (a, b)) e = let by_first_place = first_place a (rows_of_lem a b e).0 in (sym by_first_place.0, by_first_place.1)
+        go None e = (refl, h)

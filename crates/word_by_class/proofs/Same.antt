@@ -1,31 +1,29 @@
 -- The motions of the two engines are the same: each round by the hops and the jumps, and so each count. Assumes nothing.
-use Rattle.lists.proofs.Kit.{◌≡◌, refl, ap, ◌∙◌, List, Bool, true, false, cond, ◌&&◌, ℕ, zero, suc, ◌-◌, ◌≤◌, max, length}
+use Rattle.lists.proofs.Kit.{◌≡◌, refl, ap, ◌∙◌, List, Bool, true, false, cond, ◌&&◌, ℕ, zero, suc, ◌-◌, ◌≤◌, max, length, Option, Some, None}
 use Rattle.text.specs.declared.Position.{Position}
 use Rattle.word_kinds.specs.Places
 use Rattle.word_edges.specs.Words
 use Rattle.word_rounds.specs.Rounds as first
 use Rattle.word_rounds.specs.declared.Motion.{Motion}
 use Rattle.word_rounds.specs.declared.Motion.TheVariants.{Fwd, Back, End, EndBack}
-use Rattle.word_places.specs.declared.Step.{Step}
-use Rattle.word_places.specs.declared.Step.TheVariants.{To, Nowhere}
 use Rattle.word_hops.specs.Hops.{next_start, prev_start, next_end, prev_end, at_end}
 use Rattle.word_class_laws.specs.Determines.{Determines, pos}
 use Rattle.word_class_laws.proofs.Hops.{Meets, start_same, end_same}
 use Rattle.word_class_laws.proofs.Behind.{front_of_lem, ends_of, stays}
-use Rattle.word_by_class.specs.declared.Turn.{Turn}
-use Rattle.word_by_class.specs.declared.Turn.TheVariants.{On, Off}
+use Rattle.word_ends.specs.declared.Turn.{Turn}
+use Rattle.word_ends.specs.declared.Turn.TheVariants.{On, Off}
 use Rattle.word_by_class.specs.Rounds.{turn, end_turn, jump_fwd, jump_back, round_of, after, counted, motion}
 use Rattle.word_by_class.proofs.Jumping.{fwd_same, back_same}
 
 -- how a round of the first engine ends, by how one of the second does
-abbrev pub Turns : List ℕ → Turn → first.Turn → Type 0
+abbrev pub Turns : List ℕ → Turn ℕ → first.Turn → Type 0
 Turns t (On j) w = (w ≡ first.On (pos t j)) × (j ≤ length t)
 Turns t (Off j) w = (w ≡ first.Off (pos t j)) × (j ≤ length t)
 
 module _ {t : List ℕ} {tell : ℕ → ℕ} {c : List ℕ} {big : Bool} (d : Determines t tell c big) where
-  turn_same : (from : ℕ) → from ≤ length t → (r : Step) (w : Places.Step) → Meets t r w → Turns t (turn from r) (first.turn (pos t from) w)
-  turn_same from h (To j) w m = (ap (first.turn (pos t from)) m.0, m.1)
-  turn_same from h Nowhere w m = (ap (first.turn (pos t from)) m, h)
+  turn_same : (from : ℕ) → from ≤ length t → (r : Option ℕ) (w : Places.Step) → Meets t r w → Turns t (turn from r) (first.turn (pos t from) w)
+  turn_same from h (Some j) w m = (ap (first.turn (pos t from)) m.0, m.1)
+  turn_same from h None w m = (ap (first.turn (pos t from)) m, h)
 
   end_turn_lem : (stop : Bool) (from : ℕ) → from ≤ length t → Turns t (end_turn c big stop from) (first.end_turn t tell stop (pos t from))
   end_turn_lem stop from h = rw (stays d from h) (go (stop && at_end c big from))
@@ -48,7 +46,7 @@ module _ {t : List ℕ} {tell : ℕ → ℕ} {c : List ℕ} {big : Bool} (d : De
     round_same End stop i h = let by_fwd_same = fwd_same d folds i h in rw by_fwd_same.0 (end_turn_lem stop (jump_fwd c folds i) by_fwd_same.1)
     round_same EndBack stop i h = turn_same i h (prev_end c big i) (Words.prev_word_end t tell (pos t i)) (ends_of d i h)
 
-    after_same : (a : Turn) (b : first.Turn) (f : ℕ → ℕ) (g : Position → Position) → Turns t a b →
+    after_same : (a : Turn ℕ) (b : first.Turn) (f : ℕ → ℕ) (g : Position → Position) → Turns t a b →
         ((j : ℕ) → j ≤ length t → (g (pos t j) ≡ pos t (f j)) × (f j ≤ length t)) → (first.after b g ≡ pos t (after a f)) × (after a f ≤ length t)
     after_same (On j) b f g w k = let here = k j w.1 in (ap (λ (x : first.Turn). first.after x g) w.0 ∙ here.0, here.1)
     after_same (Off j) b f g w k = (ap (λ (x : first.Turn). first.after x g) w.0, w.1)

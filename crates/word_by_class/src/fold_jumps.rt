@@ -4,7 +4,6 @@ ghost use Rattle.std.specs.Prelude.{◌≡◌};
 ghost use Rattle.word_class_rows.specs.Rows.{end_of, last_of};
 ghost use Rattle.word_by_class.specs.Rounds.{jump_fwd, jump_back, RowFrom, ClassRow, Ready};
 
-use folds::Span;
 use word_classes::EMPTY_ROW;
 use word_kinds::Spot;
 
@@ -47,8 +46,8 @@ pub fn jump_fwd(c: &[u8], folds: &[u32], rows: usize, content: usize, p: Spot) -
     ensures { result ≡ jump_fwd c.now folds.now p.at }
 {
     match folds::closed_fold_at(folds, rows, content, p.row) {
-        Span::Of(first, last) => row_last(c, p, last),
-        Span::NoSpan => p.at,
+        Some((first, last)) => row_last(c, p, last),
+        None => p.at,
     }
 }
 
@@ -58,7 +57,7 @@ pub fn jump_back(c: &[u8], folds: &[u32], rows: usize, content: usize, p: Spot) 
     ensures { result ≡ jump_back c.now folds.now p.at }
 {
     match folds::closed_fold_at(folds, rows, content, p.row) {
-        Span::Of(first, last) => word_class_rows::row_start(c, p, first),
-        Span::NoSpan => p.at,
+        Some((first, last)) => word_class_rows::row_start(c, p, first),
+        None => p.at,
     }
 }

@@ -8,10 +8,3 @@ mod fold_jumps;
 mod rounds;
 
 pub use rounds::word_by_class;
-
-// Where a round ended: the next goes on from there, or it was the last.
-#[derive(Clone, Copy)]
-pub enum Turn {
-    On(usize),
-    Off(usize),
-}

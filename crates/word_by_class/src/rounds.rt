@@ -6,28 +6,27 @@ ghost use Rattle.word_by_class.specs.Rounds.{turn, end_turn, round_of, counted};
 ghost use Rattle.word_by_class.specs.Rounds.{motion as motion_of};
 ghost use Rattle.word_by_class.specs.Rounds.{position_of, Ready, Near, Asked};
 
-use crate::Turn;
 use crate::fold_jumps::{jump_back, jump_fwd};
 use fold_stretches::Stretch;
 use text::Position;
 use word_class_rows::{content_of, ends, moved, row_end, row_start};
+use word_ends::Turn;
 use word_kinds::Spot;
-use word_places::Step;
 use word_rounds::Motion;
 
 // The round's answer: the word found, or the place from which none was found. From 0, with the word
 // at 3, it goes on from 3; from 8, with none, it ends at 8.
-fn turned(from: usize, found: Step) -> Turn
+fn turned(from: usize, found: Option<usize>) -> Turn<usize>
     ensures { result ≡ turn from found }
 {
     match found {
-        Step::To(j) => Turn::On(j),
-        Step::Nowhere => Turn::Off(from),
+        Some(j) => Turn::On(j),
+        None => Turn::Off(from),
     }
 }
 
 // A round of `e`; `stop` holds it at the end of a word: from 1 to 3, and with `stop` from 1 to 1.
-fn end_round(c: &[u8], big: bool, stop: bool, from: usize) -> Turn
+fn end_round(c: &[u8], big: bool, stop: bool, from: usize) -> Turn<usize>
     requires { from < length c.now }
     ensures { result ≡ end_turn c.now big stop from }
 {
@@ -51,7 +50,7 @@ fn round(
     big: bool,
     stop: bool,
     p: Spot,
-) -> Turn
+) -> Turn<usize>
     requires { Ready c.now folds.now rows content p }
     ensures { result ≡ round_of c.now folds.now big m stop p.at }
 {
@@ -80,7 +79,7 @@ fn round_near(
     big: bool,
     w: Stretch,
     p: Spot,
-) -> Turn
+) -> Turn<usize>
     requires { Near c.now folds.now rows content w p }
     ensures { result ≡ round_of c.now folds.now big m false p.at }
 {
@@ -127,16 +126,6 @@ fn rounds(
     cur.at
 }
 
-// How many rounds follow the first: of count 3 there are 2, and of count 0, which acts as 1, none.
-fn rest(count: u32) -> u32
-    ensures { result ≡ max count 1 - 1 }
-{
-    if count == 0 {
-        return 0;
-    }
-    count - 1
-}
-
 // A motion from a place. `stop` holds in the first round alone: by 2 `e` with `stop` goes from 1 to
 // 1, and then to 3.
 fn motion(
@@ -155,7 +144,16 @@ fn motion(
         p.at }
 {
     match round(c, folds, rows, content, m, big, stop, p) {
-        Turn::On(j) => rounds(c, folds, rows, content, m, big, rest(count), moved(c, p, j)),
+        Turn::On(j) => rounds(
+            c,
+            folds,
+            rows,
+            content,
+            m,
+            big,
+            count.max(1) - 1,
+            moved(c, p, j),
+        ),
         Turn::Off(j) => j,
     }
 }

@@ -1,5 +1,5 @@
 -- One word back by the classes is one in the text: `b` and `ge`, and where `e` with `stop` stays. Assumes nothing.
-use Rattle.lists.proofs.Kit.{◌≡◌, refl, ap, sym, ◌∙◌, List, Bool, true, false, cond, ◌&&◌, not, ℕ, zero, suc, ◌+◌, ◌≤◌, ◌<◌, ℕ_discrete, arith, length, eqb}
+use Rattle.lists.proofs.Kit.{◌≡◌, refl, ap, sym, ◌∙◌, List, Bool, true, false, cond, ◌&&◌, not, ℕ, zero, suc, ◌+◌, ◌≤◌, ◌<◌, ℕ_discrete, arith, length, eqb, Some}
 use Rattle.lists.proofs.Kit.{eq-eqb}
 use Rattle.text.specs.Text.{position}
 use Rattle.word_kinds.specs.Places
@@ -7,9 +7,8 @@ use Rattle.word_loops.specs.Walks as first
 use Rattle.word_edges.specs.Words
 use Rattle.word_places.specs.Places.{is_end, is_empty, kind, soft}
 use Rattle.word_places.specs.Walks.{back}
-use Rattle.word_places.specs.declared.Step.TheVariants.{To}
-use Rattle.word_places.specs.declared.Halt.{Halt}
-use Rattle.word_places.specs.declared.Halt.TheVariants.{Onto, Stuck}
+use Rattle.word_ends.specs.declared.Halt.{Halt}
+use Rattle.word_ends.specs.declared.Halt.TheVariants.{Onto, Stuck}
 use Rattle.word_hops.specs.Hops
 use Rattle.word_hops.proofs.Hopping.{back_below, Below}
 use Rattle.word_class_laws.specs.Determines.{Determines, pos, named}
@@ -31,14 +30,14 @@ module _ {t : List ℕ} {tell : ℕ → ℕ} {c : List ℕ} {big : Bool} (d : De
       go false w = refl
 
   -- the front of a run
-  front_same : (q : ℕ) → q ≤ length t → is_end c q ≡ false → is_empty c q ≡ false → Meets t (To (Hops.run_start c big q)) (Words.front_here t tell (pos t q))
+  front_same : (q : ℕ) → q ≤ length t → is_end c q ≡ false → is_empty c q ≡ false → Meets t (Some (Hops.run_start c big q)) (Words.front_here t tell (pos t q))
   front_same q h e n = rw (class_of d q h) (go (back c big (soft c big q) q) (first.back t tell (named (soft c big q)) (pos t q))
       (back_same d (soft c big q) q h) (back_below (over (soft c big q)) (q + 1) q))
     where
       held : over (soft c big q) q ≡ true
       held = rw (eq-eqb (soft c big q) (soft c big q) refl, n)
 
-      go : (a : Halt) (b : first.Halt) → Halts t (Inside d) (over (soft c big q)) a b → Below q a → Meets t (To (Hops.behind a)) (Words.front_of t b)
+      go : (a : Halt ℕ) (b : first.Halt) → Halts t (Inside d) (over (soft c big q)) a b → Below q a → Meets t (Some (Hops.behind a)) (Words.front_of t b)
       go (Stuck j) b w l = (ap (Words.front_of t) w.0, w.1)
       go (Onto j) b w l =
           let by_before_end = before_end d q h e in
@@ -54,7 +53,7 @@ module _ {t : List ℕ} {tell : ℕ → ℕ} {c : List ℕ} {big : Bool} (d : De
   unfolding named
   start_from_lem i h = go (back c big 2 i) (first.back t tell 0 (pos t i)) (back_same d 2 i h)
     where
-      go : (a : Halt) (b : first.Halt) → Halts t (Inside d) (over 2) a b → Meets t (Hops.start_from c big a) (Words.front_from t tell b)
+      go : (a : Halt ℕ) (b : first.Halt) → Halts t (Inside d) (over 2) a b → Meets t (Hops.start_from c big a) (Words.front_from t tell b)
       go (Stuck j) b w = (ap (Words.front_from t tell) w.0, w.1)
       go (Onto j) b w = rw (w.0, d.empties j w.1) (by (is_empty c j) refl)
         where
@@ -66,7 +65,7 @@ module _ {t : List ℕ} {tell : ℕ → ℕ} {c : List ℕ} {big : Bool} (d : De
               pick false e = refl
 
           by : (b : Bool) → is_empty c j ≡ b →
-              Meets t (cond b (To j) (To (Hops.run_start c big j))) (cond b (Places.To (pos t j)) (Words.front_here t tell (pos t j)))
+              Meets t (cond b (Some j) (Some (Hops.run_start c big j))) (cond b (Places.To (pos t j)) (Words.front_here t tell (pos t j)))
           by true n = (refl, w.1)
           by false n = front_same j w.1 (char n) n
 
@@ -80,14 +79,14 @@ module _ {t : List ℕ} {tell : ℕ → ℕ} {c : List ℕ} {big : Bool} (d : De
   unfolding named
   space_back i h = go (back c big 2 i) (first.back t tell 0 (pos t i)) (back_same d 2 i h)
     where
-      go : (a : Halt) (b : first.Halt) → Halts t (Inside d) (over 2) a b → Meets t (Hops.landed a) (Words.halted b)
+      go : (a : Halt ℕ) (b : first.Halt) → Halts t (Inside d) (over 2) a b → Meets t (Hops.landed a) (Words.halted b)
       go (Onto j) b w = (ap Words.halted w.0, w.1)
       go (Stuck j) b w = (ap Words.halted w.0, w.1)
 
   run_back : (k i : ℕ) → i ≤ length t → Meets t (Hops.back_from c big (back c big k i)) (Words.end_from t tell (first.back t tell (named k) (pos t i)))
   run_back k i h = go (back c big k i) (first.back t tell (named k) (pos t i)) (back_same d k i h)
     where
-      go : (a : Halt) (b : first.Halt) → Halts t (Inside d) (over k) a b → Meets t (Hops.back_from c big a) (Words.end_from t tell b)
+      go : (a : Halt ℕ) (b : first.Halt) → Halts t (Inside d) (over k) a b → Meets t (Hops.back_from c big a) (Words.end_from t tell b)
       go (Onto j) b w = rw w.0 (space_back j w.1)
       go (Stuck j) b w = (ap (Words.end_from t tell) w.0, w.1)
 

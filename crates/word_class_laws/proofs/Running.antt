@@ -1,5 +1,5 @@
 -- To the end of a run by the classes, and in the text. Assumes nothing.
-use Rattle.lists.proofs.Kit.{◌≡◌, refl, ap, sym, ◌∙◌, List, Bool, true, false, ◌&&◌, ℕ, ◌+◌, ◌-◌, ◌<◌, arith, length, eqb, eq-eqb, ne_eqb, eqb-true, eqb-false}
+use Rattle.lists.proofs.Kit.{◌≡◌, refl, ap, sym, ◌∙◌, List, Bool, true, false, ◌&&◌, ℕ, ◌+◌, ◌-◌, ◌<◌, arith, length, eqb, eq-eqb, ne_eqb, eqb-true, eqb-false, Option, Some, None}
 use Rattle.lists.proofs.Kit.{lt-ltb}
 use Rattle.text.specs.declared.Position.{Position}
 use Rattle.text.specs.Offsets
@@ -8,8 +8,6 @@ use Rattle.word_loops.specs.Walks as first
 use Rattle.word_loops.proofs.Counters.{forward_way}
 use Rattle.word_places.specs.Places.{is_end, kind, text_end, forward, further}
 use Rattle.word_places.specs.Walks.{walk, runs}
-use Rattle.word_places.specs.declared.Step.{Step}
-use Rattle.word_places.specs.declared.Step.TheVariants.{To, Nowhere}
 use Rattle.word_class_rows.specs.Rows.{row_of}
 use Rattle.word_class_laws.specs.Determines.{Determines, pos, named, went}
 use Rattle.word_class_laws.proofs.Walks.{Halts, Steps, walks}
@@ -30,9 +28,9 @@ module _ {t : List ℕ} {tell : ℕ → ℕ} {c : List ℕ} {big : Bool} (d : De
       off : (q : Position) → eqb q.row (Offsets.row_of t j) ≡ false → beyond j q ≡ false
       off q e = rw e
 
-      over_end : (r : Step) → forward c j ≡ r → is_end c (j + 1) ≡ true → Places.further (went t r) (beyond j) false ≡ false
-      over_end Nowhere w f = refl
-      over_end (To q) w f = off (pos t q) (ne_eqb (Offsets.row_of t q) (Offsets.row_of t j)
+      over_end : (r : Option ℕ) → forward c j ≡ r → is_end c (j + 1) ≡ true → Places.further (went t r) (beyond j) false ≡ false
+      over_end None w f = refl
+      over_end (Some q) w f = off (pos t q) (ne_eqb (Offsets.row_of t q) (Offsets.row_of t j)
           (λ e. let by_next_row = next_row_lem d k real j q o.inside (run_char d k real j o) f w in omega (arith, e, by_next_row)))
 
       stops : is_end c (j + 1) ≡ true → runs c big k j ≡ false
@@ -55,7 +53,7 @@ module _ {t : List ℕ} {tell : ℕ → ℕ} {c : List ℕ} {big : Bool} (d : De
       let e2 : eqb (kind c big (j + 1)) k ≡ true = rw (lt-ltb j (text_end c) (omega (arith, end_is d))) at e in
       record { inside = omega arith; is_kind = eqb-true _ _ e2 }
 
-  pub run_steps : (j : ℕ) → InRun d k real j → runs c big k j ≡ true → Steps t (InRun d k real) (λ i. length t - i) (Places.step_forward t) j (To (j + 1))
+  pub run_steps : (j : ℕ) → InRun d k real j → runs c big k j ≡ true → Steps t (InRun d k real) (λ i. length t - i) (Places.step_forward t) j (Some (j + 1))
   run_steps j o e =
       let by_on_run = on_run j o e in
       let low = before_end d j o.inside (run_char d k real j o) in (
@@ -65,7 +63,7 @@ module _ {t : List ℕ} {tell : ℕ → ℕ} {c : List ℕ} {big : Bool} (d : De
       )
 
   pub run_same : (i : ℕ) → InRun d k real i →
-      Halts t (InRun d k real) (runs c big k) (walk (runs c big k) (λ j. To (j + 1)) (length c + 1) i) (first.run t tell (named k) (pos t i))
+      Halts t (InRun d k real) (runs c big k) (walk (runs c big k) (λ j. Some (j + 1)) (length c + 1) i) (first.run t tell (named k) (pos t i))
   run_same i o =
-      walks t (InRun d k real) (runs c big k) (λ j. length t - j) (Places.step_forward t) (forward_way t) (first.goes_on t tell (named k)) (λ j. To (j + 1))
+      walks t (InRun d k real) (runs c big k) (λ j. length t - j) (Places.step_forward t) (forward_way t) (first.goes_on t tell (named k)) (λ j. Some (j + 1))
       (λ j p. p.inside) goes_on_lem run_steps (length c + 1) i o (omega (arith, d.long))

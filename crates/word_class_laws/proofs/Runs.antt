@@ -1,6 +1,6 @@
 -- The walks of the two engines, one by one: over kinds, back over a kind, to the end of a run, and out of it. Each cites the one law, and `walks`.
 -- Assumes nothing.
-use Rattle.lists.proofs.Kit.{◌≡◌, refl, ap, sym, ◌∙◌, List, Bool, true, false, cond, ◌&&◌, ◌||◌, not, ℕ, zero, suc, ◌+◌, ◌-◌, ◌≤◌, ◌<◌, dec_lt, arith, length}
+use Rattle.lists.proofs.Kit.{◌≡◌, refl, ap, sym, ◌∙◌, List, Bool, true, false, cond, ◌&&◌, ◌||◌, not, ℕ, zero, suc, ◌+◌, ◌-◌, ◌≤◌, ◌<◌, dec_lt, arith, length, Option, Some, None}
 use Rattle.lists.proofs.Kit.{eqb, ltb, lt-ltb}
 use Rattle.text.specs.Offsets
 use Rattle.word_kinds.specs.Places
@@ -9,8 +9,6 @@ use Rattle.word_loops.proofs.Counters.{forward_way, dec_way}
 use Rattle.word_edges.specs.Words
 use Rattle.word_places.specs.Places.{is_end, is_empty, kind, soft, text_end, forward, backward}
 use Rattle.word_places.specs.Walks.{over, back}
-use Rattle.word_places.specs.declared.Step.{Step}
-use Rattle.word_places.specs.declared.Step.TheVariants.{To, Nowhere}
 use Rattle.word_places.proofs.Walking.{forward_on, forward_over, forward_next}
 use Rattle.word_class_rows.specs.Rows.{row_of}
 use Rattle.word_class_rows.proofs.Counting.{row_end_next, row_char_next}
@@ -55,10 +53,10 @@ module _ {t : List ℕ} {tell : ℕ → ℕ} {c : List ℕ} {big : Bool} (d : De
   forward_steps : (i : ℕ) → i ≤ length t → Steps t Inside (λ j. length t - j) (Places.step_forward t) i (forward c i)
   forward_steps i h = go (forward c i) refl (d.on i h)
     where
-      go : (r : Step) → forward c i ≡ r → Places.step_forward t (pos t i) ≡ went t r → Steps t Inside (λ j. length t - j) (Places.step_forward t) i r
-      go (To j) e w = let by_forward_on =
+      go : (r : Option ℕ) → forward c i ≡ r → Places.step_forward t (pos t i) ≡ went t r → Steps t Inside (λ j. length t - j) (Places.step_forward t) i r
+      go (Some j) e w = let by_forward_on =
           forward_on c i j e in (w, omega (arith, by_forward_on.1, end_is), omega (arith, by_forward_on.0, by_forward_on.1, end_is))
-      go Nowhere e w = w
+      go None e w = w
 
   -- over kinds
   pub over_same : (a b i : ℕ) → i ≤ length t →
@@ -88,7 +86,7 @@ module _ {t : List ℕ} {tell : ℕ → ℕ} {c : List ℕ} {big : Bool} (d : De
     run_char j o = sym (d.ends j o.inside) ∙ ap (λ (x : ℕ). eqb x 4) o.is_kind ∙ real
 
     -- the next place of the row, or the next row's first
-    pub next_char : (j : ℕ) → j ≤ length t → is_end c j ≡ false → is_end c (j + 1) ≡ false → forward c j ≡ To (j + 1)
+    pub next_char : (j : ℕ) → j ≤ length t → is_end c j ≡ false → is_end c (j + 1) ≡ false → forward c j ≡ Some (j + 1)
     next_char j h e f =
         let by_before_end = before_end j h e in
         let by_before_end_f = before_end (j + 1) (omega arith) f in
@@ -99,16 +97,16 @@ module _ {t : List ℕ} {tell : ℕ → ℕ} {c : List ℕ} {big : Bool} (d : De
         let by_before_end = before_end j h e in
         d.row (j + 1) (omega arith) ∙ row_char_next c j (omega (arith, d.long)) e ∙ sym (d.row j h)
 
-    pub next_row_lem : (j q : ℕ) → j ≤ length t → is_end c j ≡ false → is_end c (j + 1) ≡ true → forward c j ≡ To q → Offsets.row_of t q ≡ Offsets.row_of t j + 1
+    pub next_row_lem : (j q : ℕ) → j ≤ length t → is_end c j ≡ false → is_end c (j + 1) ≡ true → forward c j ≡ Some q → Offsets.row_of t q ≡ Offsets.row_of t j + 1
     next_row_lem j q h e f w =
         let by_before_end = before_end j h e in
         let on = forward_on c j q w in
         let two : j + 1 + 1 ≡ j + 2 = omega arith in
-        let forward_is : forward c j ≡ cond (ltb (j + 2) (text_end c)) (To (j + 2)) Nowhere = forward_over c j (rw (e, f)) in
+        let forward_is : forward c j ≡ cond (ltb (j + 2) (text_end c)) (Some (j + 2)) None = forward_over c j (rw (e, f)) in
         let row_is : row_of c (j + 2) ≡ row_of c (j + 1) + 1 = rw two at (row_end_next c (j + 1) (omega (arith, d.long)) f) in
         go (ltb (j + 2) (text_end c)) (sym w ∙ forward_is) on row_is (row_char_next c j (omega (arith, d.long)) e)
       where
-        go : (b : Bool) → To q ≡ cond b (To (j + 2)) Nowhere → (j < q) × (q < text_end c) → row_of c (j + 2) ≡ row_of c (j + 1) + 1 → row_of c (j + 1) ≡ row_of c j →
+        go : (b : Bool) → Some q ≡ cond b (Some (j + 2)) None → (j < q) × (q < text_end c) → row_of c (j + 2) ≡ row_of c (j + 1) + 1 → row_of c (j + 1) ≡ row_of c j →
             Offsets.row_of t q ≡ Offsets.row_of t j + 1
         go true v on r s = let q_is : q ≡ j + 2 = cc in omega (arith, d.row q (omega (arith, on.1, end_is)), ap (row_of c) q_is, d.row j h)
         go false v on r s = let never : ◌≡◌ {A = ℕ} 0 1 = cc in absurd (omega arith)

@@ -1,20 +1,17 @@
 -- The steps by the classes, by what stands at the place: one on, one back, and the end of the last row with content. Assumes nothing.
-use Rattle.lists.proofs.Kit.{◌≡◌, refl, ap, sym, ◌∙◌, List, Bool, true, false, cond, ℕ, zero, suc, ◌+◌, ◌-◌, ◌≤◌, ◌<◌, dec_lt, ℕ_discrete, arith, length, get_or}
+use Rattle.lists.proofs.Kit.{◌≡◌, refl, ap, sym, ◌∙◌, List, Bool, true, false, cond, ℕ, zero, suc, ◌+◌, ◌-◌, ◌≤◌, ◌<◌, dec_lt, ℕ_discrete, arith, length, get_or, Some, None}
 use Rattle.lists.proofs.Kit.{ltb, eq-eqb, ne_eqb, lt-ltb, le-ltb}
 use Rattle.text.specs.Text.{position}
 use Rattle.text.specs.Offsets
 use Rattle.text.specs.declared.Position.{Position}
 use Rattle.word_kinds.specs.declared.Spot.{Spot}
 use Rattle.word_kinds.specs.Spots.{IsSpot, Lands, Reaches, Ends}
-use Rattle.word_kinds.specs.declared.Step.TheVariants as variant
 use Rattle.word_kinds.specs.Places
 use Rattle.word_kinds.proofs.Ahead.{end_forward, nl_forward, last_forward, row_forward, char_forward, char_spot, char_col_lem, char_inc, nl_inc}
 use Rattle.word_kinds.proofs.Onto.{next_yes, next_no}
 use Rattle.word_kinds.proofs.Back.{back_none, back_row, back_char, end_nl, end_char}
 use Rattle.word_classes.specs.Classes.{classes_of}
 use Rattle.word_places.specs.Places.{is_end, text_end, forward, backward}
-use Rattle.word_places.specs.declared.Step.{Step}
-use Rattle.word_places.specs.declared.Step.TheVariants.{To, Nowhere}
 use Rattle.word_places.proofs.Walking.{forward_none, forward_over, forward_next}
 use Rattle.word_hops.specs.Hops.{last_empty, content_end}
 use Rattle.word_class_laws.specs.Determines.{pos, went}
@@ -29,14 +26,14 @@ module _ (word : ℕ → Bool) (t : List ℕ) where
   end_is = omega (arith, long word t)
 
   -- a place before the text's end, as a step
-  near : (j : ℕ) → j < length t → cond (ltb j (text_end c)) (To j) Nowhere ≡ To j
+  near : (j : ℕ) → j < length t → cond (ltb j (text_end c)) (Some j) None ≡ Some j
   near j h = rw (lt-ltb j (text_end c) (omega (arith, end_is)))
 
-  far : (j : ℕ) → length t ≤ j → cond (ltb j (text_end c)) (To j) Nowhere ≡ Nowhere
+  far : (j : ℕ) → length t ≤ j → cond (ltb j (text_end c)) (Some j) None ≡ None
   far j h = rw (le-ltb j (text_end c) (omega (arith, end_is)))
 
   -- what leads to a spot of the text leads to the place of its offset
-  goes : {q : Spot} {w : Places.Step} → Reaches t (variant.To q) w → w ≡ Places.To (pos t q.at)
+  goes : {q : Spot} {w : Places.Step} → Reaches t (Some q) w → w ≡ Places.To (pos t q.at)
   goes {q} told = sym told.place ∙ ap Places.To (spot_pos t q told.inside)
 
   lands : {q : Spot} {p : Position} → Lands t q p → p ≡ pos t q.at
@@ -48,13 +45,13 @@ module _ (word : ℕ → Bool) (t : List ℕ) where
 
     -- the next row behind the separator at j
     behind : (j : ℕ) → i ≤ j → (s : IsSpot t (record { row = Offsets.row_of t i; at = j })) → j < length t → get_or t j 0 ≡ 10 →
-        Places.next_row t (Offsets.row_of t i) ≡ went t (cond (ltb (j + 1) (text_end c)) (To (j + 1)) Nowhere)
+        Places.next_row t (Offsets.row_of t i) ≡ went t (cond (ltb (j + 1) (text_end c)) (Some (j + 1)) None)
     behind j b s l e = go (dec_lt (j + 1) (length t))
       where
         there : Ends t (Offsets.row_of t i) j
         there = record { stands = s; within = l; nl = e }
 
-        go : Dec (j + 1 < length t) → Places.next_row t (Offsets.row_of t i) ≡ went t (cond (ltb (j + 1) (text_end c)) (To (j + 1)) Nowhere)
+        go : Dec (j + 1 < length t) → Places.next_row t (Offsets.row_of t i) ≡ went t (cond (ltb (j + 1) (text_end c)) (Some (j + 1)) None)
         go (yes k) = rw (near (j + 1) k) (goes (next_yes t (Offsets.row_of t i) j there k))
         go (no m) = rw (far (j + 1) (omega arith)) (sym (next_no t (Offsets.row_of t i) j there (omega arith)))
 

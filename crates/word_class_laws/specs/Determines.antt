@@ -1,15 +1,13 @@
 -- The one law of the two engines: the classes of a text determine each step of the word motions over it. Document 02, #113.
 -- On the left is what the first engine reads of the text at a place (`word_kinds`), on the right what the classes tell. Statements and what they speak of;
 -- the proof is `determined` in `proofs/Determined.antt`. Assumes nothing.
-use Rattle.std.specs.Prelude.{ℕ, zero, suc, ◌+◌, ◌-◌, ◌≤◌, ◌<◌, ◌≡◌, List, Bool, true, false, eqb, length}
+use Rattle.std.specs.Prelude.{ℕ, zero, suc, ◌+◌, ◌-◌, ◌≤◌, ◌<◌, ◌≡◌, List, Bool, true, false, eqb, length, Option, Some, None}
 use Rattle.text.specs.Text.{row_count, content_rows, position}
 use Rattle.text.specs.Offsets
 use Rattle.text.specs.declared.Position.{Position}
 use Rattle.word_kinds.specs.Places
 use Rattle.word_classes.specs.Classes.{classes_of}
 use Rattle.word_places.specs.Places.{is_end, is_empty, kind, forward, backward}
-use Rattle.word_places.specs.declared.Step.{Step}
-use Rattle.word_places.specs.declared.Step.TheVariants.{To, Nowhere}
 use Rattle.word_hops.specs.Hops.{content_end}
 use Rattle.word_class_rows.specs.Rows.{row_of, rows_of, content_of}
 
@@ -33,9 +31,9 @@ named (suc (suc (suc (suc zero)))) = 3
 named (suc (suc (suc (suc (suc k))))) = suc (suc (suc (suc (suc k))))
 
 -- a step of the second engine as one of the first
-abbrev pub went : List ℕ → Step → Places.Step
-went t (To j) = Places.To (pos t j)
-went t Nowhere = Places.Nowhere
+abbrev pub went : List ℕ → Option ℕ → Places.Step
+went t (Some j) = Places.To (pos t j)
+went t None = Places.Nowhere
 
 pub record Determines (t : List ℕ) (tell : ℕ → ℕ) (c : List ℕ) (big : Bool) : Type 0 where
   pub long : length c ≡ length t + 1

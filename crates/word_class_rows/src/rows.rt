@@ -27,7 +27,7 @@ pub fn content_of(c: &[u8], rows: usize) -> usize
     ensures { result ≡ content_of c.now }
 {
     if word_hops::last_empty(c) {
-        return text::minus(rows, 1);
+        return rows.saturating_sub(1);
     }
     rows
 }

@@ -2,8 +2,8 @@
 use Rattle.lists.proofs.Kit.{◌≡◌, refl, List, Bool, true, false, cond, ◌&&◌, ℕ, zero, suc, ◌≤◌, ◌<◌, arith, ltb, ltb-true}
 use Rattle.word_places.specs.Places.{is_empty, text_end, backward}
 use Rattle.word_places.specs.Walks.{walk, over}
-use Rattle.word_places.specs.declared.Halt.{Halt}
-use Rattle.word_places.specs.declared.Halt.TheVariants.{Onto, Stuck}
+use Rattle.word_ends.specs.declared.Halt.{Halt}
+use Rattle.word_ends.specs.declared.Halt.TheVariants.{Onto, Stuck}
 use Rattle.word_hops.specs.Hops.{last_empty, over_space, then_space, from_end}
 
 -- behind a row's end
@@ -24,7 +24,7 @@ last_there c e = go (ltb 0 (text_end c)) (is_empty c (text_end c)) refl e
     go false b q h = let never : ◌≡◌ {A = ℕ} 0 1 = cc in absurd (omega arith)
 
 -- a walk back ends at or before the place where it began
-abbrev pub Below : ℕ → Halt → Type 0
+abbrev pub Below : ℕ → Halt ℕ → Type 0
 Below i (Onto j) = j ≤ i
 Below i (Stuck j) = j ≤ i
 
@@ -38,10 +38,10 @@ back_below test (suc n) zero = go (test 0)
     go false = omega arith
 back_below test (suc n) (suc i) = go (test (suc i)) (walk test backward n i) (back_below test n i)
   where
-    go : (b : Bool) (h : Halt) → Below i h → Below (suc i) (cond b h (Onto (suc i)))
+    go : (b : Bool) (h : Halt ℕ) → Below i h → Below (suc i) (cond b h (Onto (suc i)))
     go true (Onto j) l = omega arith
     go true (Stuck j) l = omega arith
     go false h l = omega arith
 
-pub onto_below : (h : Halt) (i j : ℕ) → h ≡ Onto j → Below i h → j ≤ i
+pub onto_below : (h : Halt ℕ) (i j : ℕ) → h ≡ Onto j → Below i h → j ≤ i
 onto_below h i j e l = rw e at l

@@ -1,13 +1,12 @@
 -- Kinds and steps by the code points at an offset: each primitive of the Rust, on rows and columns, as the code reads it.
 -- Assumes nothing.
-use Rattle.lists.proofs.Kit.{◌≡◌, ap, ◌∙◌, List, Bool, true, false, ℕ, ◌+◌, ◌-◌, ◌≤◌, ◌<◌, dec_lt, ℕ_discrete, arith, length, get_or, eqb, eq-eqb, ne_eqb}
+use Rattle.lists.proofs.Kit.{◌≡◌, ap, ◌∙◌, List, Bool, true, false, ℕ, ◌+◌, ◌-◌, ◌≤◌, ◌<◌, dec_lt, ℕ_discrete, arith, length, get_or, eqb, eq-eqb, ne_eqb, Some}
 use Rattle.lists.proofs.Kit.{eqb-true, eqb-false, lt-ltb, le-ltb}
 use Rattle.text.specs.Text.{row_len, position}
 use Rattle.text.specs.Offsets.{row_start, At}
 use Rattle.text.proofs.At.{on_char, after_char, on_nl, on_end, on_last, point_at}
 use Rattle.text.proofs.Stands.{stands_at_lem}
 use Rattle.word_kinds.specs.declared.Spot.{Spot}
-use Rattle.word_kinds.specs.declared.Step.TheVariants as variant
 use Rattle.word_kinds.specs.Places.{To, Nowhere, space, end, kind_at, cls, on_empty_row, next_row, step_forward, inc}
 use Rattle.word_kinds.specs.Spots.{place_of, IsSpot, Reaches}
 use Rattle.word_kinds.proofs.Onto.{spot_at, col_at, next_none}
@@ -74,7 +73,7 @@ module _ (t : List ℕ) (p : Spot) (w : IsSpot t p) where
     unfolding kind_at
     char_kind kind = rw (lt-ltb col (row_len t p.row) (on_char here h n), point_at here (on_char here h n))
 
-    pub char_inc : Reaches t (variant.To (record { row = p.row; at = p.at + 1 })) (inc t (place_of t p))
+    pub char_inc : Reaches t (Some (record { row = p.row; at = p.at + 1 })) (inc t (place_of t p))
     unfolding inc
     char_inc = record { place = rw (lt-ltb col (row_len t p.row) (on_char here h n)) (ap To (col_at next)); inside = char_spot }
 
@@ -85,7 +84,7 @@ module _ (t : List ℕ) (p : Spot) (w : IsSpot t p) where
     row_forward l e = forward_past (omega (arith, on_nl next l e))
 
     pub char_forward : p.at + 1 < length t → (get_or t (p.at + 1) 0 ≡ 10 → ⊥) →
-        Reaches t (variant.To (record { row = p.row; at = p.at + 1 })) (step_forward t (place_of t p))
+        Reaches t (Some (record { row = p.row; at = p.at + 1 })) (step_forward t (place_of t p))
     unfolding step_forward
     char_forward l m = record { place = rw (lt-ltb (col + 1) (row_len t p.row) (on_char next l m)) (ap To (col_at next)); inside = char_spot }
 

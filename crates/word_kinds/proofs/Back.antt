@@ -1,6 +1,6 @@
 -- Steps back, the first place of a row, and the last place with content, by the code points before them.
 -- Assumes nothing.
-use Rattle.lists.proofs.Kit.{◌≡◌, ap, sym, List, Bool, true, false, ℕ, ◌-◌, ◌<◌, dec_lt, arith, length, get_or, eqb, eq-eqb, ne_eqb, eqb-true, eqb-false, lt-ltb}
+use Rattle.lists.proofs.Kit.{◌≡◌, ap, sym, List, Bool, true, false, ℕ, ◌-◌, ◌<◌, dec_lt, arith, length, get_or, eqb, eq-eqb, ne_eqb, eqb-true, eqb-false, lt-ltb, Some}
 use Rattle.lists.proofs.Kit.{le-ltb}
 use Rattle.text.specs.Text.{row_count, content_rows}
 use Rattle.text.specs.Offsets.{row_start, At}
@@ -8,7 +8,6 @@ use Rattle.text.proofs.Before.{on_first_lem, behind_nl, behind_char, before_row,
 use Rattle.text.proofs.Content.{content_void, content_nl, content_char}
 use Rattle.text.proofs.Stands.{stands_at_lem}
 use Rattle.word_kinds.specs.declared.Spot.{Spot}
-use Rattle.word_kinds.specs.declared.Step.TheVariants as variant
 use Rattle.word_kinds.specs.Places.{To, Nowhere, dec, end_of_buffer}
 use Rattle.word_kinds.specs.Spots.{place_of, IsSpot, Lands, Reaches}
 use Rattle.word_kinds.proofs.Onto.{spot_at, col_at, lands_at}
@@ -32,7 +31,7 @@ module _ (t : List ℕ) (p : Spot) (w : IsSpot t p) where
     pub back_below : 0 < p.row
     back_below = (behind_nl here h e).1
 
-    pub back_row : Reaches t (variant.To (record { row = p.row - 1; at = p.at - 1 })) (dec t (place_of t p))
+    pub back_row : Reaches t (Some (record { row = p.row - 1; at = p.at - 1 })) (dec t (place_of t p))
     unfolding dec
     back_row =
         let by_before_row = before_row here (behind_nl here h e).0 back_below in
@@ -41,7 +40,7 @@ module _ (t : List ℕ) (p : Spot) (w : IsSpot t p) where
           inside = spot_at by_before_row;
         }
 
-  pub back_char : 0 < p.at → (get_or t (p.at - 1) 0 ≡ 10 → ⊥) → Reaches t (variant.To (record { row = p.row; at = p.at - 1 })) (dec t (place_of t p))
+  pub back_char : 0 < p.at → (get_or t (p.at - 1) 0 ≡ 10 → ⊥) → Reaches t (Some (record { row = p.row; at = p.at - 1 })) (dec t (place_of t p))
   unfolding dec
   back_char h n =
       let by_behind_char = behind_char here h n in

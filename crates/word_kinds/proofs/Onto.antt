@@ -1,6 +1,6 @@
 -- Spots of places, and the first place of the next row.
 -- Assumes nothing.
-use Rattle.lists.proofs.Kit.{◌≡◌, refl, ap, List, ℕ, ◌+◌, ◌-◌, ◌≤◌, ◌<◌, arith, length, lt-ltb, le-ltb}
+use Rattle.lists.proofs.Kit.{◌≡◌, refl, ap, List, ℕ, ◌+◌, ◌-◌, ◌≤◌, ◌<◌, arith, length, lt-ltb, le-ltb, Some}
 use Rattle.text.specs.Text.{row_count, content_rows, position}
 use Rattle.text.specs.Offsets.{row_start, At}
 use Rattle.text.specs.declared.Position.{Position}
@@ -8,7 +8,6 @@ use Rattle.text.proofs.At.{after_nl}
 use Rattle.text.proofs.Content.{content_near, content_yes, content_no}
 use Rattle.text.proofs.Stands.{stands_at_lem, at_stands}
 use Rattle.word_kinds.specs.declared.Spot.{Spot}
-use Rattle.word_kinds.specs.declared.Step.TheVariants as variant
 use Rattle.word_kinds.specs.Places.{To, Nowhere, next_row}
 use Rattle.word_kinds.specs.Spots.{place_of, IsSpot, Lands, Reaches, Ends}
 
@@ -31,7 +30,7 @@ module _ (t : List ℕ) (r end : ℕ) (w : Ends t r end) where
   next_at : At t (r + 1) 0 (end + 1)
   next_at = after_nl (stands_at_lem w.stands) w.within w.nl
 
-  pub next_yes : end + 1 < length t → Reaches t (variant.To (record { row = r + 1; at = end + 1 })) (next_row t r)
+  pub next_yes : end + 1 < length t → Reaches t (Some (record { row = r + 1; at = end + 1 })) (next_row t r)
   unfolding next_row
   next_yes l =
       let by_content_yes = content_yes t (r + 1) (omega arith) next_at.in_row (omega (arith, next_at.offset)) in

@@ -1,11 +1,9 @@
 -- What an answer of the code tells: of the answer that it is known to be, and in other words. Steps between two offsets. Assumes nothing.
-use Rattle.lists.proofs.Kit.{◌≡◌, refl, ap, ◌∙◌, List, ℕ, ◌≤◌, ◌<◌, arith}
+use Rattle.lists.proofs.Kit.{◌≡◌, refl, ap, ◌∙◌, List, ℕ, ◌≤◌, ◌<◌, arith, Option, Some, None}
 use Rattle.text.specs.declared.Position.{Position}
 use Rattle.word_kinds.specs.Places.{Step, To, Nowhere}
 use Rattle.word_kinds.specs.Spots.{place_of, IsSpot, Tells, Lands, Reaches, Steps}
 use Rattle.word_kinds.specs.declared.Spot.{Spot}
-use Rattle.word_kinds.specs.declared.Step as code
-use Rattle.word_kinds.specs.declared.Step.TheVariants as variant
 
 module _ {A B : Type 0} {meaning : A → B} {Sound : A → Type 0} {r : A} {w : B} (told : Tells meaning Sound r w) where
   pub tells_as : {x : A} → r ≡ x → Tells meaning Sound x w
@@ -18,18 +16,18 @@ module _ {A B : Type 0} {meaning : A → B} {Sound : A → Type 0} {r : A} {w : 
 pub lands_here : {t : List ℕ} {q : Spot} → IsSpot t q → Lands t q (place_of t q)
 lands_here i = record { place = refl; inside = i }
 
-pub lands_reaches : {t : List ℕ} {q : Spot} {p : Position} → Lands t q p → Reaches t (variant.To q) (To p)
+pub lands_reaches : {t : List ℕ} {q : Spot} {p : Position} → Lands t q p → Reaches t (Some q) (To p)
 lands_reaches told = record { place = ap To told.place; inside = told.inside }
 
 module _ {t : List ℕ} {low high : ℕ} {w : Step} where
-  pub steps_to : {q : Spot} → Reaches t (variant.To q) w → low ≤ q.at → q.at < high → Steps t low high (variant.To q) w
+  pub steps_to : {q : Spot} → Reaches t (Some q) w → low ≤ q.at → q.at < high → Steps t low high (Some q) w
   steps_to told l h = record { place = told.place; inside = record { spot = told.inside; from = l; below = h } }
 
-  pub steps_nowhere : Nowhere ≡ w → Steps t low high variant.Nowhere w
+  pub steps_nowhere : Nowhere ≡ w → Steps t low high None w
   steps_nowhere e = record { place = e; inside = tt }
 
   -- a step that goes at least so far
-  pub steps_low : {less : ℕ} (r : code.Step) → Steps t low high r w → less ≤ low → Steps t less high r w
-  steps_low (variant.To q) told h =
+  pub steps_low : {less : ℕ} (r : Option Spot) → Steps t low high r w → less ≤ low → Steps t less high r w
+  steps_low (Some q) told h =
       record { place = told.place; inside = record { spot = told.inside.spot; from = omega (arith, told.inside.from); below = told.inside.below } }
-  steps_low variant.Nowhere told h = record { place = told.place; inside = tt }
+  steps_low None told h = record { place = told.place; inside = tt }

@@ -1,12 +1,10 @@
 -- What the code keeps for a place: its row, and its offset in the text; and what its answers say of places.
 -- Definitions only. Assumes nothing.
-use Rattle.std.specs.Prelude.{ℕ, ◌-◌, ◌≤◌, ◌<◌, ◌≡◌, List, length, get_or}
+use Rattle.std.specs.Prelude.{ℕ, ◌-◌, ◌≤◌, ◌<◌, ◌≡◌, List, length, get_or, Option, Some, None}
 use Rattle.text.specs.Offsets.{row_start, Stands}
 use Rattle.text.specs.declared.Position.{Position}
 use Rattle.word_kinds.specs.Places.{Step, To, Nowhere}
 use Rattle.word_kinds.specs.declared.Spot.{Spot}
-use Rattle.word_kinds.specs.declared.Step as code
-use Rattle.word_kinds.specs.declared.Step.TheVariants as variant
 
 -- the place of a spot
 abbrev pub place_of : List ℕ → Spot → Position
@@ -25,16 +23,16 @@ abbrev pub Lands : List ℕ → Spot → Position → Type 0
 Lands t = Tells (place_of t) (IsSpot t)
 
 -- the code's step, over places; and one whose spot, if there is one, is as it should be
-abbrev pub step_of : List ℕ → code.Step → Step
-step_of t (variant.To q) = To (place_of t q)
-step_of t variant.Nowhere = Nowhere
+abbrev pub step_of : List ℕ → Option Spot → Step
+step_of t (Some q) = To (place_of t q)
+step_of t None = Nowhere
 
-abbrev pub Where : (Spot → Type 0) → code.Step → Type 0
-Where Sound (variant.To q) = Sound q
-Where Sound variant.Nowhere = Unit {0}
+abbrev pub Where : (Spot → Type 0) → Option Spot → Type 0
+Where Sound (Some q) = Sound q
+Where Sound None = Unit {0}
 
 -- the step leads to a spot of the text, or nowhere
-abbrev pub Reaches : List ℕ → code.Step → Step → Type 0
+abbrev pub Reaches : List ℕ → Option Spot → Step → Type 0
 Reaches t = Tells (step_of t) (Where (IsSpot t))
 
 -- the same, to a spot between two offsets, so that each step goes one way
@@ -43,7 +41,7 @@ pub record Between (t : List ℕ) (low high : ℕ) (q : Spot) : Type 0 where
   pub from : low ≤ q.at
   pub below : q.at < high
 
-abbrev pub Steps : List ℕ → ℕ → ℕ → code.Step → Step → Type 0
+abbrev pub Steps : List ℕ → ℕ → ℕ → Option Spot → Step → Type 0
 Steps t low high = Tells (step_of t) (Where (Between t low high))
 
 -- the offset `end` is the separator that ends a row

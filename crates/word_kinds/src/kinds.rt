@@ -1,61 +1,69 @@
 // The kind of a character, by the bounds or the flags of a keyword list and the letters' ranges,
 // all lent: `is_word` and `char_kind` of motions.rs.
 ghost use Rattle.std.specs.Prelude.{◌≡◌};
-ghost use Rattle.word_kinds.specs.Lent.{word_by, flagged, kind_by, Lends};
+ghost use Rattle.word_kinds.specs.Lent.{word_by, flagged, Lends, kinds_by, words_by};
 
-use crate::{MARK, SPACE, Setting, WORD};
+use crate::{Alphabet, MARK, SPACE, WORD};
 
 // Whether x is a keyword character by a flag for each code up to 255; above it the
 // letters count where the setting says so. Below U+02C2 their ranges are not read.
-fn is_flagged(flags: &[u32; 256], starts: &[u32], lengths: &[u16], s: Setting, x: u32) -> bool
-    requires { Lends flags.now starts.now lengths.now s x }
-    ensures { result ≡ flagged flags.now s.letters x }
+fn is_flagged(by: Alphabet<'_>, x: u32) -> bool
+    requires { Lends by x }
+    ensures { result ≡ flagged by.entry.bounds.now by.entry.setting.letters x }
 {
     if x < 256 {
         let at = x as usize;
-        return flags[at] != 0;
+        return by.bounds[at] != 0;
     }
-    if !s.letters {
+    if !by.setting.letters {
         return false;
     }
     if x < 0x2c2 {
         return letters::is_letter(x);
     }
-    letters::letter_in(starts, lengths, x)
+    letters::letter_in(by.starts, by.lengths, x)
 }
 
 // Whether x is a keyword character. Below U+02C2 the ranges of the letters are not read.
-fn is_word(bounds: &[u32; 256], starts: &[u32], lengths: &[u16], s: Setting, x: u32) -> bool
-    requires { Lends bounds.now starts.now lengths.now s x }
-    ensures { result ≡ word_by bounds.now s x }
+fn is_word(by: Alphabet<'_>, x: u32) -> bool
+    requires { Lends by x }
+    ensures { result ≡ words_by by.entry x }
 {
-    if s.flags {
-        return is_flagged(bounds, starts, lengths, s, x);
+    let bounds = by.bounds;
+    if by.setting.flags {
+        return is_flagged(by, x);
     }
     if x >= 0x2c2 {
-        return keywords::holds(bounds, s.pairs, s.letters, starts, lengths, x);
+        return keywords::holds(
+            bounds,
+            by.setting.pairs,
+            by.setting.letters,
+            by.starts,
+            by.lengths,
+            x,
+        );
     }
-    if !s.letters {
-        return keywords::in_bounds(bounds, s.pairs, x);
+    if !by.setting.letters {
+        return keywords::in_bounds(bounds, by.setting.pairs, x);
     }
     if letters::is_letter(x) {
         return true;
     }
-    keywords::in_bounds(bounds, s.pairs, x)
+    keywords::in_bounds(bounds, by.setting.pairs, x)
 }
 
 // The kind of a character: `SPACE`, `WORD` or `MARK`.
-pub fn char_kind(bounds: &[u32; 256], starts: &[u32], lengths: &[u16], s: Setting, x: u32) -> u32
-    requires { Lends bounds.now starts.now lengths.now s x }
-    ensures { result ≡ kind_by bounds.now s x }
+pub fn char_kind(by: Alphabet<'_>, x: u32) -> u32
+    requires { Lends by x }
+    ensures { result ≡ kinds_by by.entry x }
 {
     if chars::is_white(x) {
         return SPACE;
     }
-    if s.big {
+    if by.setting.big {
         return WORD;
     }
-    if is_word(bounds, starts, lengths, s, x) {
+    if is_word(by, x) {
         return WORD;
     }
     MARK

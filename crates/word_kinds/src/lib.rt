@@ -39,9 +39,12 @@ pub struct Setting {
     pub big: bool,
 }
 
-// Where a step leads: to a place, where there is one.
+// What tells the kind of a character, lent: the bounds or flags of a keyword list, the ranges of the
+// letters, and the setting. A walk takes it whole.
 #[derive(Clone, Copy)]
-pub enum Step {
-    To(Spot),
-    Nowhere,
+pub struct Alphabet<'a> {
+    pub bounds: &'a [u32; 256],
+    pub starts: &'a [u32],
+    pub lengths: &'a [u16],
+    pub setting: Setting,
 }

@@ -5,21 +5,14 @@ ghost use Rattle.text.specs.Text.{content_rows};
 ghost use Rattle.word_kinds.specs.Places.{kind_at, cls, on_empty_row, next_row, step_forward};
 ghost use Rattle.word_kinds.specs.Places.{inc, dec, end_of_buffer};
 ghost use Rattle.word_kinds.specs.Spots.{place_of, IsSpot, Lands, Steps, Ends};
-ghost use Rattle.word_kinds.specs.Lent.{kind_by, Bounds};
+ghost use Rattle.word_kinds.specs.Lent.{Bounds, kinds_by};
 
-use crate::{END, SPACE, Setting, Spot, Step, kinds};
+use crate::{Alphabet, END, SPACE, Spot, kinds};
 
 // The kind of the character at a place, `END` at the row's end.
-pub fn kind_at(
-    t: &[u32],
-    bounds: &[u32; 256],
-    starts: &[u32],
-    lengths: &[u16],
-    s: Setting,
-    p: Spot,
-) -> u32
-    requires { Bounds t.now bounds.now starts.now lengths.now s × IsSpot t.now p }
-    ensures { result ≡ kind_at t.now (kind_by bounds.now s)
+pub fn kind_at(t: &[u32], by: Alphabet<'_>, p: Spot) -> u32
+    requires { Bounds t.now by × IsSpot t.now p }
+    ensures { result ≡ kind_at t.now (kinds_by by.entry)
         (place_of t.now p) }
 {
     let at = p.at;
@@ -30,23 +23,16 @@ pub fn kind_at(
     if x == 10 {
         return END;
     }
-    kinds::char_kind(bounds, starts, lengths, s, x)
+    kinds::char_kind(by, x)
 }
 
 // The kind at a place, with the row's end as white space.
-pub fn cls(
-    t: &[u32],
-    bounds: &[u32; 256],
-    starts: &[u32],
-    lengths: &[u16],
-    s: Setting,
-    p: Spot,
-) -> u32
-    requires { Bounds t.now bounds.now starts.now lengths.now s × IsSpot t.now p }
-    ensures { result ≡ cls t.now (kind_by bounds.now s)
+pub fn cls(t: &[u32], by: Alphabet<'_>, p: Spot) -> u32
+    requires { Bounds t.now by × IsSpot t.now p }
+    ensures { result ≡ cls t.now (kinds_by by.entry)
         (place_of t.now p) }
 {
-    let k = kind_at(t, bounds, starts, lengths, s, p);
+    let k = kind_at(t, by, p);
     if k == END { SPACE } else { k }
 }
 
@@ -79,23 +65,23 @@ pub fn on_empty_row(t: &[u32], p: Spot) -> bool
 }
 
 // The first place of the row behind the separator at `end`, where that row has content.
-fn next_row(t: &[u32], row: usize, end: usize) -> Step
+fn next_row(t: &[u32], row: usize, end: usize) -> Option<Spot>
     requires { Ends t.now row end }
     ensures { Steps t.now (end + 1) (length t.now + 1) result
         (next_row t.now row) }
 {
     let at = end + 1;
     if at < t.len() {
-        return Step::To(Spot {
+        return Some(Spot {
             row: row + 1,
             at: at,
         });
     }
-    Step::Nowhere
+    None
 }
 
 // One place on, over the row's end.
-pub fn step_forward(t: &[u32], p: Spot) -> Step
+pub fn step_forward(t: &[u32], p: Spot) -> Option<Spot>
     requires { IsSpot t.now p }
     ensures { Steps t.now (p.at + 1) (length t.now + 1) result
         (step_forward t.now (place_of t.now p)) }
@@ -103,23 +89,23 @@ pub fn step_forward(t: &[u32], p: Spot) -> Step
     let at = p.at;
     let row = p.row;
     if at >= t.len() {
-        return Step::Nowhere;
+        return None;
     }
     if t[at] == 10 {
         return next_row(t, row, at);
     }
     let next = at + 1;
     if next >= t.len() {
-        return Step::Nowhere;
+        return None;
     }
     if t[next] == 10 {
         return next_row(t, row, next);
     }
-    Step::To(Spot { row: row, at: next })
+    Some(Spot { row: row, at: next })
 }
 
 // One place on, the row's end among them.
-pub fn inc(t: &[u32], p: Spot) -> Step
+pub fn inc(t: &[u32], p: Spot) -> Option<Spot>
     requires { IsSpot t.now p }
     ensures { Steps t.now (p.at + 1) (length t.now + 1) result
         (inc t.now (place_of t.now p)) }
@@ -127,19 +113,19 @@ pub fn inc(t: &[u32], p: Spot) -> Step
     let at = p.at;
     let row = p.row;
     if at >= t.len() {
-        return Step::Nowhere;
+        return None;
     }
     if t[at] == 10 {
         return next_row(t, row, at);
     }
-    Step::To(Spot {
+    Some(Spot {
         row: row,
         at: at + 1,
     })
 }
 
 // One place back, the row's end among them.
-pub fn dec(t: &[u32], p: Spot) -> Step
+pub fn dec(t: &[u32], p: Spot) -> Option<Spot>
     requires { IsSpot t.now p }
     ensures { Steps t.now 0 p.at result
         (dec t.now (place_of t.now p)) }
@@ -147,16 +133,16 @@ pub fn dec(t: &[u32], p: Spot) -> Step
     let at = p.at;
     let row = p.row;
     if at == 0 {
-        return Step::Nowhere;
+        return None;
     }
     let prev = at - 1;
     if t[prev] == 10 {
-        return Step::To(Spot {
+        return Some(Spot {
             row: row - 1,
             at: prev,
         });
     }
-    Step::To(Spot { row: row, at: prev })
+    Some(Spot { row: row, at: prev })
 }
 
 // The end of the last row with content.

@@ -1,11 +1,9 @@
 -- Walks: where a loop of the code stands in `walk`, with a counter that is never used up. One law for either direction: a step that leads on leaves
 -- fewer places ahead. Assumes nothing.
-use Rattle.lists.proofs.Kit.{◌≡◌, refl, sym, ◌∙◌, List, Bool, true, false, ℕ, zero, suc, ◌+◌, ◌-◌, ◌≤◌, ◌<◌, arith, length}
+use Rattle.lists.proofs.Kit.{◌≡◌, refl, sym, ◌∙◌, List, Bool, true, false, ℕ, zero, suc, ◌+◌, ◌-◌, ◌≤◌, ◌<◌, arith, length, Option, Some, None}
 use Rattle.text.specs.declared.Position.{Position}
 use Rattle.word_kinds.specs.declared.Spot.{Spot}
-use Rattle.word_kinds.specs.declared.Step as code
-use Rattle.word_kinds.specs.declared.Step.TheVariants as step
-use Rattle.word_loops.specs.declared.Halt.TheVariants as halt
+use Rattle.word_ends.specs.declared.Halt.TheVariants as halt
 use Rattle.word_kinds.specs.Spots.{place_of, IsSpot, Steps}
 use Rattle.word_kinds.proofs.Telling.{tells_as}
 use Rattle.word_loops.specs.Halts.{Stops}
@@ -47,8 +45,8 @@ module _ {t : List ℕ} {test : Position → Bool} {go : Position → Step} wher
     some_left = omega (arith, w.enough)
 
     -- on to the spot that a step led to, where fewer places are ahead
-    pub walking_on : {low high k : ℕ} {r : code.Step} {q : Spot} → test (place_of t cur) ≡ true → Steps t low high r (go (place_of t cur)) →
-        r ≡ step.To q → k < m → Walking t test go from k q
+    pub walking_on : {low high k : ℕ} {r : Option Spot} {q : Spot} → test (place_of t cur) ≡ true → Steps t low high r (go (place_of t cur)) →
+        r ≡ Some q → k < m → Walking t test go from k q
     walking_on {q = q} e told is h =
         let found = tells_as told is in
         record {
@@ -61,15 +59,15 @@ module _ {t : List ℕ} {test : Position → Bool} {go : Position → Step} wher
     pub walking_off : test (place_of t cur) ≡ false → Stops t (halt.Onto cur) (walk test go (length t + 1) (place_of t from))
     walking_off e = record { place = sym (w.same ∙ turn_off test go w.left (place_of t cur) some_left e); inside = w.spot }
 
-    pub walking_stuck : {low high : ℕ} {r : code.Step} → test (place_of t cur) ≡ true → Steps t low high r (go (place_of t cur)) →
-        r ≡ step.Nowhere → Stops t (halt.Stuck cur) (walk test go (length t + 1) (place_of t from))
+    pub walking_stuck : {low high : ℕ} {r : Option Spot} → test (place_of t cur) ≡ true → Steps t low high r (go (place_of t cur)) →
+        r ≡ None → Stops t (halt.Stuck cur) (walk test go (length t + 1) (place_of t from))
     walking_stuck e told is =
         record { place = sym (w.same ∙ turn_stuck test go w.left (place_of t cur) some_left e (tells_as told is).place); inside = w.spot }
 
 -- places ahead after a step on, and after a step back
-module _ {t : List ℕ} {w : Step} {r : code.Step} {q : Spot} where
-  pub less_ahead : (at : ℕ) → Steps t (at + 1) (length t + 1) r w → r ≡ step.To q → length t - q.at < length t - at
+module _ {t : List ℕ} {w : Step} {r : Option Spot} {q : Spot} where
+  pub less_ahead : (at : ℕ) → Steps t (at + 1) (length t + 1) r w → r ≡ Some q → length t - q.at < length t - at
   less_ahead at told is = let found = (tells_as told is).inside in omega (arith, found.from, found.below)
 
-  pub less_behind : {at : ℕ} → Steps t 0 at r w → r ≡ step.To q → q.at < at
+  pub less_behind : {at : ℕ} → Steps t 0 at r w → r ≡ Some q → q.at < at
   less_behind told is = (tells_as told is).inside.below

@@ -6,10 +6,3 @@
 pub mod walks;
 
 use word_kinds::Spot;
-
-// Where a loop ended: at the first place that fails its test, or at one that has no step.
-#[derive(Clone, Copy)]
-pub enum Halt {
-    Onto(Spot),
-    Stuck(Spot),
-}

@@ -1,8 +1,6 @@
 -- Places of a text by their classes alone: the kind at a place, and the steps from place to place. Document 02, #113.
 -- A place is a number below the length of the slice of classes; its last place is the text's end. Definitions only. Assumes nothing.
-use Rattle.std.specs.Prelude.{ℕ, zero, suc, ◌+◌, ◌-◌, List, Bool, cond, ◌&&◌, not, length, get_or, eqb, ltb, leb}
-use Rattle.word_places.specs.declared.Step.{Step}
-use Rattle.word_places.specs.declared.Step.TheVariants.{To, Nowhere}
+use Rattle.std.specs.Prelude.{ℕ, zero, suc, ◌+◌, ◌-◌, List, Bool, cond, ◌&&◌, not, length, get_or, eqb, ltb, leb, Option, Some, None}
 
 -- the class of a place; behind the slice there are row ends alone
 abbrev pub class_at : List ℕ → ℕ → ℕ
@@ -34,15 +32,15 @@ text_end c = length c - 1
 abbrev pub ahead : List ℕ → ℕ → ℕ
 ahead c i = cond (not (is_end c i) && is_end c (i + 1)) (i + 2) (i + 1)
 
-unfoldable pub forward : List ℕ → ℕ → Step
-forward c i = cond (ltb (ahead c i) (text_end c)) (To (ahead c i)) Nowhere
+unfoldable pub forward : List ℕ → ℕ → Option ℕ
+forward c i = cond (ltb (ahead c i) (text_end c)) (Some (ahead c i)) None
 
 -- one place back
-abbrev pub backward : ℕ → Step
-backward zero = Nowhere
-backward (suc i) = To i
+abbrev pub backward : ℕ → Option ℕ
+backward zero = None
+backward (suc i) = Some i
 
 -- on from a step, or else
-abbrev pub further : {A : Type 0} → Step → (ℕ → A) → A → A
-further (To j) f z = f j
-further Nowhere f z = z
+abbrev pub further : {A : Type 0} → Option ℕ → (ℕ → A) → A → A
+further (Some j) f z = f j
+further None f z = z

@@ -10,17 +10,3 @@ mod walks;
 
 pub use places::{class_at, forward, is_end, kind, soft, text_end};
 pub use walks::{back, over, run_end};
-
-// A place, where there is one to step to.
-#[derive(Clone, Copy)]
-pub enum Step {
-    To(usize),
-    Nowhere,
-}
-
-// Where a walk ended: at the first place that fails its test, or at one that has no step.
-#[derive(Clone, Copy)]
-pub enum Halt {
-    Onto(usize),
-    Stuck(usize),
-}

@@ -1,8 +1,7 @@
 // What stands at a place, and the next place.
-ghost use Rattle.std.specs.Prelude.{◌≡◌, ltb, cond};
+ghost use Rattle.std.specs.Prelude.{◌≡◌, ltb, cond, Some, None};
 ghost use Rattle.word_places.specs.Places.{class_at, is_end, kind, soft, text_end, forward};
 
-use crate::Step;
 use word_classes::{EMPTY_ROW, MARK, ROW_END, SPACE, WORD};
 
 // The class of a place: at 0 a word, at 2 a space, at 8 a row end. Behind the slice there are row
@@ -60,23 +59,23 @@ pub fn text_end(c: &[u8]) -> usize
 }
 
 // A place, where it lies before the text's end.
-fn before(end: usize, i: usize) -> Step
-    ensures { result ≡ cond (ltb i end) (Step.To i) Step.Nowhere }
+fn before(end: usize, i: usize) -> Option<usize>
+    ensures { result ≡ cond (ltb i end) (Some i) None }
 {
     if i < end {
-        return Step::To(i);
+        return Some(i);
     }
-    Step::Nowhere
+    None
 }
 
 // One place on: from 0 to 1. From a row's last character it goes over the row's end, to the first
 // place of the next row. The text's end is never stepped on, so from 7 there is no step.
-pub fn forward(c: &[u8], i: usize) -> Step
+pub fn forward(c: &[u8], i: usize) -> Option<usize>
     ensures { result ≡ forward c.now i }
 {
     let end = text_end(c);
     if i >= end {
-        return Step::Nowhere;
+        return None;
     }
     if !is_end(c, i) & is_end(c, i + 1) {
         return before(end, i + 2);

@@ -3,11 +3,11 @@ ghost use Rattle.std.specs.Prelude.{◌≡◌};
 ghost use Rattle.word_places.specs.Walks.{over, run_end, back};
 
 use crate::places::{class_at, forward, kind, soft, text_end};
-use crate::{Halt, Step};
 use word_classes::EMPTY_ROW;
+use word_ends::Halt;
 
 // On over the places of the kinds a and b, also into the next rows: over spaces from 2 to 3.
-pub fn over(c: &[u8], big: bool, a: u8, b: u8, i: usize) -> Halt
+pub fn over(c: &[u8], big: bool, a: u8, b: u8, i: usize) -> Halt<usize>
     ensures { result ≡ over c.now big a b i }
 {
     let mut cur = i;
@@ -18,10 +18,10 @@ pub fn over(c: &[u8], big: bool, a: u8, b: u8, i: usize) -> Halt
             return Halt::Onto(cur);
         }
         match forward(c, cur) {
-            Step::To(j) => {
+            Some(j) => {
                 cur = j;
             }
-            Step::Nowhere => {
+            None => {
                 return Halt::Stuck(cur);
             }
         }
@@ -48,7 +48,7 @@ pub fn run_end(c: &[u8], big: bool, i: usize) -> usize
 
 // Back over the places of a kind, where a row's end counts as a space: over spaces from 2 to 1. An
 // empty row ends it, and the text's first place.
-pub fn back(c: &[u8], big: bool, k: u8, i: usize) -> Halt
+pub fn back(c: &[u8], big: bool, k: u8, i: usize) -> Halt<usize>
     ensures { result ≡ back c.now big k i }
 {
     let mut cur = i;

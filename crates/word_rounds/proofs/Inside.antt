@@ -1,10 +1,8 @@
 -- From a place of the text every round of the definitions leads to a place of the text, and so does a word motion.
 -- Assumes nothing.
-use Rattle.lists.proofs.Kit.{◌≡◌, refl, List, Bool, true, false, cond, ◌&&◌, ℕ, zero, suc, ◌-◌, ◌<◌, max, arith}
+use Rattle.lists.proofs.Kit.{◌≡◌, refl, List, Bool, true, false, cond, ◌&&◌, ℕ, zero, suc, ◌-◌, ◌<◌, max, arith, Option, Some, None}
 use Rattle.text.specs.Text.{row_count, content_rows}
 use Rattle.text.specs.declared.Position.{Position}
-use Rattle.folds.specs.declared.Span.{Span}
-use Rattle.folds.specs.declared.Span.TheVariants.{Of, NoSpan}
 use Rattle.text.proofs.Content.{content_near}
 use Rattle.word_kinds.specs.Places.{Step, To, Nowhere}
 use Rattle.word_loops.proofs.Within.{In, StepsTo}
@@ -28,7 +26,7 @@ module _ (t : List ℕ) where
   -- rounds
   module _ (folds : List ℕ) where
     module _ (p : Position) (i : In t p) where
-      span : (a b : ℕ) → fold_at t folds p ≡ Of a b → (a < row_count t) × (b < row_count t)
+      span : (a b : ℕ) → fold_at t folds p ≡ Some (a, b) → (a < row_count t) × (b < row_count t)
       span a b e =
           let by_content_near = content_near t in
           span_within folds (row_count t) (content_rows t) p.row a b e i.in_row by_content_near.2 by_content_near.1
@@ -36,16 +34,16 @@ module _ (t : List ℕ) where
       pub jump_fwd_in : In t (jump_fwd t folds p)
       jump_fwd_in = go (fold_at t folds p) refl
         where
-          go : (s : Span) → fold_at t folds p ≡ s → In t (to_last t p s)
-          go (Of a b) e = record { in_row = (span a b e).1; in_col = omega arith }
-          go NoSpan e = i
+          go : (s : Option (ℕ × ℕ)) → fold_at t folds p ≡ s → In t (to_last t p s)
+          go (Some (a, b)) e = record { in_row = (span a b e).1; in_col = omega arith }
+          go None e = i
 
       pub jump_back_in : In t (jump_back t folds p)
       jump_back_in = go (fold_at t folds p) refl
         where
-          go : (s : Span) → fold_at t folds p ≡ s → In t (to_first p s)
-          go (Of a b) e = record { in_row = (span a b e).0; in_col = omega arith }
-          go NoSpan e = i
+          go : (s : Option (ℕ × ℕ)) → fold_at t folds p ≡ s → In t (to_first p s)
+          go (Some (a, b)) e = record { in_row = (span a b e).0; in_col = omega arith }
+          go None e = i
 
     module _ (kind : ℕ → ℕ) (big : Bool) where
       pub round_in : (m : Motion) (stop : Bool) (p : Position) → In t p → Turns t (round_of t folds kind big m stop p)

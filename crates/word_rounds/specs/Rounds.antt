@@ -1,11 +1,9 @@
 -- The word motions, round by round: the jump out of a closed fold, one word, and the rounds of a count. "Word motions" of motions.rs.
 -- Definitions only; counts that add and rounds that change nothing are laws of `proofs/Counts.antt`. Assumes nothing.
-use Rattle.std.specs.Prelude.{ℕ, zero, suc, ◌-◌, max, List, Bool, false, cond, ◌&&◌}
+use Rattle.std.specs.Prelude.{ℕ, zero, suc, ◌-◌, max, List, Bool, false, cond, ◌&&◌, Option, Some, None}
 use Rattle.text.specs.Text.{row_count, row_len, content_rows, position}
 use Rattle.text.specs.declared.Position.{Position}
 use Rattle.folds.specs.Folds.{closed_fold_at}
-use Rattle.folds.specs.declared.Span.{Span}
-use Rattle.folds.specs.declared.Span.TheVariants.{Of, NoSpan}
 use Rattle.word_kinds.specs.Places.{Step, To, Nowhere}
 use Rattle.word_edges.specs.Words.{next_word_start, prev_word_start, next_word_end, prev_word_end, at_word_end}
 use Rattle.word_rounds.specs.declared.Motion.{Motion}
@@ -17,15 +15,15 @@ pub data Turn : Type 0 where
   Off : Position → Turn
 
 -- `fold_jump_fwd`: from a closed fold to the last character of its last row; `fold_jump_back`: to the first place of its first row
-abbrev pub to_last : List ℕ → Position → Span → Position
-to_last t p (Of first last) = position last (row_len t last - 1)
-to_last t p NoSpan = p
+abbrev pub to_last : List ℕ → Position → Option (ℕ × ℕ) → Position
+to_last t p (Some (first, last)) = position last (row_len t last - 1)
+to_last t p None = p
 
-abbrev pub to_first : Position → Span → Position
-to_first p (Of first last) = position first 0
-to_first p NoSpan = p
+abbrev pub to_first : Position → Option (ℕ × ℕ) → Position
+to_first p (Some (first, last)) = position first 0
+to_first p None = p
 
-abbrev pub fold_at : List ℕ → List ℕ → Position → Span
+abbrev pub fold_at : List ℕ → List ℕ → Position → Option (ℕ × ℕ)
 fold_at t folds p = closed_fold_at folds (row_count t) (content_rows t) p.row
 
 abbrev pub jump_fwd : List ℕ → List ℕ → Position → Position

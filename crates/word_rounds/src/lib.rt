@@ -16,10 +16,3 @@ pub enum Motion {
     End,
     EndBack,
 }
-
-// Where a round ended: the next goes on from there, or it was the last.
-#[derive(Clone, Copy)]
-pub enum Turn {
-    On(Spot),
-    Off(Spot),
-}

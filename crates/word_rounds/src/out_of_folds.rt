@@ -5,7 +5,6 @@ ghost use Rattle.word_rounds.specs.Rounds.{jump_fwd, jump_back};
 ghost use Rattle.word_kinds.specs.Spots.{place_of, Lands};
 ghost use Rattle.word_rounds.specs.Turns.{Folded, SpotReady};
 
-use folds::Span;
 use text::offsets;
 use word_kinds::Spot;
 
@@ -47,8 +46,8 @@ pub fn fold_jump_fwd(t: &[u32], folds: &[u32], rows: usize, content: usize, p: S
         (jump_fwd t.now folds.now (place_of t.now p)) }
 {
     match folds::closed_fold_at(folds, rows, content, p.row) {
-        Span::Of(first, last) => row_last(t, p, last),
-        Span::NoSpan => p,
+        Some((first, last)) => row_last(t, p, last),
+        None => p,
     }
 }
 
@@ -59,7 +58,7 @@ pub fn fold_jump_back(t: &[u32], folds: &[u32], rows: usize, content: usize, p: 
         (jump_back t.now folds.now (place_of t.now p)) }
 {
     match folds::closed_fold_at(folds, rows, content, p.row) {
-        Span::Of(first, last) => row_first(t, p, first),
-        Span::NoSpan => p,
+        Some((first, last)) => row_first(t, p, first),
+        None => p,
     }
 }

@@ -1,9 +1,9 @@
 -- A round at a row of a stretch without closed folds. Assumes nothing.
-use Rattle.lists.proofs.Kit.{◌≡◌, refl, List, [], Bool, true, ◌&&◌, ℕ, ltb, leb}
+use Rattle.lists.proofs.Kit.{◌≡◌, refl, List, [], Bool, true, ◌&&◌, ℕ, ltb, leb, None}
+use Rattle.word_kinds.specs.declared.Alphabet.{Alphabet}
 use Rattle.text.specs.Text.{row_count, content_rows}
 use Rattle.text.specs.declared.Position.{Position}
 use Rattle.folds.specs.Folds.{any_fold, fold_refusal}
-use Rattle.folds.specs.declared.Span.TheVariants.{NoSpan}
 use Rattle.word_kinds.specs.declared.Spot.{Spot}
 use Rattle.word_kinds.specs.declared.Setting.{Setting}
 use Rattle.fold_stretches.specs.declared.Stretch.{Stretch}
@@ -16,10 +16,10 @@ use Rattle.word_rounds.specs.Turns.{Set}
 
 -- at a row of the stretch there is no closed fold, so a round from it is one without folds
 module _ (t folds : List ℕ) {w : Stretch} (b : NoFold folds w) (p : Position) (h : (leb w.lo p.row && ltb p.row w.hi) ≡ true) where
-  gone : fold_at t folds p ≡ NoSpan
+  gone : fold_at t folds p ≡ None
   gone = no_span (row_count t) (content_rows t) p.row b h
 
-  none : fold_at t [] p ≡ NoSpan
+  none : fold_at t [] p ≡ None
   none = none_span (row_count t) (content_rows t) p.row
 
   pub round_bare : (kind : ℕ → ℕ) (big : Bool) (m : Motion) (stop : Bool) → round_of t [] kind big m stop p ≡ round_of t folds kind big m stop p
@@ -30,7 +30,7 @@ module _ (t folds : List ℕ) {w : Stretch} (b : NoFold folds w) (p : Position) 
   round_bare kind big EndBack stop = refl
 
 -- what a round without folds requires
-pub set_bare : {t folds bounds starts lengths : List ℕ} {s : Setting} {p : Spot} → Set t folds bounds starts lengths s p → Set t [] bounds starts lengths s p
+pub set_bare : {t folds : List ℕ} {k : Alphabet} {p : Spot} → Set t folds k p → Set t [] k p
 unfolding fold_refusal any_fold
 set_bare z =
     let its_folded = z.folded in

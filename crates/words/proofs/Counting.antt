@@ -6,8 +6,8 @@ use Rattle.word_kinds.specs.Spots.{place_of, IsSpot, Lands}
 use Rattle.word_kinds.proofs.Telling.{tells_as, tells_too, lands_here}
 use Rattle.fold_stretches.specs.declared.Stretch.{Stretch}
 use Rattle.fold_stretches.specs.Stretches.{NoFold}
-use Rattle.word_rounds.specs.declared.Turn as code
-use Rattle.word_rounds.specs.declared.Turn.TheVariants as variant
+use Rattle.word_ends.specs.declared.Turn as code
+use Rattle.word_ends.specs.declared.Turn.TheVariants as variant
 use Rattle.word_rounds.specs.Rounds.{Turn, On, counted}
 use Rattle.word_rounds.specs.Turns.{ComesTo}
 use Rattle.word_rounds.proofs.Counts.{counted_none, counted_on, counted_off, counted_still}
@@ -29,7 +29,7 @@ module _ {t folds : List ℕ} {round : Position → Turn} {count : ℕ} where
     counting_none z = tells_too (lands_here so_far.spot) (sym (counted_none round left (place_of t cur) z) ∙ so_far.rest)
 
     -- a round from `cur`: on to another place, to the same one, or the last
-    module _ {r : code.Turn} (told : ComesTo t r (round (place_of t cur))) {q : Spot} where
+    module _ {r : code.Turn Spot} (told : ComesTo t r (round (place_of t cur))) {q : Spot} where
       pub counting_on : {less : ℕ} {next : Stretch} → r ≡ variant.On q → left ≡ less + 1 → NoFold folds next → Counting t folds round count from q less next
       counting_on {less} e h b =
           let less_is : less ≡ left - 1 = omega arith in

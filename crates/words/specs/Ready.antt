@@ -1,5 +1,6 @@
 -- What the walks of `src/` require. Definitions only. Assumes nothing.
 use Rattle.std.specs.Prelude.{ℕ, ◌+◌, ◌≤◌, ◌≡◌, List, Bool, false, length}
+use Rattle.word_kinds.specs.declared.Alphabet.{Alphabet}
 use Rattle.lists.specs.Lists.{any}
 use Rattle.keywords.specs.declared.KeywordSpec.{KeywordSpec}
 use Rattle.word_kinds.specs.Lent.{is_high}
@@ -10,8 +11,8 @@ use Rattle.fold_stretches.specs.Stretches.{NoFold}
 use Rattle.word_rounds.specs.Turns.{Folded, Set}
 
 -- rounds where a stretch of rows without closed folds is known
-pub record NearReady (t folds bounds starts lengths : List ℕ) (s : Setting) (w : Stretch) (p : Spot) : Type 0 where
-  pub round : Set t folds bounds starts lengths s p
+pub record NearReady (t folds : List ℕ) (k : Alphabet) (w : Stretch) (p : Spot) : Type 0 where
+  pub round : Set t folds k p
   pub bare : NoFold folds w
 
 -- a motion by bounds that hold the setting's pairs, and by what was made for the text

@@ -8,46 +8,34 @@ ghost use Rattle.word_kinds.specs.Places.{kind_of};
 ghost use Rattle.word_rounds.specs.Rounds.{word_motion};
 ghost use Rattle.word_kinds.specs.Spots.{place_of, Lands};
 ghost use Rattle.word_rounds.specs.Turns.{Set};
-ghost use Rattle.word_kinds.specs.Lent.{kind_by};
+ghost use Rattle.word_kinds.specs.Lent.{kind_by, kinds_by};
 ghost use Rattle.words.specs.Ready.{BoundsReady, MadeReady, ListReady};
 
 use crate::once::prepare;
 use crate::rounds;
 use keywords::KeywordSpec;
-use word_kinds::{Setting, Spot};
-use word_rounds::{Motion, Turn};
-
-// How many rounds follow the first: count 0 acts as 1.
-fn rest(count: u32) -> u32
-    ensures { result ≡ max count 1 - 1 }
-{
-    if count == 0 {
-        return 0;
-    }
-    count - 1
-}
+use word_ends::Turn;
+use word_kinds::{Alphabet, Setting, Spot};
+use word_rounds::Motion;
 
 // A motion, by bounds, ranges of letters and a setting that were made before. `stop` holds in the
 // first round alone.
 pub fn walk(
     t: &[u32],
     folds: &[u32],
-    bounds: &[u32; 256],
-    starts: &[u32],
-    lengths: &[u16],
-    s: Setting,
+    by: Alphabet<'_>,
     m: Motion,
     stop: bool,
     count: u32,
     p: Spot,
 ) -> Spot
-    requires { Set t.now folds.now bounds.now starts.now lengths.now s p }
+    requires { Set t.now folds.now by p }
     ensures { Lands t.now result
-        (word_motion t.now folds.now (kind_by bounds.now s)
-        s.big m stop count (place_of t.now p)) }
+        (word_motion t.now folds.now (kinds_by by.entry)
+        by.entry.setting.big m stop count (place_of t.now p)) }
 {
-    match word_rounds::rounds::round(t, folds, bounds, starts, lengths, s, m, stop, p) {
-        Turn::On(q) => rounds::rounds(t, folds, bounds, starts, lengths, s, m, rest(count), q),
+    match word_rounds::rounds::round(t, folds, by, m, stop, p) {
+        Turn::On(q) => rounds::rounds(t, folds, by, m, count.max(1) - 1, q),
         Turn::Off(q) => q,
     }
 }
@@ -71,10 +59,12 @@ fn walk_with_letters(
     walk(
         t,
         folds,
-        bounds,
-        &letters::LETTER_STARTS,
-        &letters::LETTER_LENGTHS,
-        s,
+        Alphabet {
+            bounds: bounds,
+            starts: &letters::LETTER_STARTS,
+            lengths: &letters::LETTER_LENGTHS,
+            setting: s,
+        },
         m,
         stop,
         count,
@@ -105,7 +95,20 @@ pub fn walk_made(
     }
     let starts = [0u32; 1];
     let lengths = [0u16; 1];
-    walk(t, folds, bounds, &starts, &lengths, s, m, stop, count, p)
+    walk(
+        t,
+        folds,
+        Alphabet {
+            bounds: bounds,
+            starts: &starts,
+            lengths: &lengths,
+            setting: s,
+        },
+        m,
+        stop,
+        count,
+        p,
+    )
 }
 
 // A word motion from a place of a text with so many rows, and rows with content.

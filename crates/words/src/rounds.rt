@@ -2,7 +2,7 @@
 // `move_word_end_back` of motions.rs.
 ghost use Rattle.std.specs.Prelude.{false};
 ghost use Rattle.word_kinds.specs.Spots.{place_of, Lands};
-ghost use Rattle.word_kinds.specs.Lent.{kind_by};
+ghost use Rattle.word_kinds.specs.Lent.{kinds_by};
 ghost use Rattle.word_rounds.specs.Rounds.{round_of, counted};
 ghost use Rattle.word_rounds.specs.Turns.{ComesTo, Set};
 ghost use Rattle.words.specs.Walked.{Rounded};
@@ -10,32 +10,30 @@ ghost use Rattle.words.specs.Ready.{NearReady};
 
 use crate::Walked;
 use fold_stretches::Stretch;
-use word_kinds::{Setting, Spot};
-use word_rounds::{Motion, Turn};
+use word_ends::Turn;
+use word_kinds::{Alphabet, Spot};
+use word_rounds::Motion;
 
 // A round after the first, where a stretch of rows without closed folds is known: outside it the
 // folds are lent, and in it none.
 fn round_near(
     t: &[u32],
     folds: &[u32],
-    bounds: &[u32; 256],
-    starts: &[u32],
-    lengths: &[u16],
-    s: Setting,
+    by: Alphabet<'_>,
     m: Motion,
     w: Stretch,
     p: Spot,
-) -> Turn
-    requires { NearReady t.now folds.now bounds.now starts.now lengths.now s w p }
+) -> Turn<Spot>
+    requires { NearReady t.now folds.now by w p }
     ensures { ComesTo t.now result
-        (round_of t.now folds.now (kind_by bounds.now s) s.big m
+        (round_of t.now folds.now (kinds_by by.entry) by.entry.setting.big m
         false (place_of t.now p)) }
 {
     if (w.lo <= p.row) & (p.row < w.hi) {
         let none = &folds[..0];
-        return word_rounds::rounds::round(t, none, bounds, starts, lengths, s, m, false, p);
+        return word_rounds::rounds::round(t, none, by, m, false, p);
     }
-    word_rounds::rounds::round(t, folds, bounds, starts, lengths, s, m, false, p)
+    word_rounds::rounds::round(t, folds, by, m, false, p)
 }
 
 // Rounds up to a count, from a stretch of rows without closed folds that is known; with the place
@@ -48,25 +46,22 @@ fn round_near(
 pub fn rounds_from(
     t: &[u32],
     folds: &[u32],
-    bounds: &[u32; 256],
-    starts: &[u32],
-    lengths: &[u16],
-    s: Setting,
+    by: Alphabet<'_>,
     m: Motion,
     known: Stretch,
     count: u32,
     p: Spot,
 ) -> Walked
-    requires { NearReady t.now folds.now bounds.now starts.now lengths.now s known
+    requires { NearReady t.now folds.now by known
         p }
-    ensures { Rounded t.now folds.now (kind_by bounds.now s) s.big m
+    ensures { Rounded t.now folds.now (kinds_by by.entry) by.entry.setting.big m
         count (place_of t.now p) result }
 {
     let mut cur = p;
     let mut w = known;
     for _ in 0..count {
-        w = fold_stretches::near(folds, s.rows, w, cur.row);
-        match round_near(t, folds, bounds, starts, lengths, s, m, w, cur) {
+        w = fold_stretches::near(folds, by.setting.rows, w, cur.row);
+        match round_near(t, folds, by, m, w, cur) {
             Turn::On(q) => {
                 if q.at == cur.at {
                     return Walked {
@@ -91,25 +86,15 @@ pub fn rounds_from(
 }
 
 // The same where no stretch is known.
-pub fn rounds(
-    t: &[u32],
-    folds: &[u32],
-    bounds: &[u32; 256],
-    starts: &[u32],
-    lengths: &[u16],
-    s: Setting,
-    m: Motion,
-    count: u32,
-    p: Spot,
-) -> Spot
-    requires { Set t.now folds.now bounds.now starts.now lengths.now s p }
+pub fn rounds(t: &[u32], folds: &[u32], by: Alphabet<'_>, m: Motion, count: u32, p: Spot) -> Spot
+    requires { Set t.now folds.now by p }
     ensures { Lands t.now result
         (counted
-        (round_of t.now folds.now (kind_by bounds.now s) s.big m
+        (round_of t.now folds.now (kinds_by by.entry) by.entry.setting.big m
         false)
         count (place_of t.now p)) }
 {
-    let w = fold_stretches::around(folds, s.rows, p.row);
-    let r = rounds_from(t, folds, bounds, starts, lengths, s, m, w, count, p);
+    let w = fold_stretches::around(folds, by.setting.rows, p.row);
+    let r = rounds_from(t, folds, by, m, w, count, p);
     r.spot
 }

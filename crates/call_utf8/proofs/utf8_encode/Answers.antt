@@ -7,22 +7,22 @@ use Rattle.call_utf8.proofs.utf8_encode.Goals as goal
 pub overflow_cast-n : goal.overflow_cast-n
 overflow_cast-n c =
     let given = c.args in
-    omega (arith, encoded_most given.points.now _ _ (sym c.encode.ensures.answer ∙ c.in-Bytes.is))
+    omega (arith, encoded_most given.points.now _ _ (sym c.encode.ensures.answer ∙ c.in-Ok.is))
 
-pub returns-in-Bytes : goal.returns-in-Bytes
-returns-in-Bytes c =
+pub returns-in-Ok : goal.returns-in-Ok
+returns-in-Ok c =
     let given = c.args in
     record {
-      replied = encode_bytes given.points.now given.bytes.now _ (sym c.encode.ensures.answer ∙ c.in-Bytes.is)
+      replied = encode_bytes given.points.now given.bytes.now _ (sym c.encode.ensures.answer ∙ c.in-Ok.is)
           c.reply.ensures;
       bytes_after = c.encode.ensures.left;
     }
 
-pub returns-in-Refused : goal.returns-in-Refused
-returns-in-Refused c =
+pub returns-in-Err : goal.returns-in-Err
+returns-in-Err c =
     let given = c.args in
     record {
-      replied = encode_refused given.points.now given.bytes.now _ (sym c.encode.ensures.answer ∙ c.in-Refused.is)
-          c.reply-in-Refused.ensures;
+      replied = encode_refused given.points.now given.bytes.now _ (sym c.encode.ensures.answer ∙ c.in-Err.is)
+          (rw c.number.ensures at c.reply-in-Err.ensures);
       bytes_after = c.encode.ensures.left;
     }

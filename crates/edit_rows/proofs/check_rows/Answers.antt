@@ -30,7 +30,7 @@ returns c =
     let new = text_after front given.p given.q given.points.now in
     let after_is : given.before - (given.q.row - given.p.row) + c.separators.result ≡ row_count new =
     omega (arith, c.requires.rows_are, c.separators.ensures.count, rows_after c.requires.stretch given.points.now) in
-    let need : c.most-need.result ≡ max (row_count front) (row_count new) = c.most-need.ensures ∙ (λ i. max (c.requires.rows_are i) (after_is i)) in
+    let need : c.max-need.result ≡ max (row_count front) (row_count new) = c.max-need.ensures ∙ (λ i. max (c.requires.rows_are i) (after_is i)) in
     record {
       refusal_is = c.table_refusal-refusal.ensures ∙ ap (λ (n : ℕ). table_refusal n front given.starts.now given.content) need;
       before_is = c.requires.rows_are;

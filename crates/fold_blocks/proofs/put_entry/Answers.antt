@@ -4,4 +4,5 @@ use Rattle.fold_blocks.proofs.put_entry.Goals as goal
 
 pub returns : goal.returns
 returns c =
-    wrote_then c.put_four-middle.ensures (wrote_then c.put_four-last.ensures c.put.ensures)
+    rw (c.to_le_bytes.ensures, c.to_le_bytes-2.ensures) at
+    (wrote_then c.put_bytes-middle.ensures (wrote_then c.put_bytes-last.ensures c.put.ensures))

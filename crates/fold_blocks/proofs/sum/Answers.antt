@@ -8,8 +8,8 @@ loop-x-preserved c =
     let next = sum_at c.args.bytes.now c.loop-x.x-index c.loop-x-test.true in
     record {
       within = omega arith;
-      small = omega (arith, c.wide-total.ensures.small);
-      whole = omega (arith, next, c.wide-total.ensures.same, c.loop-x.invariant.whole);
+      small = omega arith;
+      whole = omega (arith, next, c.loop-x.invariant.whole);
     }
 
 pub returns : goal.returns

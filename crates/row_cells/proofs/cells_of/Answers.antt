@@ -9,5 +9,5 @@ pub returns : goal.returns
 returns c =
     let is = c.width_in-width.ensures in
     let given = c.args in
-    let most = width_most given.zeros.now given.doubles.now given.x in
+    let most = width_most given.by.zeros.now given.by.doubles.now given.x in
     record { cells = rw (← is) (sym (max-eq_right (omega arith))); small = omega arith }

@@ -1,7 +1,7 @@
 -- `row_columns::visual_at` meets its contract. The invariant of its loop: `visual` is the visual column of character i, and i has not passed `col`.
 -- Assumes nothing.
 use Rattle.lists.proofs.Kit.{List, ℕ, ◌≤◌}
-use Rattle.chars.specs.Width.{width_by}
+use Rattle.chars.specs.Width.{width_with}
 use Rattle.row_columns.proofs.Visual.{VisualTo}
 use Rattle.row_columns.proofs.visual_at.Given as goal
 
@@ -10,4 +10,4 @@ pub record Walked (w : ℕ → ℕ) (tab : ℕ) (row : List ℕ) (col i visual :
   pub before : i ≤ col
 
 abbrev pub invariant-loop-i : goal.invariant-loop-i
-invariant-loop-i l = Walked (width_by l.zeros l.doubles) l.tab l.row l.col l.i l.visual
+invariant-loop-i l = Walked (width_with l.by) l.tab l.row l.col l.i l.visual

@@ -1,21 +1,23 @@
--- `row_offsets::offset_of` meets its contract: a refusal is handed on, and what is not refused is walked, setting by setting. Assumes nothing.
-use Rattle.lists.proofs.Kit.{sym, ◌∙◌}
+-- `row_offsets::offset_of` meets its contract: a refusal is handed on, and what is not refused is walked by the measure of the setting. Assumes nothing.
+use Rattle.lists.proofs.Kit.{◌≡◌, ap, sym, ◌∙◌, ℕ, rules}
+use Rattle.chars.specs.Width.{width_with}
 use Rattle.row_check.proofs.Answers.{answer_refused, answer_at_lem, accepted_brief}
+use Rattle.row_offsets.specs.Calls.{RowLent, offset_by}
 use Rattle.row_offsets.proofs.offset_of.Goals as goal
 
 pub returns-then-f-ne0 : goal.returns-then-f-ne0
 returns-then-f-ne0 c = answer_refused _ c.row_refusal-f.ensures c.if-f-ne0.true
 
-pub narrow_offset-requires : goal.narrow_offset-requires
-narrow_offset-requires c = accepted_brief _ (sym c.row_refusal-f.ensures ∙ c.if-f-ne0.false)
+pub lend-requires : goal.lend-requires
+lend-requires c = λ m lends.
+    let is_lent : RowLent m c.args.row.now =
+    record { widths = lends.fit; brief = accepted_brief _ (sym c.row_refusal-f.ensures ∙ c.if-f-ne0.false) } in
+    search rules
 
-pub wide_offset-requires : goal.wide_offset-requires
-wide_offset-requires c = accepted_brief _ (sym c.row_refusal-f.ensures ∙ c.if-f-ne0.false)
-
-pub returns-in-Narrow : goal.returns-in-Narrow
-returns-in-Narrow c =
-    rw c.in-Narrow.is (answer_at_lem c.row_refusal-f.ensures c.if-f-ne0.false c.narrow_offset.ensures)
-
-pub returns-in-Wide : goal.returns-in-Wide
-returns-in-Wide c =
-    rw c.in-Wide.is (answer_at_lem c.row_refusal-f.ensures c.if-f-ne0.false c.wide_offset.ensures)
+pub returns : goal.returns
+returns c =
+    let given = c.args in
+    let told = c.lend.ensures in
+    let by_measure : c.lend.result ≡ offset_by (width_with told.0) given.ask given.row.now given.start given.end given.n = search rules in
+    answer_at_lem c.row_refusal-f.ensures c.if-f-ne0.false
+    (by_measure ∙ ap (λ (w : ℕ → ℕ). offset_by w given.ask given.row.now given.start given.end given.n) told.1.same)

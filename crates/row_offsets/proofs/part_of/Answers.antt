@@ -3,4 +3,4 @@ use Rattle.row_offsets.proofs.Places.{part_is}
 use Rattle.row_offsets.proofs.part_of.Goals as goal
 
 pub returns : goal.returns
-returns c = part_is _ _ _ c.least-to.ensures c.least-from.ensures
+returns c = part_is _ _ _ c.min-to.ensures c.min-from.ensures

@@ -5,16 +5,16 @@ use Rattle.session.proofs.session.Goals as goal
 
 pub run-requires : goal.run-requires
 run-requires c =
-    (session_short _ (sym c.in-At.is ∙ c.begins.ensures), omega arith)
+    (session_short _ (sym c.in-Some.is ∙ c.begins.ensures), omega arith)
 
-pub returns-in-At : goal.returns-in-At
-returns-in-At c =
+pub returns-in-Some : goal.returns-in-Some
+returns-in-Some c =
     let input = c.args.input.now in
-    printed (session_runs input (sym c.in-At.is ∙ c.begins.ensures)) (omega (arith, session_fits input))
+    printed (session_runs input (sym c.in-Some.is ∙ c.begins.ensures)) (omega (arith, session_fits input))
     c.run.ensures
 
-pub returns-in-Refused : goal.returns-in-Refused
-returns-in-Refused c =
+pub returns-in-None : goal.returns-in-None
+returns-in-None c =
     let input = c.args.input.now in
-    printed (session_refused input (sym c.in-Refused.is ∙ c.begins.ensures))
+    printed (session_refused input (sym c.in-None.is ∙ c.begins.ensures))
     (omega (arith, session_fits input)) c.refuse.ensures

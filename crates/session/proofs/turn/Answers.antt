@@ -2,11 +2,11 @@
 use Rattle.session.specs.Session.{counted}
 use Rattle.session.proofs.turn.Goals as goal
 
-pub returns-in-Of : goal.returns-in-Of
+pub returns-in-Some : goal.returns-in-Some
 unfolding counted
-returns-in-Of c = rw (← c.count_in.ensures, c.in-Of.is, ← c.key.ensures)
+returns-in-Some c = rw (← c.count_in.ensures, c.in-Some.is, ← c.key.ensures)
     c.press.ensures
 
-pub returns-in-Malformed : goal.returns-in-Malformed
+pub returns-in-None : goal.returns-in-None
 unfolding counted
-returns-in-Malformed c = rw (← c.count_in.ensures, c.in-Malformed.is)
+returns-in-None c = rw (← c.count_in.ensures, c.in-None.is)

@@ -7,12 +7,12 @@ use Rattle.session_input.proofs.begins.Goals as goal
 pub returns-then-input-gt16384 : goal.returns-then-input-gt16384
 returns-then-input-gt16384 c = begin_long _ c.if-input-gt16384.true
 
--- UTF-8: by the full-stop row
-pub returns-in-Points : goal.returns-in-Points
-returns-in-Points c =
-    c.find_stop.ensures ∙ begin_stop _ c.if-input-gt16384.false (check_good _ (sym c.in-Points.is ∙ c.check.ensures))
-
 -- no UTF-8
-pub returns-in-Bad : goal.returns-in-Bad
-returns-in-Bad c =
-    begin_bad _ c.if-input-gt16384.false (check_bad _ (sym c.in-Bad.is ∙ c.check.ensures))
+pub returns-in_err-ok : goal.returns-in_err-ok
+returns-in_err-ok c =
+    c.from_residual.ensures ∙ begin_bad _ c.if-input-gt16384.false (check_bad _ c.check.ensures (sym c.ok.ensures.value ∙ c.in_err-ok.was))
+
+-- UTF-8: by the full-stop row
+pub returns : goal.returns
+returns c =
+    c.find_stop.ensures ∙ begin_stop _ c.if-input-gt16384.false (check_good _ c.check.ensures (sym c.ok.ensures.value ∙ c.in_ok-ok.was))

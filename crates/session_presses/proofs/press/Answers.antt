@@ -3,12 +3,12 @@ use Rattle.lists.proofs.Kit.{ap, ◌∙◌}
 use Rattle.session_presses.specs.Pressed.{held, acted}
 use Rattle.session_presses.proofs.press.Goals as goal
 
-pub returns-in-Does : goal.returns-in-Does
+pub returns-in-Some : goal.returns-in-Some
 unfolding acted
-returns-in-Does c =
-    rw (← c.key_of.ensures, ← c.act_of.ensures, c.in-Does.is) (c.held.ensures ∙ ap (held _) c.motion.ensures)
+returns-in-Some c =
+    rw (← c.key_of.ensures, ← c.act_of.ensures, c.in-Some.is) (c.held.ensures ∙ ap (held _) c.motion.ensures)
 
-pub returns-in-Unknown : goal.returns-in-Unknown
+pub returns-in-None : goal.returns-in-None
 unfolding acted
-returns-in-Unknown c =
-    rw (← c.key_of.ensures, ← c.act_of.ensures, c.in-Unknown.is)
+returns-in-None c =
+    rw (← c.key_of.ensures, ← c.act_of.ensures, c.in-None.is)

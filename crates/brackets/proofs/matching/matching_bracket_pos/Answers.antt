@@ -37,24 +37,24 @@ partner-requires c =
     let given = c.args in
     let ok = sym c.text_refusal-f.ensures ∙ c.if-f-ne0.false in
     place_starts given.t.now given.row given.col within c.row_line-l.ensures c.offset_of-f.ensures ok
-    c.in-At.is
+    c.in-Some.is
 
-pub returns-in-At : goal.returns-in-At
-returns-in-At c =
+pub returns-in-Some : goal.returns-in-Some
+returns-in-Some c =
     let within : c.args.row < row_count c.args.t.now =
     (omega (arith, c.row_count-rows.ensures, c.if-wanted-rows.false)) in
     let given = c.args in
     let ok = sym c.text_refusal-f.ensures ∙ c.if-f-ne0.false in
     place_answer given.t.now given.row given.col within c.row_line-l.ensures c.offset_of-f.ensures ok
-    c.in-At.is c.partner.ensures
+    c.in-Some.is c.partner.ensures
 
 -- the row has no such column
-pub returns-in-Nothing : goal.returns-in-Nothing
-returns-in-Nothing c =
+pub returns-in-None : goal.returns-in-None
+returns-in-None c =
     let within : c.args.row < row_count c.args.t.now =
     (omega (arith, c.row_count-rows.ensures, c.if-wanted-rows.false)) in
     let given = c.args in
     let ok = sym c.text_refusal-f.ensures ∙ c.if-f-ne0.false in
     let out = no_col given.t.now given.row given.col within c.row_line-l.ensures c.offset_of-f.ensures
-    c.in-Nothing.is in
+    c.in-None.is in
     sym (call_outside given.t.now given.row given.col ok out)

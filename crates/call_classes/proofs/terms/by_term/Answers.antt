@@ -3,12 +3,12 @@ use Rattle.lists.proofs.Kit.{refl}
 use Rattle.call_classes.specs.ByTerm.{by_term, left_by}
 use Rattle.call_classes.proofs.terms.by_term.Goals as goal
 
-pub returns-in-Of : goal.returns-in-Of
+pub returns-in-Some : goal.returns-in-Some
 unfolding by_term left_by
-returns-in-Of c =
+returns-in-Some c =
     let word_by_class_told = c.word_by_class.ensures in
-    rw c.in-Of.is (record { value = word_by_class_told.answer; classes_after = word_by_class_told.left })
+    rw c.in-Some.is (record { value = word_by_class_told.answer; classes_after = word_by_class_told.left })
 
-pub returns-in-Nothing : goal.returns-in-Nothing
+pub returns-in-None : goal.returns-in-None
 unfolding by_term left_by
-returns-in-Nothing c = rw c.in-Nothing.is (record { value = refl; classes_after = refl })
+returns-in-None c = rw c.in-None.is (record { value = refl; classes_after = refl })

@@ -1,8 +1,8 @@
 -- `terms::word` meets its contract: it hands on what the move answers. Assumes nothing.
-use Rattle.lists.proofs.Kit.{ap, ◌∙◌}
+use Rattle.lists.proofs.Kit.{ap, ◌∙◌, Option}
+use Rattle.motions.specs.declared.Move.{Move}
 use Rattle.motions.specs.declared.Caret.{Caret}
 use Rattle.call_bytes.proofs.Replies.{replied_of}
-use Rattle.call_texts.specs.declared.Asked.{Asked}
 use Rattle.call_texts.specs.Asks.{move_as}
 use Rattle.call_texts.specs.Carets.{moved}
 use Rattle.call_folds.specs.Terms.{is_big, word_of, word}
@@ -13,7 +13,7 @@ unfolding word
 returns c =
     let given = c.args in
     replied_of moved (c.move_as.ensures
-    ∙ ap (λ (a : Asked). move_as a given.count c.caret_of-k.result given.text.now given.folds.now given.list.now 0)
+    ∙ ap (λ (a : Option Move). move_as a given.count c.caret_of-k.result given.text.now given.folds.now given.list.now 0)
     c.word_of.ensures
     ∙ ap (λ (k : Caret). move_as (word_of given.op (is_big given.big)) given.count k given.text.now given.folds.now given.list.now 0)
     c.caret_of-k.ensures) c.place.ensures

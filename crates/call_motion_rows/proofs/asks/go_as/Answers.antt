@@ -2,10 +2,10 @@
 use Rattle.call_motion_rows.specs.Asks.{rows_as}
 use Rattle.call_motion_rows.proofs.asks.go_as.Goals as goal
 
-pub returns-in-For : goal.returns-in-For
+pub returns-in-Some : goal.returns-in-Some
 unfolding rows_as
-returns-in-For c = rw c.in-For.is c.go_rows.ensures
+returns-in-Some c = rw c.in-Some.is c.go_rows.ensures
 
-pub returns-in-Nothing : goal.returns-in-Nothing
+pub returns-in-None : goal.returns-in-None
 unfolding rows_as
-returns-in-Nothing c = rw c.in-Nothing.is
+returns-in-None c = rw c.in-None.is

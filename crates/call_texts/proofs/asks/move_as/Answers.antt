@@ -2,10 +2,10 @@
 use Rattle.call_texts.specs.Asks.{move_as}
 use Rattle.call_texts.proofs.asks.move_as.Goals as goal
 
-pub returns-in-For : goal.returns-in-For
+pub returns-in-Some : goal.returns-in-Some
 unfolding move_as
-returns-in-For c = rw c.in-For.is c.moved_by.ensures
+returns-in-Some c = rw c.in-Some.is c.moved_by.ensures
 
-pub returns-in-Nothing : goal.returns-in-Nothing
+pub returns-in-None : goal.returns-in-None
 unfolding move_as
-returns-in-Nothing c = rw c.in-Nothing.is
+returns-in-None c = rw c.in-None.is

@@ -1,6 +1,7 @@
 -- `list::vim_matches` meets its contract: by the cases of the answer. Assumes nothing.
 use Rattle.lists.proofs.Kit.{ap, sym, ◌∙◌}
 use Rattle.call_signs.specs.declared.Placed.TheVariants.{Value, Refused}
+use Rattle.call_bytes.proofs.Replies.{from_bit}
 use Rattle.call_vim.specs.Vim.{tested_placed}
 use Rattle.call_vim.proofs.Bounds.{tested_place}
 use Rattle.call_vim.proofs.list.vim_matches.Goals as goal
@@ -14,7 +15,7 @@ pub returns-in-Is : goal.returns-in-Is
 unfolding tested_placed
 returns-in-Is c =
     let told = sym c.is_vim_char.ensures ∙ c.in-Is.is in
-    ap Value c.bit_of.ensures ∙ sym (ap tested_placed told)
+    ap Value (c.from.ensures ∙ from_bit c.in-Is.b) ∙ sym (ap tested_placed told)
 
 pub returns-in-Bad : goal.returns-in-Bad
 unfolding tested_placed

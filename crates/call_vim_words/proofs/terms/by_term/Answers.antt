@@ -2,10 +2,10 @@
 use Rattle.call_vim_words.specs.ByTerm.{by_vim_term}
 use Rattle.call_vim_words.proofs.terms.by_term.Goals as goal
 
-pub returns-in-Of : goal.returns-in-Of
+pub returns-in-Some : goal.returns-in-Some
 unfolding by_vim_term
-returns-in-Of c = rw c.in-Of.is c.word_by_vim.ensures
+returns-in-Some c = rw c.in-Some.is c.word_by_vim.ensures
 
-pub returns-in-Nothing : goal.returns-in-Nothing
+pub returns-in-None : goal.returns-in-None
 unfolding by_vim_term
-returns-in-Nothing c = rw c.in-Nothing.is
+returns-in-None c = rw c.in-None.is

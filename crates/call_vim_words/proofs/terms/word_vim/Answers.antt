@@ -1,9 +1,9 @@
 -- `terms::word_vim` meets its contract: it hands on what the motion answers. Assumes nothing.
-use Rattle.lists.proofs.Kit.{sym, ap, subst, ◌∙◌}
+use Rattle.lists.proofs.Kit.{sym, ap, subst, ◌∙◌, Option, Bool}
+use Rattle.word_rounds.specs.declared.Motion.{Motion}
 use Rattle.motions.specs.declared.Caret.{Caret}
 use Rattle.call_bytes.proofs.Replies.{replied_of}
 use Rattle.call_folds.specs.Terms.{is_big}
-use Rattle.call_classes.specs.declared.Term.{Term}
 use Rattle.call_classes.specs.ByTerm.{term_of}
 use Rattle.call_vim_words.specs.ByTerm.{by_vim_term, vim_moved, PlaceIn}
 use Rattle.call_vim_words.proofs.Places.{place_in}
@@ -21,7 +21,7 @@ returns c =
     let given = c.args in
     let caret_of_result = c.caret_of-k.result in
     replied_of vim_moved (c.by_term.ensures
-    ∙ ap (λ (a : Term). by_vim_term a (is_big given.big) given.count caret_of_result given.text.now given.folds.now given.list.now)
+    ∙ ap (λ (a : Option (Motion × Bool)). by_vim_term a (is_big given.big) given.count caret_of_result given.text.now given.folds.now given.list.now)
     c.term_of-a.ensures
     ∙ ap (λ (x : Caret). by_vim_term (term_of given.op) (is_big given.big) given.count x given.text.now given.folds.now given.list.now)
     c.caret_of-k.ensures) c.place_vim.ensures

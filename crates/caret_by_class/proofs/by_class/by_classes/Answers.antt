@@ -24,9 +24,10 @@ word_by_class-to-requires c =
 pub placed-requires : goal.placed-requires
 placed-requires c =
     let given = c.args in
-    led_fits given.t.now (any_token (kept given.spec)) given.classes.now _ c.write_classes.ensures (here given.k)
+    let by_fits = led_fits given.t.now (any_token (kept given.spec)) given.classes.now _ c.write_classes.ensures (here given.k)
     c.requires.inside given.own.now given.big given.m given.stop given.count c.word_by_class-to.result c.word_by_class-to.ensures
-    (accepted_short given.t.now c.requires.writable.clear)
+    (accepted_short given.t.now c.requires.writable.clear) in
+    record { row = by_fits.0; col = by_fits.1 }
 
 pub returns : goal.returns
 returns c =

@@ -1,12 +1,20 @@
--- `put::put_zeros` meets its contract. Assumes nothing.
-use Rattle.lists.proofs.Kit.{◌≡◌, ◌∙◌, ap, arith, rules}
-use Rattle.edit_places.specs.Replaced.{zeros}
-use Rattle.edit_places.proofs.Puts.{over_put, length_zeros}
+-- `put::put_zeros` meets its contract. The invariant of its loop: the first k zeros are written. The measure is their number less k.
+-- Assumes nothing.
+use Rattle.lists.proofs.Kit.{◌-◌, arith}
+use Rattle.edit_places.proofs.Puts.{up_none, up_next, up_all, length_zeros, zeros_read}
 use Rattle.edit_places.proofs.put.put_zeros.Goals as goal
 
-pub returns : goal.returns
-unfolding zeros
-returns c =
+pub loop-k-init : goal.loop-k-init
+loop-k-init c = record { within = omega arith; up = up_none _ _ _ (simp length_zeros c.requires) }
+
+pub loop-k-preserved : goal.loop-k-preserved
+loop-k-preserved c =
+    let at_loop = c.loop-k in
     let given_n = c.args.n in
-    let filled : c.fill.new.self ≡ zeros given_n = c.fill.ensures.after (λ y h. h) ∙ ap zeros (search rules) in
-    over_put _ _ _ (zeros given_n) _ filled (omega (arith, length_zeros given_n)) (simp length_zeros c.requires)
+    record {
+      within = omega arith;
+      up = up_next (at_loop.invariant).up (simp length_zeros c.loop-k-test.true) (zeros_read given_n at_loop.k c.loop-k-test.true);
+    }
+
+pub returns : goal.returns
+returns c = up_all c.loop-k.invariant.up (simp length_zeros c.loop-k-test.false)

@@ -33,11 +33,11 @@ bounds-input-0 c =
 pub slice_bounds-numbers-end : goal.slice_bounds-numbers-end
 slice_bounds-numbers-end c =
     let read_row_told = c.read_row.ensures in
-    omega (arith, count_within read_row_told _ c.in-Count.is, read_row_told.kept)
+    omega (arith, count_within read_row_told _ c.in-Some.is, read_row_told.kept)
 
 pub slice_bounds-by_key-end : goal.slice_bounds-by_key-end
 slice_bounds-by_key-end c =
-    sym (length-take-le _ _ (count_within c.read_row.ensures _ c.in-Count.is))
+    sym (length-take-le _ _ (count_within c.read_row.ensures _ c.in-Some.is))
 
 pub slice_bounds-by_key-count : goal.slice_bounds-by_key-count
 slice_bounds-by_key-count c =
@@ -47,16 +47,16 @@ pub slice_bounds-by_key-start : goal.slice_bounds-by_key-start
 slice_bounds-by_key-start c =
     omega (arith, row_most c.args.input.now, c.row_end-end.ensures)
 
-pub returns-in-Count : goal.returns-in-Count
-returns-in-Count c =
+pub returns-in-Some : goal.returns-in-Some
+returns-in-Some c =
     let input = c.args.input.now in
     let is = c.row_end-end.ensures in
-    rw (run_count input is c.if-input-gt32768.false c.if-end-lt2.false c.read_row.ensures (length-replicate {A = ℕ} 1024 0) _ c.in-Count.is)
+    rw (run_count input is c.if-input-gt32768.false c.if-end-lt2.false c.read_row.ensures (length-replicate {A = ℕ} 1024 0) _ c.in-Some.is)
     c.by_key.ensures
 
-pub returns-in-Malformed : goal.returns-in-Malformed
-returns-in-Malformed c =
+pub returns-in-None : goal.returns-in-None
+returns-in-None c =
     let input = c.args.input.now in
     let is = c.row_end-end.ensures in
     rw (run_malformed input is c.if-input-gt32768.false c.if-end-lt2.false c.read_row.ensures (length-replicate {A = ℕ} 1024 0)
-    c.in-Malformed.is) (prints unread_fits (omega arith) c.not_read-in-Malformed.ensures)
+    c.in-None.is) (prints unread_fits (omega arith) c.not_read-in-None.ensures)

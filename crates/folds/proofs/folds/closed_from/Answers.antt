@@ -10,20 +10,20 @@ returns-then-not-is_row_hidden c = rw (sym c.is_row_hidden.ensures ∙ c.if-not-
 -- the next row that shows isn't row 0
 pub overflow_sub-result : goal.overflow_sub-result
 overflow_sub-result c =
-    omega (arith, visible_within _ _ _ _ (sym c.next_visible_row.ensures ∙ c.in-Row.is))
+    omega (arith, visible_within _ _ _ _ (sym c.next_visible_row.ensures ∙ c.in-Some.is))
 
-pub returns-in-Row : goal.returns-in-Row
-returns-in-Row c =
+pub returns-in-Some : goal.returns-in-Some
+returns-in-Some c =
     rw (
       sym c.is_row_hidden.ensures ∙ c.if-not-is_row_hidden.false,
       ← c.next_visible_row.ensures,
-      c.in-Row.is,
+      c.in-Some.is,
     )
 
-pub returns-in-NoRow : goal.returns-in-NoRow
-returns-in-NoRow c =
+pub returns-in-None : goal.returns-in-None
+returns-in-None c =
     rw (
       sym c.is_row_hidden.ensures ∙ c.if-not-is_row_hidden.false,
       ← c.next_visible_row.ensures,
-      c.in-NoRow.is,
+      c.in-None.is,
     )

@@ -9,22 +9,22 @@ loop-r-init c =
     record { within = omega arith; good = folds_good c.args.folds.now c.args.rows c.requires.0; rest = refl }
 
 -- the fold that hides r ends at or after it, and inside the rows
-pub overflow_add-r-in-Of : goal.overflow_add-r-in-Of
-overflow_add-r-in-Of c =
+pub overflow_add-r-in-Some : goal.overflow_add-r-in-Some
+overflow_add-r-in-Some c =
     let given = c.args in
-    let by_said = said given.folds.now c.loop-r.r _ (sym c.in-Of.is ∙ c.cover.ensures) in
+    let by_said = said given.folds.now c.loop-r.r _ (sym c.in-Some.is ∙ c.cover.ensures) in
     omega (arith, by_said.3 given.rows c.loop-r.invariant.good)
 
 pub loop-r-smaller : goal.loop-r-smaller
 loop-r-smaller c =
     let given = c.args in
-    let by_said = said given.folds.now c.loop-r.r _ (sym c.in-Of.is ∙ c.cover.ensures) in
+    let by_said = said given.folds.now c.loop-r.r _ (sym c.in-Some.is ∙ c.cover.ensures) in
     omega (arith, by_said.1)
 
 pub loop-r-preserved : goal.loop-r-preserved
 loop-r-preserved c =
     let given = c.args in
-    let by_said = said given.folds.now c.loop-r.r _ (sym c.in-Of.is ∙ c.cover.ensures) in
+    let by_said = said given.folds.now c.loop-r.r _ (sym c.in-Some.is ∙ c.cover.ensures) in
     record {
       within = omega (arith, by_said.3 given.rows c.loop-r.invariant.good);
       good = c.loop-r.invariant.good;
@@ -32,10 +32,10 @@ loop-r-preserved c =
           c.loop-r-test.true;
     }
 
-pub returns-in-NoSpan : goal.returns-in-NoSpan
-returns-in-NoSpan c =
+pub returns-in-None : goal.returns-in-None
+returns-in-None c =
     let given = c.args in
-    let by_said = said given.folds.now c.loop-r.r _ (sym c.in-NoSpan.is ∙ c.cover.ensures) in
+    let by_said = said given.folds.now c.loop-r.r _ (sym c.in-None.is ∙ c.cover.ensures) in
     sym (c.loop-r.invariant.rest ∙ next_here given.folds.now given.rows c.loop-r.r by_said c.loop-r-test.true)
 
 pub returns : goal.returns

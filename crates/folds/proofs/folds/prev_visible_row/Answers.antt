@@ -7,23 +7,23 @@ use Rattle.folds.proofs.folds.prev_visible_row.Goals as goal
 -- the fold that hides the row before r starts before that
 pub overflow_add-r : goal.overflow_add-r
 overflow_add-r c =
-    let by_said = said c.args.folds.now (c.loop-r.r - 1) _ (sym c.in-Of.is ∙ c.cover.ensures) in
+    let by_said = said c.args.folds.now (c.loop-r.r - 1) _ (sym c.in-Some.is ∙ c.cover.ensures) in
     omega (arith, by_said.0)
 
 pub loop-r-smaller : goal.loop-r-smaller
 loop-r-smaller c =
-    let by_said = said c.args.folds.now (c.loop-r.r - 1) _ (sym c.in-Of.is ∙ c.cover.ensures) in
+    let by_said = said c.args.folds.now (c.loop-r.r - 1) _ (sym c.in-Some.is ∙ c.cover.ensures) in
     omega (arith, by_said.0)
 
 pub loop-r-preserved : goal.loop-r-preserved
 loop-r-preserved c =
     let folds = c.args.folds.now in
-    c.loop-r.invariant ∙ prev_jump folds c.loop-r.r _ _ (said folds (c.loop-r.r - 1) _ (sym c.in-Of.is ∙ c.cover.ensures))
+    c.loop-r.invariant ∙ prev_jump folds c.loop-r.r _ _ (said folds (c.loop-r.r - 1) _ (sym c.in-Some.is ∙ c.cover.ensures))
 
-pub returns-in-NoSpan : goal.returns-in-NoSpan
-returns-in-NoSpan c =
+pub returns-in-None : goal.returns-in-None
+returns-in-None c =
     let folds = c.args.folds.now in
-    let by_said = said folds (c.loop-r.r - 1) _ (sym c.in-NoSpan.is ∙ c.cover.ensures) in
+    let by_said = said folds (c.loop-r.r - 1) _ (sym c.in-None.is ∙ c.cover.ensures) in
     sym (c.loop-r.invariant ∙ prev_here folds c.loop-r.r by_said c.loop-r-test.true)
 
 pub returns : goal.returns

@@ -2,7 +2,7 @@
 -- left of all (`Running`), that place is one of the text, and the stretch has no closed fold (`OnTheWay`). Assumes nothing.
 use Rattle.lists.proofs.Kit.{refl, sym, arith}
 use Rattle.word_kinds.specs.Spots.{place_of}
-use Rattle.word_kinds.specs.Lent.{kind_by}
+use Rattle.word_kinds.specs.Lent.{kind_by, kinds_by}
 use Rattle.word_kinds.proofs.Telling.{tells_too, lands_here}
 use Rattle.word_rounds.proofs.Turning.{set_at}
 use Rattle.jumps.proofs.Running.{running_first, running_two, running_next, running_places, running_end}
@@ -13,7 +13,7 @@ loop-i-init c =
     let given = c.args in
     let course = c.requires.course in
     record {
-      running = running_first given.t.now given.folds.now (kind_by given.bounds.now given.s) given.jumps.now given.answers.now
+      running = running_first given.t.now given.folds.now (kinds_by given.by) given.jumps.now given.answers.now
           (place_of given.t.now given.p) course.kinds course.room;
       spot = c.requires.footing.round.folded.spot;
       bare = c.around-w.ensures;

@@ -2,8 +2,8 @@
 use Rattle.lists.proofs.Kit.{sym, ◌∙◌, rules}
 use Rattle.list_tokens.proofs.tokens.code_of.Goals as goal
 
-pub returns-in-Value : goal.returns-in-Value
-returns-in-Value c = rw (sym c.read_number.ensures ∙ c.in-Value.is) c.range.ensures
+pub returns-in-Some : goal.returns-in-Some
+returns-in-Some c = rw (sym c.read_number.ensures ∙ c.in-Some.is) c.range.ensures
 
-pub returns-in-Not : goal.returns-in-Not
-returns-in-Not c = rw (sym c.read_number.ensures ∙ c.in-Not.is) c.single_of.ensures
+pub returns-in-None : goal.returns-in-None
+returns-in-None c = rw (sym c.read_number.ensures ∙ c.in-None.is) c.single_of.ensures

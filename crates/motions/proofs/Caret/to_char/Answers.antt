@@ -19,19 +19,19 @@ placed-requires c =
       col = found_fits (row_at given.t.now given.self.row) given.self.col given.x given.forward given.till given.skip
           (c.find_on_row.ensures
           ∙ ap (λ (l : List ℕ). find_on_row l given.self.col given.x given.forward given.till given.skip) c.row-row.ensures)
-          c.in-At.is (omega (arith, c.requires.here.in_col)) c.requires.room;
+          c.in-Some.is (omega (arith, c.requires.here.in_col)) c.requires.room;
     }
 
-pub returns-in-At : goal.returns-in-At
+pub returns-in-Some : goal.returns-in-Some
 unfolding lands_on
-returns-in-At c =
+returns-in-Some c =
     let given = c.args in
-    ap Found c.placed.ensures ∙ ap (lands_on given.self) (sym c.in-At.is ∙ c.find_on_row.ensures
+    ap Found c.placed.ensures ∙ ap (lands_on given.self) (sym c.in-Some.is ∙ c.find_on_row.ensures
     ∙ ap (λ (l : List ℕ). find_on_row l given.self.col given.x given.forward given.till given.skip) c.row-row.ensures)
 
-pub returns-in-Nothing : goal.returns-in-Nothing
+pub returns-in-None : goal.returns-in-None
 unfolding lands_on
-returns-in-Nothing c =
+returns-in-None c =
     let given = c.args in
-    ap Missing c.cleared.ensures ∙ ap (lands_on given.self) (sym c.in-Nothing.is ∙ c.find_on_row.ensures
+    ap Missing c.cleared.ensures ∙ ap (lands_on given.self) (sym c.in-None.is ∙ c.find_on_row.ensures
     ∙ ap (λ (l : List ℕ). find_on_row l given.self.col given.x given.forward given.till given.skip) c.row-row.ensures)

@@ -5,15 +5,15 @@ use Rattle.replay.proofs.tallies.row_verdict.Goals as goal
 
 pub slice_bounds-verdict_of-end : goal.slice_bounds-verdict_of-end
 slice_bounds-verdict_of-end c =
-    count_within c.read_row.ensures _ c.in-Count.is
+    count_within c.read_row.ensures _ c.in-Some.is
 
-pub slice_bounds-verdict_of-end-in-Count : goal.slice_bounds-verdict_of-end-in-Count
-slice_bounds-verdict_of-end-in-Count c =
-    sym (length-take-le _ _ (count_within c.read_row.ensures _ c.in-Count.is))
+pub slice_bounds-verdict_of-end-in-Some : goal.slice_bounds-verdict_of-end-in-Some
+slice_bounds-verdict_of-end-in-Some c =
+    sym (length-take-le _ _ (count_within c.read_row.ensures _ c.in-Some.is))
 
-pub returns-in-Count : goal.returns-in-Count
-returns-in-Count c =
-    judged_count c.read_row.ensures _ c.in-Count.is c.verdict_of.ensures
+pub returns-in-Some : goal.returns-in-Some
+returns-in-Some c =
+    judged_count c.read_row.ensures _ c.in-Some.is c.verdict_of.ensures
 
-pub returns-in-Malformed : goal.returns-in-Malformed
-returns-in-Malformed c = judged_malformed c.read_row.ensures c.in-Malformed.is
+pub returns-in-None : goal.returns-in-None
+returns-in-None c = judged_malformed c.read_row.ensures c.in-None.is

@@ -1,6 +1,6 @@
 -- `row_wrap::breaks::count_segments` meets its contract. The invariant of its loop: n segments are passed, and the next begins at `start`.
 -- The measure is the row's length less `start`. Assumes nothing.
-use Rattle.lists.proofs.Kit.{refl, sym, ◌-◌, arith}
+use Rattle.lists.proofs.Kit.{refl, sym, arith}
 use Rattle.row_wrap.proofs.Walk.{walk_start, walk_next, walk_count, walk_end}
 use Rattle.row_wrap.proofs.breaks.count_segments.Goals as goal
 

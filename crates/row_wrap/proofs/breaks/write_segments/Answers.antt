@@ -1,6 +1,6 @@
 -- `row_wrap::breaks::write_segments` meets its contract. The invariant of its loop: the first `at` numbers of the
 -- segments stand in the room, and the next segment begins at `start`. The measure is the row's length less `start`. Assumes nothing.
-use Rattle.lists.proofs.Kit.{◌-◌, arith}
+use Rattle.lists.proofs.Kit.{arith}
 use Rattle.row_wrap.proofs.Room.{filled_start, filled_two_lem, filled_end}
 use Rattle.row_wrap.proofs.Walk.{walk_start, walk_next, walk_end}
 use Rattle.row_wrap.proofs.breaks.write_segments.Goals as goal

@@ -20,27 +20,27 @@ jump_to-requires c =
     let content = required.counts.content_rows in
     let near = content_near given.t.now in
     let by_end_within = end_within given.folds.now given.rows given.content (omega (arith, content)) (omega (arith, content, all)) given.down
-    given.l.row _ _ (omega (arith, required.line.in_row, all)) (sym c.closed_fold_at.ensures ∙ c.in-Of.is) in
+    given.l.row _ _ (omega (arith, required.line.in_row, all)) (sym c.closed_fold_at.ensures ∙ c.in-Some.is) in
     record { line = required.line; small = required.small; in_rows = omega (arith, by_end_within, c.pick.ensures, all) }
 
-pub returns-in-Of : goal.returns-in-Of
-returns-in-Of c =
+pub returns-in-Some : goal.returns-in-Some
+returns-in-Some c =
     let given = c.args in
     let jump_to_told = c.jump_to.ensures in
     record {
       place = jump_to_told.place ∙ ap (jumped_to given.t.now (record { row = given.l.row; col = given.col })) c.pick.ensures ∙
           sym (jumped_out given.t.now given.folds.now given.down (record { row = given.l.row; col = given.col })
-          c.requires.counts c.closed_fold_at.ensures _ _ c.in-Of.is);
+          c.requires.counts c.closed_fold_at.ensures _ _ c.in-Some.is);
       line = jump_to_told.line;
       small = jump_to_told.small;
     }
 
-pub returns-in-NoSpan : goal.returns-in-NoSpan
-returns-in-NoSpan c =
+pub returns-in-None : goal.returns-in-None
+returns-in-None c =
     let given = c.args in
     record {
       place = sym (jumped_not given.t.now given.folds.now given.down (record { row = given.l.row; col = given.col })
-          c.requires.counts c.closed_fold_at.ensures c.in-NoSpan.is);
+          c.requires.counts c.closed_fold_at.ensures c.in-None.is);
       line = c.requires.line;
       small = c.requires.small;
     }

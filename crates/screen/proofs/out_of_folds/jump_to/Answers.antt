@@ -20,4 +20,4 @@ returns c =
     let given = c.args in
     jump_other given.t.now given.l given.col given.row c.requires c.line_to-m.result c.row_len-n.result _
     c.if-row-from.false c.line_to-m.ensures c.row_len-n.ensures
-    (c.least.ensures ∙ ap (min given.col) c.minus.ensures)
+    (c.min.ensures ∙ ap (min given.col) c.saturating_sub.ensures)

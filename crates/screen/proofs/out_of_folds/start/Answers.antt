@@ -2,9 +2,9 @@
 use Rattle.lists.proofs.Kit.{refl}
 use Rattle.screen.proofs.out_of_folds.start.Goals as goal
 
-pub returns-in-Absent : goal.returns-in-Absent
-returns-in-Absent c = rw c.in-Absent.is c.jump.ensures
+pub returns-in-None : goal.returns-in-None
+returns-in-None c = rw c.in-None.is c.jump.ensures
 
-pub returns-in-At : goal.returns-in-At
-returns-in-At c =
-    rw c.in-At.is (record { place = refl; line = c.requires.line; small = c.requires.small })
+pub returns-in-Some : goal.returns-in-Some
+returns-in-Some c =
+    rw c.in-Some.is (record { place = refl; line = c.requires.line; small = c.requires.small })

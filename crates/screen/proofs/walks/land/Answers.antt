@@ -1,5 +1,5 @@
 use Rattle.lists.proofs.Kit.{ap, List, ℕ, arith}
-use Rattle.chars.specs.Width.{width_by}
+use Rattle.chars.specs.Width.{width_with}
 use Rattle.text.proofs.Parts.{row_fits}
 use Rattle.screen_segments.specs.Parts.{segment_count, lay_of}
 use Rattle.screen.proofs.Landing.{part_starts, place_is}
@@ -8,7 +8,7 @@ use Rattle.screen.proofs.walks.land.Goals as goal
 pub ahead_of-index-requires : goal.ahead_of-index-requires
 ahead_of-index-requires c =
     let given = c.args in
-    let width = width_by given.zeros.now given.doubles.now in
+    let width = width_with given.by in
     omega (
       arith,
       c.segment_count-count.ensures.count,
@@ -19,7 +19,7 @@ ahead_of-index-requires c =
 pub clamp_to_segment-requires : goal.clamp_to_segment-requires
 clamp_to_segment-requires c =
     let given = c.args in
-    let width = width_by given.zeros.now given.doubles.now in
+    let width = width_with given.by in
     let by_part_starts = part_starts width given.t.now given.word given.width given.down given.s.row c.row-row.ensures
     given.s.ahead c.segment_count-count.ensures.count
     c.ahead_of-index.ensures c.find_segment-part.ensures.part c.requires.spot.inside in
@@ -28,7 +28,7 @@ clamp_to_segment-requires c =
 pub returns : goal.returns
 returns c =
     let given = c.args in
-    let width = width_by given.zeros.now given.doubles.now in
+    let width = width_with given.by in
     place_is width given.t.now given.word given.width given.down given.s.row c.row-row.ensures given.s.ahead
     c.segment_count-count.ensures.count c.ahead_of-index.ensures c.find_segment-part.ensures.part
     c.requires.spot.inside given.offset _ c.clamp_to_segment.ensures

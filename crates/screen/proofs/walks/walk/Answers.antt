@@ -1,7 +1,7 @@
 -- `walks::walk` meets its contract. The invariant of its loop: the n rounds from the first spot are the `left` rounds from this one,
 -- and no fold hides the next `free` rows. The measure is `left`. Assumes nothing.
 use Rattle.lists.proofs.Kit.{◌≡◌, refl, sym, ap, ◌∙◌, List, ℕ, arith}
-use Rattle.chars.specs.Width.{width_by}
+use Rattle.chars.specs.Width.{width_with}
 use Rattle.text.proofs.Parts.{count_le}
 use Rattle.text.proofs.Stands.{line_there, stands_own}
 use Rattle.text.specs.declared.Line.{Line}
@@ -39,7 +39,7 @@ line_to-next-requires c =
         arith,
         all,
         toward_within given.folds.now given.rows given.down c.loop-ahead.row _ (omega (arith, all, c.loop-ahead.invariant.walking.line.in_row))
-            (sym c.hop-hop.ensures.found ∙ c.in-Row.is),
+            (sym c.hop-hop.ensures.found ∙ c.in-Some.is),
       ),
     )
 
@@ -51,7 +51,7 @@ row-line-requires c =
       arith,
       all,
       toward_within given.folds.now given.rows given.down c.loop-ahead.row _ (omega (arith, all, c.loop-ahead.invariant.walking.line.in_row))
-          (sym c.hop-hop.ensures.found ∙ c.in-Row.is),
+          (sym c.hop-hop.ensures.found ∙ c.in-Some.is),
     ))
 
 pub segment_count-ahead-requires : goal.segment_count-ahead-requires
@@ -63,11 +63,11 @@ pub loop-ahead-preserved : goal.loop-ahead-preserved
 loop-ahead-preserved c =
     let given = c.args in
     let all = c.requires.ready.all_rows in
-    let width = width_by given.zeros.now given.doubles.now in
-    let is = c.in-Row.is in
+    let width = width_with given.by in
+    let is = c.in-Some.is in
     let seen = sym c.hop-hop.ensures.found ∙ is in
     let found = ap (λ (n : ℕ). toward given.folds.now n given.down c.loop-ahead.row) (sym all) ∙ seen in
-    let there : c.line_to-next.result.row ≡ c.in-Row.x = ap (λ (x : Line). x.row) c.line_to-next.ensures in
+    let there : c.line_to-next.result.row ≡ c.in-Some.x = ap (λ (x : Line). x.row) c.line_to-next.ensures in
     record {
       walking = walking_cross c.loop-ahead.invariant.walking _ c.segment_count-ahead.result c.line_to-next.result c.loop-ahead-test.true found
           (omega (
@@ -81,12 +81,12 @@ loop-ahead-preserved c =
       clear = rw there (c.hop-hop.ensures.onward _ is);
     }
 
-pub returns-in-NoRow : goal.returns-in-NoRow
-returns-in-NoRow c =
+pub returns-in-None : goal.returns-in-None
+returns-in-None c =
     let given = c.args in
     let none = ap (λ (k : ℕ). toward given.folds.now k given.down c.loop-ahead.row) (sym c.requires.ready.all_rows)
     ∙ sym c.hop-hop.ensures.found ∙
-    c.in-NoRow.is in
+    c.in-None.is in
     record {
       leads = walking_edge c.loop-ahead.invariant.walking given.from refl refl (omega (arith, c.loop-ahead-test.true)) none;
       stands = walking_spot c.loop-ahead.invariant.walking 0 (omega arith);

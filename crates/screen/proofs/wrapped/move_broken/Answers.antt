@@ -1,6 +1,6 @@
 use Rattle.lists.proofs.Kit.{refl, arith}
 use Rattle.chars.specs.White.{whites}
-use Rattle.chars.specs.Width.{width_by}
+use Rattle.chars.specs.Width.{width_with}
 use Rattle.text.proofs.Parts.{row_fits}
 use Rattle.screen_segments.specs.Parts.{lay_of}
 use Rattle.screen.proofs.Spans.{target_made}
@@ -36,7 +36,7 @@ screen_from-g-requires c =
           folds_good = rw required.counts.all_rows place.folds_good;
         };
         line = c.start-j.ensures.line;
-        some = omega (arith, c.most-n.ensures);
+        some = omega (arith, c.max-n.ensures);
       };
       small = c.start-j.ensures.small;
     }
@@ -44,7 +44,7 @@ screen_from-g-requires c =
 pub returns : goal.returns
 returns c =
     let given = c.args in
-    let width = width_by given.zeros.now given.doubles.now in
+    let width = width_with given.by in
     target_made width given.t.now given.folds.now given.tabstop (lay_of width given.word given.width) given.down given.count
     given.l.row given.col given.sticky given.offset
-    c.wanted-want.ensures c.most-n.ensures c.start-j.ensures.place c.screen_from-g.ensures.answer
+    c.wanted-want.ensures c.max-n.ensures c.start-j.ensures.place c.screen_from-g.ensures.answer

@@ -30,7 +30,7 @@ pub loop-preserved : goal.loop-preserved
 loop-preserved c =
     let invariant = c.loop.invariant in
     let some : 0 < c.loop.at = omega arith in
-    let left : c.loop.counter < max c.args.count 1 = omega (arith, c.loop-test.true, c.most-end.ensures) in
+    let left : c.loop.counter < max c.args.count 1 = omega (arith, c.loop-test.true, c.max-end.ensures) in
     elim c.if-t-at-eq10.branch [
       | then-t-at-eq10+then-at-gt0+then-t-at-ne10 w ↦ rw (w.row-is, w.at-is) (going_on_lem invariant _ _ _ left
           (back_char (back_end invariant.stands some w.if-t-at-eq10.true) w.if-at-gt0.true w.if-t-at-ne10.true)
@@ -48,5 +48,5 @@ pub returns : goal.returns
 returns c =
     ap (λ (s : ℕ). position c.loop.row (c.loop.at - s))
     (up_start c.args.t.now c.up-l.result c.loop.row c.up-l.ensures) ∙
-    going_done c.loop.invariant (omega (arith, c.loop-test.false, c.most-end.ensures)) ∙
+    going_done c.loop.invariant (omega (arith, c.loop-test.false, c.max-end.ensures)) ∙
     going_from (backspace_back c.args.t.now) _ c.args.p c.args.e.start _ c.requires.line.begins

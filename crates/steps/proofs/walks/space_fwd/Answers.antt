@@ -36,7 +36,7 @@ pub loop-preserved : goal.loop-preserved
 loop-preserved c =
     let invariant = c.loop.invariant in
     let more = c.if-at-t.false in
-    let left : c.loop.counter < max c.args.count 1 = omega (arith, c.loop-test.true, c.most-end.ensures) in
+    let left : c.loop.counter < max c.args.count 1 = omega (arith, c.loop-test.true, c.max-end.ensures) in
     elim c.if-t-at-eq10.branch [
       | then-t-at-eq10 w ↦ rw (w.row-is, w.start-is, w.at-is) (going_on_lem invariant _ _ _ left (step_nl invariant.stands more w.if-t-at-eq10.true)
           (space_nl invariant.stands more w.if-t-at-eq10.true))
@@ -50,5 +50,5 @@ loop-preserved c =
 
 pub returns : goal.returns
 returns c =
-    going_done c.loop.invariant (omega (arith, c.loop-test.false, c.most-end.ensures)) ∙
+    going_done c.loop.invariant (omega (arith, c.loop-test.false, c.max-end.ensures)) ∙
     going_from (space_fwd c.args.t.now) _ c.args.p c.args.e.start _ refl

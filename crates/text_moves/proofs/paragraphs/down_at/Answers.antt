@@ -8,7 +8,7 @@ pub returns-then-row-last : goal.returns-then-row-last
 returns-then-row-last c =
     let given = c.args in
     rw (eq-eqb given.l.row (content_rows given.t.now - 1) (c.if-row-last.true ∙ c.requires.last_is))
-    (ap (position given.l.row) (c.minus.ensures ∙ ap (λ (x : ℕ). x - 1) c.row_len-n.ensures))
+    (ap (position given.l.row) (c.saturating_sub.ensures ∙ ap (λ (x : ℕ). x - 1) c.row_len-n.ensures))
 
 pub returns : goal.returns
 returns c =

@@ -14,26 +14,26 @@ find_paragraph-requires c =
     let required = c.requires in
     record {
       round = record { line = required.line; is_last = ap (λ (n : ℕ). n - 1) required.content_rows; brief = required.brief };
-      some = omega (arith, c.most.ensures);
+      some = omega (arith, c.max.ensures);
     }
 
 pub down_at-requires : goal.down_at-requires
 down_at-requires c =
     record {
-      line = rw c.in-At.is at c.find_paragraph.ensures.line;
+      line = rw c.in-Some.is at c.find_paragraph.ensures.line;
       last_is = ap (λ (n : ℕ). n - 1) c.requires.content_rows;
     }
 
-pub returns-in-At : goal.returns-in-At
-returns-in-At c =
+pub returns-in-Some : goal.returns-in-Some
+returns-in-Some c =
     let given = c.args in
     c.down_at.ensures ∙ ap (down_at given.t.now given.p)
-    (led given.t.now true given.p.row c.in-At.is c.find_paragraph.ensures.answer
-    c.most.ensures)
+    (led given.t.now true given.p.row c.in-Some.is c.find_paragraph.ensures.answer
+    c.max.ensures)
 
-pub returns-in-Nothing : goal.returns-in-Nothing
-returns-in-Nothing c =
+pub returns-in-None : goal.returns-in-None
+returns-in-None c =
     let given = c.args in
     ap (down_at given.t.now given.p)
-    (led given.t.now true given.p.row c.in-Nothing.is c.find_paragraph.ensures.answer
-    c.most.ensures)
+    (led given.t.now true given.p.row c.in-None.is c.find_paragraph.ensures.answer
+    c.max.ensures)

@@ -14,17 +14,17 @@ find_paragraph-requires c =
     let required = c.requires in
     record {
       round = record { line = required.line; is_last = ap (λ (n : ℕ). n - 1) required.content_rows; brief = required.brief };
-      some = omega (arith, c.most.ensures);
+      some = omega (arith, c.max.ensures);
     }
 
-pub returns-in-At : goal.returns-in-At
-returns-in-At c =
+pub returns-in-Some : goal.returns-in-Some
+returns-in-Some c =
     let given = c.args in
-    ap (up_at given.p) (led given.t.now false given.p.row c.in-At.is c.find_paragraph.ensures.answer
-    c.most.ensures)
+    ap (up_at given.p) (led given.t.now false given.p.row c.in-Some.is c.find_paragraph.ensures.answer
+    c.max.ensures)
 
-pub returns-in-Nothing : goal.returns-in-Nothing
-returns-in-Nothing c =
+pub returns-in-None : goal.returns-in-None
+returns-in-None c =
     let given = c.args in
-    ap (up_at given.p) (led given.t.now false given.p.row c.in-Nothing.is c.find_paragraph.ensures.answer
-    c.most.ensures)
+    ap (up_at given.p) (led given.t.now false given.p.row c.in-None.is c.find_paragraph.ensures.answer
+    c.max.ensures)

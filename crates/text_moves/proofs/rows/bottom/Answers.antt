@@ -17,10 +17,10 @@ returns-then-count-eq0 c =
     (c.at_row.ensures ∙ ap (λ (n : ℕ). at_row c.args.t.now (n - 1)) c.requires.content_rows)
 
 pub at_row-requires-2 : goal.at_row-requires-2
-at_row-requires-2 c = record { accepted = c.requires; in_row = omega (arith, c.least.ensures, accepted_rows c.requires) }
+at_row-requires-2 c = record { accepted = c.requires; in_row = omega (arith, c.min.ensures, accepted_rows c.requires) }
 
 pub returns : goal.returns
 returns c =
     let given = c.args in
     rw (ne_eqb given.count 0 c.if-count-eq0.false) (c.at_row-2.ensures ∙
-    ap (at_row given.t.now) (c.least.ensures ∙ ap (λ (n : ℕ). min (given.count - 1) (n - 1)) c.requires.content_rows))
+    ap (at_row given.t.now) (c.min.ensures ∙ ap (λ (n : ℕ). min (given.count - 1) (n - 1)) c.requires.content_rows))

@@ -15,12 +15,12 @@ returns-then-p-last c =
 
 pub at_row-requires : goal.at_row-requires
 at_row-requires c =
-    record { accepted = c.requires; in_row = omega (arith, c.least.ensures, accepted_rows c.requires) }
+    record { accepted = c.requires; in_row = omega (arith, c.min.ensures, accepted_rows c.requires) }
 
 pub returns : goal.returns
 returns c =
     let given = c.args in
     rw (lt-leb (content_rows given.t.now - 1) given.p.row (omega (arith, c.requires.content_rows, c.if-p-last.false)))
-    (c.at_row.ensures ∙ ap (at_row given.t.now) (c.least.ensures ∙
-    ap (λ (n : ℕ). min (given.p.row + n) (given.e.content - 1)) c.most.ensures ∙
+    (c.at_row.ensures ∙ ap (at_row given.t.now) (c.min.ensures ∙
+    ap (λ (n : ℕ). min (given.p.row + n) (given.e.content - 1)) c.max.ensures ∙
     ap (λ (n : ℕ). min (given.p.row + max given.count 1) (n - 1)) c.requires.content_rows))

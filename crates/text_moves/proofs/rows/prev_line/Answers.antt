@@ -9,10 +9,10 @@ returns-then-p-eq0 c = rw (eq-eqb c.args.p.row 0 c.if-p-eq0.true)
 
 pub at_row-requires : goal.at_row-requires
 at_row-requires c =
-    record { accepted = c.requires; in_row = omega (arith, c.minus.ensures, c.requires.line.in_row, c.requires.all_rows) }
+    record { accepted = c.requires; in_row = omega (arith, c.saturating_sub.ensures, c.requires.line.in_row, c.requires.all_rows) }
 
 pub returns : goal.returns
 returns c =
     let given = c.args in
     rw (ne_eqb given.p.row 0 c.if-p-eq0.false)
-    (c.at_row.ensures ∙ ap (at_row given.t.now) (c.minus.ensures ∙ ap (λ (n : ℕ). given.p.row - n) c.most.ensures))
+    (c.at_row.ensures ∙ ap (at_row given.t.now) (c.saturating_sub.ensures ∙ ap (λ (n : ℕ). given.p.row - n) c.max.ensures))

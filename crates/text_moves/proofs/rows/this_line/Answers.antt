@@ -17,17 +17,17 @@ overflow_sub-last c = omega (arith, accepted_rows c.requires)
 pub returns-then-n-p : goal.returns-then-n-p
 returns-then-n-p c =
     let given = c.args in
-    rw (stays given.p.row given.count given.e.content (content_rows given.t.now) _ true c.most-n.ensures
+    rw (stays given.p.row given.count given.e.content (content_rows given.t.now) _ true c.max-n.ensures
     c.requires.content_rows c.if-n-p.true)
 
 pub at_row-requires : goal.at_row-requires
 at_row-requires c =
-    record { accepted = c.requires; in_row = omega (arith, c.least.ensures, accepted_rows c.requires) }
+    record { accepted = c.requires; in_row = omega (arith, c.min.ensures, accepted_rows c.requires) }
 
 pub returns : goal.returns
 returns c =
     let given = c.args in
-    rw (stays given.p.row given.count given.e.content (content_rows given.t.now) _ false c.most-n.ensures
-    c.requires.content_rows c.if-n-p.false) (c.at_row.ensures ∙ ap (at_row given.t.now) (c.least.ensures ∙
-    ap (λ (n : ℕ). min (given.p.row + (n - 1)) (given.e.content - 1)) c.most-n.ensures ∙
+    rw (stays given.p.row given.count given.e.content (content_rows given.t.now) _ false c.max-n.ensures
+    c.requires.content_rows c.if-n-p.false) (c.at_row.ensures ∙ ap (at_row given.t.now) (c.min.ensures ∙
+    ap (λ (n : ℕ). min (given.p.row + (n - 1)) (given.e.content - 1)) c.max-n.ensures ∙
     ap (λ (n : ℕ). min (given.p.row + (max given.count 1 - 1)) (n - 1)) c.requires.content_rows))

@@ -14,4 +14,4 @@ pub returns : goal.returns
 returns c =
     let given = c.args in
     ap (λ (r : ℕ). position r 0) (c.section_up-row.ensures.row ∙
-    ap (λ (n : ℕ). section_up given.t.now given.x n given.p.row) c.most.ensures)
+    ap (λ (n : ℕ). section_up given.t.now given.x n given.p.row) c.max.ensures)

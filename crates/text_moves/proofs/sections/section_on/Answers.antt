@@ -21,4 +21,4 @@ pub returns : goal.returns
 returns c =
     let given = c.args in
     ap (λ (r : ℕ). position r 0) (c.section_down-row.ensures.row ∙
-    ap (λ (n : ℕ). section_down given.t.now given.x n given.p.row (content_rows given.t.now - 1 - given.p.row)) c.most.ensures)
+    ap (λ (n : ℕ). section_down given.t.now given.x n given.p.row (content_rows given.t.now - 1 - given.p.row)) c.max.ensures)

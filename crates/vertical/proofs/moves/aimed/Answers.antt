@@ -23,4 +23,4 @@ pub returns : goal.returns
 returns c =
     let own : c.row-line.result.now ≡ row_at c.args.t.now c.args.row = c.row-line.ensures ∙
     ap (λ (x : Line). row_at c.args.t.now x.row) c.line_from-l.ensures in
-    rw (← own, ← c.char_col_in-c.ensures, ← c.minus.ensures) c.least.ensures
+    rw (← own, ← c.char_col_in-c.ensures, ← c.saturating_sub.ensures) c.min.ensures

@@ -1,6 +1,6 @@
 use Rattle.lists.proofs.Kit.{ap, ◌∙◌, arith}
 use lib.IntN.{ℤ}
-use Rattle.chars.specs.Width.{width_by}
+use Rattle.chars.specs.Width.{width_with}
 use Rattle.vertical.specs.Moves.{move_vertical}
 use Rattle.visible_rows.proofs.Signed.{read_delta, delta_asked}
 use Rattle.vertical.proofs.moves.move_rows.Goals as goal
@@ -16,6 +16,6 @@ pub returns : goal.returns
 returns c =
     let given = c.args in
     c.move_vertical.ensures ∙
-    ap (λ (z : ℤ). move_vertical (width_by given.zeros.now given.doubles.now) given.t.now given.folds.now given.tabstop z
+    ap (λ (z : ℤ). move_vertical (width_with given.by) given.t.now given.folds.now given.tabstop z
     given.l.row given.col given.sticky)
     (read_delta given.down given.count (omega (arith, c.ranges.count)) _ c.delta_of.ensures)

@@ -2,7 +2,7 @@
 -- Assumes nothing.
 use Rattle.lists.proofs.Kit.{◌∙◌, arith}
 use mir.Facts.{to_z-of_z}
-use Rattle.chars.specs.Width.{width_by}
+use Rattle.chars.specs.Width.{width_with}
 use Rattle.text.proofs.Parts.{count_le}
 use Rattle.vertical.proofs.Landed.{reached, stays_is, lands_is}
 use Rattle.vertical.proofs.moves.move_vertical.Goals as goal
@@ -22,7 +22,7 @@ vertical_row-row-requires c =
 pub returns-then-row-from : goal.returns-then-row-from
 returns-then-row-from c =
     let given = c.args in
-    let width = width_by given.zeros.now given.doubles.now in
+    let width = width_with given.by in
     let to = c.vertical_row-row.ensures.row ∙
     reached given.folds.now given.l.row c.requires.ready.all_rows (to_z-of_z c.ranges.delta) in
     stays_is width given.t.now given.tabstop given.l.row given.col c.wanted-want.ensures to c.if-row-from.true
@@ -46,7 +46,7 @@ aimed-c-requires c =
 pub returns : goal.returns
 returns c =
     let given = c.args in
-    let width = width_by given.zeros.now given.doubles.now in
+    let width = width_with given.by in
     let to = c.vertical_row-row.ensures.row ∙
     reached given.folds.now given.l.row c.requires.ready.all_rows (to_z-of_z c.ranges.delta) in
     lands_is width given.t.now given.tabstop given.l.row given.col c.wanted-want.ensures to c.if-row-from.false c.aimed-c.ensures

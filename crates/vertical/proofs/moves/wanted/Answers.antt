@@ -1,5 +1,5 @@
 use Rattle.lists.proofs.Kit.{ap, sym, ◌∙◌, List, ℕ}
-use Rattle.chars.specs.Width.{width_by}
+use Rattle.chars.specs.Width.{width_with}
 use Rattle.row_columns.specs.Columns.{cursor_col}
 use Rattle.vertical.specs.Moves.{wanted_col}
 use Rattle.vertical.proofs.Accepted.{row_ready}
@@ -11,17 +11,17 @@ cursor_col_in-requires c =
     record { widths = required.widths; fits = row_ready required.place.row_good c.row-line.ensures }
 
 -- the sticky column
-pub returns-in-At : goal.returns-in-At
-returns-in-At c =
+pub returns-in-Some : goal.returns-in-Some
+returns-in-Some c =
     let given = c.args in
-    let width = width_by given.zeros.now given.doubles.now in
-    sym (ap (wanted_col width given.t.now given.tabstop given.l.row given.col) c.in-At.is)
+    let width = width_with given.by in
+    sym (ap (wanted_col width given.t.now given.tabstop given.l.row given.col) c.in-Some.is)
 
 -- the cursor's own
-pub returns-in-Absent : goal.returns-in-Absent
-returns-in-Absent c =
+pub returns-in-None : goal.returns-in-None
+returns-in-None c =
     let given = c.args in
-    let width = width_by given.zeros.now given.doubles.now in
+    let width = width_with given.by in
     c.cursor_col_in.ensures ∙
     ap (λ (x : List ℕ). cursor_col width given.tabstop x given.col) c.row-line.ensures ∙
-    sym (ap (wanted_col width given.t.now given.tabstop given.l.row given.col) c.in-Absent.is)
+    sym (ap (wanted_col width given.t.now given.tabstop given.l.row given.col) c.in-None.is)

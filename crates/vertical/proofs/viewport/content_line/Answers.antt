@@ -9,9 +9,9 @@ overflow_sub-content c = omega (arith, c.requires.content_rows, content_near c.a
 
 pub row_line-requires : goal.row_line-requires
 row_line-requires c =
-    (c.requires.all_rows, omega (arith, c.least.ensures, c.requires.all_rows, c.requires.content_rows, content_near c.args.t.now))
+    (c.requires.all_rows, omega (arith, c.min.ensures, c.requires.all_rows, c.requires.content_rows, content_near c.args.t.now))
 
 pub returns : goal.returns
 returns c =
     let given = c.args in
-    c.row_line.ensures ∙ ap (line_at given.t.now) (c.least.ensures ∙ ap (λ (n : ℕ). min given.row (n - 1)) c.requires.content_rows)
+    c.row_line.ensures ∙ ap (line_at given.t.now) (c.min.ensures ∙ ap (λ (n : ℕ). min given.row (n - 1)) c.requires.content_rows)

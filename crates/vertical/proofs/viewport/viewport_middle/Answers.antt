@@ -1,4 +1,4 @@
 use Rattle.vertical.proofs.viewport.viewport_middle.Goals as goal
 
 pub returns : goal.returns
-returns c = rw (← c.bottom_row-bottom.ensures, ← c.minus.ensures) c.content_line.ensures
+returns c = rw (← c.bottom_row-bottom.ensures, ← c.saturating_sub.ensures) c.content_line.ensures

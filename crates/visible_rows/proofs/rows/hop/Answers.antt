@@ -8,10 +8,10 @@ returns-then-free-gt0 c = hop_free c.requires.clear _ c.shifted.ensures c.if-fre
 pub free_rows-requires : goal.free_rows-requires
 free_rows-requires c =
     toward_within c.args.folds.now c.args.rows c.args.down c.args.row _ c.requires.walk.row_good.in_rows
-    (sym c.visible_row.ensures ∙ c.in-Row.is)
+    (sym c.visible_row.ensures ∙ c.in-Some.is)
 
-pub returns-in-Row : goal.returns-in-Row
-returns-in-Row c = hop_past _ (sym c.visible_row.ensures ∙ c.in-Row.is) c.free_rows.ensures
+pub returns-in-Some : goal.returns-in-Some
+returns-in-Some c = hop_past _ (sym c.visible_row.ensures ∙ c.in-Some.is) c.free_rows.ensures
 
-pub returns-in-NoRow : goal.returns-in-NoRow
-returns-in-NoRow c = hop_none (sym c.visible_row.ensures ∙ c.in-NoRow.is)
+pub returns-in-None : goal.returns-in-None
+returns-in-None c = hop_none (sym c.visible_row.ensures ∙ c.in-None.is)

@@ -53,7 +53,7 @@ loop-left-preserved c =
     let given = c.args in
     let found = ap (toward given.folds.now given.rows given.down) (sym c.shifted-edge.ensures)
     ∙ sym c.visible_row.ensures ∙
-    c.in-Row.is in
+    c.in-Some.is in
     record {
       same = c.loop-left.invariant.same
           ∙ free_hop c.free_rows-free.ensures c.loop-left.left (omega (arith, c.if-left-free.false)) _ found;
@@ -63,12 +63,12 @@ loop-left-preserved c =
     }
 
 -- none does
-pub returns-in-NoRow : goal.returns-in-NoRow
-returns-in-NoRow c =
+pub returns-in-None : goal.returns-in-None
+returns-in-None c =
     let given = c.args in
     let none = ap (toward given.folds.now given.rows given.down) (sym c.shifted-edge.ensures)
     ∙ sym c.visible_row.ensures ∙
-    c.in-NoRow.is in
+    c.in-None.is in
     record {
       row = c.shifted-edge.ensures ∙ sym (c.loop-left.invariant.same ∙ free_edge c.free_rows-free.ensures c.loop-left.left
           (omega (arith, c.if-left-free.false)) none);

@@ -4,4 +4,4 @@ pub returns-then-down : goal.returns-then-down
 returns-then-down c = rw c.if-down.true
 
 pub returns-else-down : goal.returns-else-down
-returns-else-down c = rw c.if-down.false c.minus.ensures
+returns-else-down c = rw c.if-down.false c.saturating_sub.ensures

@@ -13,14 +13,14 @@ pub row_start-requires : goal.row_start-requires
 row_start-requires c =
     record {
       stands = c.requires.stands;
-      not_before = (span_rows c.requires c.closed_fold_at.ensures _ _ c.in-Of.is).0;
+      not_before = (span_rows c.requires c.closed_fold_at.ensures _ _ c.in-Some.is).0;
     }
 
-pub returns-in-Of : goal.returns-in-Of
-returns-in-Of c =
+pub returns-in-Some : goal.returns-in-Some
+returns-in-Some c =
     c.row_start.ensures ∙ ap (to_first c.args.c.now c.args.p.at)
-    (sym c.in-Of.is ∙ span_at c.requires c.closed_fold_at.ensures)
+    (sym c.in-Some.is ∙ span_at c.requires c.closed_fold_at.ensures)
 
-pub returns-in-NoSpan : goal.returns-in-NoSpan
-returns-in-NoSpan c =
-    ap (to_first c.args.c.now c.args.p.at) (sym c.in-NoSpan.is ∙ span_at c.requires c.closed_fold_at.ensures)
+pub returns-in-None : goal.returns-in-None
+returns-in-None c =
+    ap (to_first c.args.c.now c.args.p.at) (sym c.in-None.is ∙ span_at c.requires c.closed_fold_at.ensures)

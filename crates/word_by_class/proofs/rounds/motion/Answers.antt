@@ -1,5 +1,5 @@
 -- `word_by_class::rounds::motion` meets its contract: the first round, and the rest of the count from where it ended. Assumes nothing.
-use Rattle.lists.proofs.Kit.{ap, sym, ◌∙◌, false, arith}
+use Rattle.lists.proofs.Kit.{ap, sym, ◌∙◌, false, ℕ, ◌-◌, arith}
 use Rattle.word_by_class.specs.Rounds.{round_of, counted}
 use Rattle.word_by_class.proofs.Counts.{motion_on, motion_off}
 use Rattle.word_by_class.proofs.Fits.{on_in}
@@ -23,7 +23,7 @@ returns-in-On c =
     let given = c.args in
     c.rounds.ensures ∙ ap (counted (round_of given.c.now given.folds.now given.big given.m false) _) c.moved.ensures.place
     ∙ motion_on given.c.now given.folds.now given.big given.m given.stop given.count given.p.at _ _
-    (sym c.round.ensures ∙ c.in-On.is) c.rest.ensures
+    (sym c.round.ensures ∙ c.in-On.is) (ap (λ (n : ℕ). n - 1) c.max.ensures)
 
 pub returns-in-Off : goal.returns-in-Off
 returns-in-Off c =

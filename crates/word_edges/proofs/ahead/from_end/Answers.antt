@@ -3,9 +3,9 @@ use Rattle.word_kinds.proofs.Telling.{tells_as, tells_too}
 use Rattle.word_edges.proofs.Starts.{ready_at}
 use Rattle.word_edges.proofs.ahead.from_end.Goals as goal
 
-pub returns-then-not-s : goal.returns-then-not-s
-returns-then-not-s c =
-    tells_too c.over_space.ensures (rw (not-true c.args.s.big c.if-not-s.true))
+pub returns-then-not-by : goal.returns-then-not-by
+returns-then-not-by c =
+    tells_too c.over_space.ensures (rw (c.if-not-by.true))
 
 pub over_space-requires-in-Onto : goal.over_space-requires-in-Onto
 over_space-requires-in-Onto c =
@@ -14,9 +14,9 @@ over_space-requires-in-Onto c =
 pub returns-in-Onto : goal.returns-in-Onto
 returns-in-Onto c =
     let found = tells_as c.skip.ensures c.in-Onto.is in
-    tells_too c.over_space-in-Onto.ensures (rw (← found.place, not-false c.args.s.big c.if-not-s.false))
+    tells_too c.over_space-in-Onto.ensures (rw (← found.place, c.if-not-by.false))
 
 pub returns-in-Stuck : goal.returns-in-Stuck
 returns-in-Stuck c =
     let found = tells_as c.skip.ensures c.in-Stuck.is in
-    record { place = rw (← found.place, not-false c.args.s.big c.if-not-s.false); inside = tt }
+    record { place = rw (← found.place, c.if-not-by.false); inside = tt }

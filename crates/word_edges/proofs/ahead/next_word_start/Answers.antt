@@ -7,18 +7,18 @@ use Rattle.word_edges.proofs.ahead.next_word_start.Goals as goal
 
 pub from_end-requires : goal.from_end-requires
 from_end-requires c =
-    ready_at c.requires _ (tells_as c.step_forward.ensures c.in-To.is).inside.spot
+    ready_at c.requires _ (tells_as c.step_forward.ensures c.in-Some.is).inside.spot
 
-pub returns-in-To : goal.returns-in-To
+pub returns-in-Some : goal.returns-in-Some
 unfolding next_word_start
-returns-in-To c =
-    let found = tells_as c.step_forward.ensures c.in-To.is in
+returns-in-Some c =
+    let found = tells_as c.step_forward.ensures c.in-Some.is in
     tells_too c.from_end.ensures (rw (← c.kind_at-k.ensures, eq-eqb _ _ c.if-k-eq-END.true, ← found.place))
 
-pub returns-in-Nowhere : goal.returns-in-Nowhere
+pub returns-in-None : goal.returns-in-None
 unfolding next_word_start
-returns-in-Nowhere c =
-    let found = tells_as c.step_forward.ensures c.in-Nowhere.is in
+returns-in-None c =
+    let found = tells_as c.step_forward.ensures c.in-None.is in
     record { place = rw (← c.kind_at-k.ensures, eq-eqb _ _ c.if-k-eq-END.true, ← found.place); inside = tt }
 
 pub over_space-requires : goal.over_space-requires

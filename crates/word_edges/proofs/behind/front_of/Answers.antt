@@ -5,16 +5,16 @@ use Rattle.word_edges.proofs.behind.front_of.Goals as goal
 pub inc-requires : goal.inc-requires
 inc-requires c = (tells_as c.back.ensures c.in-Onto.is).inside
 
-pub returns-in-To : goal.returns-in-To
-returns-in-To c =
+pub returns-in-Some : goal.returns-in-Some
+returns-in-Some c =
     let found = tells_as c.back.ensures c.in-Onto.is in
-    let next = tells_as c.inc.ensures c.in-To.is in
+    let next = tells_as c.inc.ensures c.in-Some.is in
     record { place = rw (← c.cls-k.ensures, ← found.place, ← next.place); inside = next.inside.spot }
 
-pub returns-in-Nowhere : goal.returns-in-Nowhere
-returns-in-Nowhere c =
+pub returns-in-None : goal.returns-in-None
+returns-in-None c =
     let found = tells_as c.back.ensures c.in-Onto.is in
-    let next = tells_as c.inc.ensures c.in-Nowhere.is in
+    let next = tells_as c.inc.ensures c.in-None.is in
     record { place = rw (← c.cls-k.ensures, ← found.place, ← next.place); inside = found.inside }
 
 pub returns-in-Stuck : goal.returns-in-Stuck

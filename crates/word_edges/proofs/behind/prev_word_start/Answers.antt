@@ -5,16 +5,16 @@ use Rattle.word_edges.proofs.behind.prev_word_start.Goals as goal
 
 pub front_from-requires : goal.front_from-requires
 front_from-requires c =
-    ready_at c.requires _ (tells_as c.dec.ensures c.in-To.is).inside.spot
+    ready_at c.requires _ (tells_as c.dec.ensures c.in-Some.is).inside.spot
 
-pub returns-in-To : goal.returns-in-To
+pub returns-in-Some : goal.returns-in-Some
 unfolding prev_word_start
-returns-in-To c =
-    let found = tells_as c.dec.ensures c.in-To.is in
+returns-in-Some c =
+    let found = tells_as c.dec.ensures c.in-Some.is in
     tells_too c.front_from.ensures (rw (← found.place))
 
-pub returns-in-Nowhere : goal.returns-in-Nowhere
+pub returns-in-None : goal.returns-in-None
 unfolding prev_word_start
-returns-in-Nowhere c =
-    let found = tells_as c.dec.ensures c.in-Nowhere.is in
+returns-in-None c =
+    let found = tells_as c.dec.ensures c.in-None.is in
     record { place = rw (← found.place); inside = tt }

@@ -2,10 +2,10 @@ use Rattle.lists.proofs.Kit.{sym, ◌∙◌}
 use Rattle.word_hops.specs.Hops.{next_end}
 use Rattle.word_hops.proofs.on.next_end.Goals as goal
 
-pub returns-in-To : goal.returns-in-To
+pub returns-in-Some : goal.returns-in-Some
 unfolding next_end
-returns-in-To c = rw (sym c.forward.ensures ∙ c.in-To.is) c.end_from.ensures
+returns-in-Some c = rw (sym c.forward.ensures ∙ c.in-Some.is) c.end_from.ensures
 
-pub returns-in-Nowhere : goal.returns-in-Nowhere
+pub returns-in-None : goal.returns-in-None
 unfolding next_end
-returns-in-Nowhere c = rw (sym c.forward.ensures ∙ c.in-Nowhere.is)
+returns-in-None c = rw (sym c.forward.ensures ∙ c.in-None.is)

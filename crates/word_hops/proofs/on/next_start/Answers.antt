@@ -1,33 +1,32 @@
 -- `word_hops::on::next_start` meets its contract, from a row's end and from a character. Assumes nothing.
-use Rattle.lists.proofs.Kit.{ap, sym, ◌∙◌}
-use Rattle.word_places.specs.declared.Step.TheVariants.{To}
+use Rattle.lists.proofs.Kit.{ap, sym, ◌∙◌, Some}
 use Rattle.word_hops.specs.Hops.{next_start}
 use Rattle.word_hops.proofs.on.next_start.Goals as goal
 
-pub returns-in-To : goal.returns-in-To
+pub returns-in-Some : goal.returns-in-Some
 unfolding next_start
-returns-in-To c =
-    rw (sym c.is_end.ensures ∙ c.if-is_end.true, sym c.forward.ensures ∙ c.in-To.is) c.from_end.ensures
+returns-in-Some c =
+    rw (sym c.is_end.ensures ∙ c.if-is_end.true, sym c.forward.ensures ∙ c.in-Some.is) c.from_end.ensures
 
-pub returns-in-Nowhere : goal.returns-in-Nowhere
+pub returns-in-None : goal.returns-in-None
 unfolding next_start
-returns-in-Nowhere c =
-    rw (sym c.is_end.ensures ∙ c.if-is_end.true, sym c.forward.ensures ∙ c.in-Nowhere.is)
+returns-in-None c =
+    rw (sym c.is_end.ensures ∙ c.if-is_end.true, sym c.forward.ensures ∙ c.in-None.is)
 
-pub returns-in-To-forward : goal.returns-in-To-forward
+pub returns-in-Some-forward : goal.returns-in-Some-forward
 unfolding next_start
-returns-in-To-forward c =
+returns-in-Some-forward c =
     rw (
       sym c.is_end.ensures ∙ c.if-is_end.false,
       ← c.run_end.ensures,
-      sym c.forward-2.ensures ∙ c.in-To-forward.is,
+      sym c.forward-2.ensures ∙ c.in-Some-forward.is,
     ) c.over_space.ensures
 
-pub returns-in-Nowhere-forward : goal.returns-in-Nowhere-forward
+pub returns-in-None-forward : goal.returns-in-None-forward
 unfolding next_start
-returns-in-Nowhere-forward c =
+returns-in-None-forward c =
     rw (
       sym c.is_end.ensures ∙ c.if-is_end.false,
       ← c.run_end.ensures,
-      sym c.forward-2.ensures ∙ c.in-Nowhere-forward.is,
-    ) (ap To c.content_end.ensures)
+      sym c.forward-2.ensures ∙ c.in-None-forward.is,
+    ) (ap Some c.content_end.ensures)

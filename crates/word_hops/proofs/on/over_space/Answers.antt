@@ -1,6 +1,5 @@
 -- `word_hops::on::over_space` meets its contract, by where the walk ended. Assumes nothing.
-use Rattle.lists.proofs.Kit.{ap, sym, ◌∙◌}
-use Rattle.word_places.specs.declared.Step.TheVariants.{To}
+use Rattle.lists.proofs.Kit.{ap, sym, ◌∙◌, Some}
 use Rattle.word_hops.specs.Hops.{or_end}
 use Rattle.word_hops.proofs.on.over_space.Goals as goal
 
@@ -10,4 +9,4 @@ returns-in-Onto c =
 
 pub returns-in-Stuck : goal.returns-in-Stuck
 returns-in-Stuck c =
-    ap To c.content_end.ensures ∙ ap (or_end c.args.c.now) (sym c.in-Stuck.is ∙ c.over.ensures)
+    ap Some c.content_end.ensures ∙ ap (or_end c.args.c.now) (sym c.in-Stuck.is ∙ c.over.ensures)

@@ -7,16 +7,16 @@ pub returns-then-is_white : goal.returns-then-is_white
 unfolding kind_of
 returns-then-is_white c = rw (sym c.is_white.ensures ∙ c.if-is_white.true)
 
-pub returns-then-s : goal.returns-then-s
+pub returns-then-by : goal.returns-then-by
 unfolding kind_of
-returns-then-s c = rw (sym c.is_white.ensures ∙ c.if-is_white.false, c.if-s.true)
+returns-then-by c = rw (sym c.is_white.ensures ∙ c.if-is_white.false, c.if-by.true)
 
 pub returns-then-is_word : goal.returns-then-is_word
 unfolding kind_of
 returns-then-is_word c =
-    rw (sym c.is_white.ensures ∙ c.if-is_white.false, c.if-s.false, sym c.is_word.ensures ∙ c.if-is_word.true)
+    rw (sym c.is_white.ensures ∙ c.if-is_white.false, c.if-by.false, sym c.is_word.ensures ∙ c.if-is_word.true)
 
 pub returns : goal.returns
 unfolding kind_of
 returns c =
-    rw (sym c.is_white.ensures ∙ c.if-is_white.false, c.if-s.false, sym c.is_word.ensures ∙ c.if-is_word.false)
+    rw (sym c.is_white.ensures ∙ c.if-is_white.false, c.if-by.false, sym c.is_word.ensures ∙ c.if-is_word.false)

@@ -7,15 +7,15 @@ pub returns-then-x-lt256 : goal.returns-then-x-lt256
 unfolding flagged
 returns-then-x-lt256 c = rw (lt-ltb _ _ c.if-x-lt256.true)
 
-pub returns-then-not-s : goal.returns-then-not-s
+pub returns-then-not-by : goal.returns-then-not-by
 unfolding flagged
-returns-then-not-s c =
-    rw (le-ltb _ _ c.if-x-lt256.false, not-true c.args.s.letters c.if-not-s.true)
+returns-then-not-by c =
+    rw (le-ltb _ _ c.if-x-lt256.false, c.if-not-by.true)
 
 pub returns-then-x-lt706 : goal.returns-then-x-lt706
 unfolding flagged
 returns-then-x-lt706 c =
-    rw (le-ltb _ _ c.if-x-lt256.false, not-false c.args.s.letters c.if-not-s.false) c.is_letter.ensures
+    rw (le-ltb _ _ c.if-x-lt256.false, c.if-not-by.false) c.is_letter.ensures
 
 -- a high code point reads the ranges of the letters
 pub letter_in-requires : goal.letter_in-requires
@@ -25,4 +25,4 @@ letter_in-requires c =
 pub returns : goal.returns
 unfolding flagged
 returns c =
-    rw (le-ltb _ _ c.if-x-lt256.false, not-false c.args.s.letters c.if-not-s.false) c.letter_in.ensures
+    rw (le-ltb _ _ c.if-x-lt256.false, c.if-not-by.false) c.letter_in.ensures

@@ -13,15 +13,15 @@ returns-then-not-k-kind c =
     walking_off c.loop-cur.invariant (rw (← c.kind_at-k.ensures) (c.if-not-k-kind.true))
 
 pub loop-cur-smaller : goal.loop-cur-smaller
-loop-cur-smaller c = less_ahead _ c.step_forward.ensures c.in-To.is
+loop-cur-smaller c = less_ahead _ c.step_forward.ensures c.in-Some.is
 
 pub loop-cur-preserved : goal.loop-cur-preserved
 loop-cur-preserved c =
     let told = c.step_forward.ensures in
-    let found = c.in-To.is in
+    let found = c.in-Some.is in
     walking_on c.loop-cur.invariant (rw (← c.kind_at-k.ensures) (c.if-not-k-kind.false)) told found (less_ahead _ told found)
 
-pub returns-in-Nowhere : goal.returns-in-Nowhere
-returns-in-Nowhere c =
+pub returns-in-None : goal.returns-in-None
+returns-in-None c =
     walking_stuck c.loop-cur.invariant (rw (← c.kind_at-k.ensures) (c.if-not-k-kind.false))
-    c.step_forward.ensures c.in-Nowhere.is
+    c.step_forward.ensures c.in-None.is

@@ -11,29 +11,29 @@ loop-q-init c = walking_start c.requires.1 (omega arith)
 
 pub kind_at-k-requires : goal.kind_at-k-requires
 kind_at-k-requires c =
-    (c.requires.0, (tells_as c.step_forward.ensures c.in-To.is).inside.spot)
+    (c.requires.0, (tells_as c.step_forward.ensures c.in-Some.is).inside.spot)
 
 -- the next place is in the next row, or of another kind
 pub returns-then-not-q-cur : goal.returns-then-not-q-cur
 unfolding goes_on
 returns-then-not-q-cur c =
-    let found = tells_as c.step_forward.ensures c.in-To.is in
+    let found = tells_as c.step_forward.ensures c.in-Some.is in
     walking_off c.loop-q.invariant (rw (← found.place, ← c.kind_at-k.ensures) (c.if-not-q-cur.true))
 
 pub loop-q-smaller : goal.loop-q-smaller
 loop-q-smaller c =
-    less_ahead _ c.step_forward.ensures c.in-To.is
+    less_ahead _ c.step_forward.ensures c.in-Some.is
 
 pub loop-q-preserved : goal.loop-q-preserved
 unfolding goes_on
 loop-q-preserved c =
     let told = c.step_forward.ensures in
-    let found = c.in-To.is in
+    let found = c.in-Some.is in
     walking_on c.loop-q.invariant (rw (← (tells_as told found).place, ← c.kind_at-k.ensures) (c.if-not-q-cur.false))
     told found (less_ahead _ told found)
 
-pub returns-in-Nowhere : goal.returns-in-Nowhere
+pub returns-in-None : goal.returns-in-None
 unfolding goes_on
-returns-in-Nowhere c =
-    let found = tells_as c.step_forward.ensures c.in-Nowhere.is in
+returns-in-None c =
+    let found = tells_as c.step_forward.ensures c.in-None.is in
     walking_off c.loop-q.invariant (rw (← found.place))

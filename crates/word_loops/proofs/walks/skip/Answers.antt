@@ -4,24 +4,24 @@ use Rattle.lists.proofs.Kit.{◌-◌, arith}
 use Rattle.word_loops.proofs.Walking.{walking_start, walking_on, walking_off, walking_stuck, less_ahead}
 use Rattle.word_loops.proofs.walks.skip.Goals as goal
 
-pub loop-s-init : goal.loop-s-init
-loop-s-init c = walking_start c.requires.1 (omega arith)
+pub loop-cur-init : goal.loop-cur-init
+loop-cur-init c = walking_start c.requires.1 (omega arith)
 
 -- the place is of neither kind
 pub returns-then-not-k-a : goal.returns-then-not-k-a
 returns-then-not-k-a c =
-    walking_off c.loop-s.invariant (rw (← c.kind_at-k.ensures) (c.if-not-k-a.true))
+    walking_off c.loop-cur.invariant (rw (← c.kind_at-k.ensures) (c.if-not-k-a.true))
 
-pub loop-s-smaller : goal.loop-s-smaller
-loop-s-smaller c = less_ahead _ c.step_forward.ensures c.in-To.is
+pub loop-cur-smaller : goal.loop-cur-smaller
+loop-cur-smaller c = less_ahead _ c.step_forward.ensures c.in-Some.is
 
-pub loop-s-preserved : goal.loop-s-preserved
-loop-s-preserved c =
+pub loop-cur-preserved : goal.loop-cur-preserved
+loop-cur-preserved c =
     let told = c.step_forward.ensures in
-    let found = c.in-To.is in
-    walking_on c.loop-s.invariant (rw (← c.kind_at-k.ensures) (c.if-not-k-a.false)) told found (less_ahead _ told found)
+    let found = c.in-Some.is in
+    walking_on c.loop-cur.invariant (rw (← c.kind_at-k.ensures) (c.if-not-k-a.false)) told found (less_ahead _ told found)
 
-pub returns-in-Nowhere : goal.returns-in-Nowhere
-returns-in-Nowhere c =
-    walking_stuck c.loop-s.invariant (rw (← c.kind_at-k.ensures) (c.if-not-k-a.false))
-    c.step_forward.ensures c.in-Nowhere.is
+pub returns-in-None : goal.returns-in-None
+returns-in-None c =
+    walking_stuck c.loop-cur.invariant (rw (← c.kind_at-k.ensures) (c.if-not-k-a.false))
+    c.step_forward.ensures c.in-None.is

@@ -2,13 +2,13 @@
 -- The measure is the text's length less the offset. Assumes nothing.
 use Rattle.lists.proofs.Kit.{◌-◌, length}
 use Rattle.word_kinds.specs.Places.{step_forward}
-use Rattle.word_kinds.specs.Lent.{kind_by}
+use Rattle.word_kinds.specs.Lent.{kind_by, kinds_by}
 use Rattle.word_loops.specs.Walks.{of_kinds}
 use Rattle.word_loops.proofs.Walking.{Walking}
 use Rattle.word_loops.proofs.walks.skip.Given as goal
 
-abbrev pub invariant-loop-s : goal.invariant-loop-s
-invariant-loop-s l = Walking l.t (of_kinds l.t (kind_by l.bounds l.s) l.a l.b) (step_forward l.t) l.initial.cur (length l.t - l.cur.at) l.cur
+abbrev pub invariant-loop-cur : goal.invariant-loop-cur
+invariant-loop-cur l = Walking l.t (of_kinds l.t (kinds_by l.by) l.a l.b) (step_forward l.t) l.initial.cur (length l.t - l.cur.at) l.cur
 
-abbrev pub decreases-loop-s : goal.decreases-loop-s
-decreases-loop-s l = length l.t - l.cur.at
+abbrev pub decreases-loop-cur : goal.decreases-loop-cur
+decreases-loop-cur l = length l.t - l.cur.at

@@ -13,16 +13,16 @@ returns-then-not-k-a c = sym (walking_off c.loop-big.invariant (rw (← c.kind-k
 
 pub loop-big-smaller : goal.loop-big-smaller
 loop-big-smaller c =
-    let on = forward_on _ _ c.in-To.j (sym c.forward.ensures ∙ c.in-To.is) in
+    let on = forward_on _ _ c.in-Some.j (sym c.forward.ensures ∙ c.in-Some.is) in
     omega (arith, on.0, on.1)
 
 pub loop-big-preserved : goal.loop-big-preserved
 loop-big-preserved c =
-    let on = forward_on _ _ c.in-To.j (sym c.forward.ensures ∙ c.in-To.is) in
+    let on = forward_on _ _ c.in-Some.j (sym c.forward.ensures ∙ c.in-Some.is) in
     walking_on c.loop-big.invariant _ _ (rw (← c.kind-k.ensures) (c.if-not-k-a.false))
-    (sym c.forward.ensures ∙ c.in-To.is) (omega (arith, on.0, on.1))
+    (sym c.forward.ensures ∙ c.in-Some.is) (omega (arith, on.0, on.1))
 
-pub returns-in-Nowhere : goal.returns-in-Nowhere
-returns-in-Nowhere c =
+pub returns-in-None : goal.returns-in-None
+returns-in-None c =
     sym (walking_stuck c.loop-big.invariant (rw (← c.kind-k.ensures) (c.if-not-k-a.false))
-    (sym c.forward.ensures ∙ c.in-Nowhere.is))
+    (sym c.forward.ensures ∙ c.in-None.is))

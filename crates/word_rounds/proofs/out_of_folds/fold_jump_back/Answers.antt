@@ -8,17 +8,17 @@ use Rattle.word_rounds.proofs.out_of_folds.fold_jump_back.Goals as goal
 pub row_first-requires : goal.row_first-requires
 row_first-requires c =
     let required = c.requires in
-    record { spot = required.spot; in_rows = (span_rows required c.closed_fold_at.ensures c.in-Of.is).0 }
+    record { spot = required.spot; in_rows = (span_rows required c.closed_fold_at.ensures c.in-Some.is).0 }
 
-pub returns-in-Of : goal.returns-in-Of
-returns-in-Of c =
+pub returns-in-Some : goal.returns-in-Some
+returns-in-Some c =
     jump_lands c.requires c.closed_fold_at.ensures (to_first (place_of c.args.t.now c.args.p))
-    c.in-Of.is c.row_first.ensures
+    c.in-Some.is c.row_first.ensures
 
-pub returns-in-NoSpan : goal.returns-in-NoSpan
-returns-in-NoSpan c =
+pub returns-in-None : goal.returns-in-None
+returns-in-None c =
     jump_lands c.requires c.closed_fold_at.ensures (to_first (place_of c.args.t.now c.args.p))
-    c.in-NoSpan.is (lands_here c.requires.spot)
+    c.in-None.is (lands_here c.requires.spot)
 
 pub closed_fold_at-requires : goal.closed_fold_at-requires
 closed_fold_at-requires c = fold_asked c.requires

@@ -1,6 +1,6 @@
 use Rattle.word_edges.specs.Words.{next_word_start}
 use Rattle.word_rounds.specs.Rounds.{round_of}
-use Rattle.word_kinds.specs.Lent.{kind_by}
+use Rattle.word_kinds.specs.Lent.{kind_by, kinds_by}
 use Rattle.word_rounds.proofs.Turning.{round_from_lem, set_ready}
 use Rattle.word_rounds.proofs.rounds.fwd_round.Goals as goal
 
@@ -12,5 +12,5 @@ unfolding round_of
 returns c =
     let found = c.next_word_start-next in
     round_from_lem c.fold_jump_fwd-from.ensures
-    (next_word_start c.args.t.now (kind_by c.args.bounds.now c.args.s) c.args.s.big)
+    (next_word_start c.args.t.now (kinds_by c.args.by) c.args.by.setting.big)
     found.result c.turned.ensures found.ensures
