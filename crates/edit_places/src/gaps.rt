@@ -14,7 +14,7 @@ pub fn open_gap(buf: &mut [u32], len: usize, a: usize, m: usize)
         buf.new }
 {
     let mut k = len - a;
-    // `copy_within` was tried: it is slower in a long text, and a delete in WebAssembly traps
+    // `copy_within` was tried: it proves, but a delete in WebAssembly then traps
     while 0 < k {
         k -= 1;
         buf[a + m + k] = buf[a + k];
