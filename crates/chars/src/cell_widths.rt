@@ -6,6 +6,7 @@ use crate::Measure;
 use crate::width_tables::{DOUBLE_WIDTH, ZERO_WIDTH};
 
 // 0 for U+0000 and 1 for any other: the width of a low code point.
+#[inline(always)]
 fn low_width(x: u32) -> u32
     ensures { result ≡ low_width x }
 {
@@ -16,6 +17,7 @@ fn low_width(x: u32) -> u32
 }
 
 // Whether x lies before all ranges of a table.
+#[inline(always)]
 fn is_before(table: &[u32], x: u32) -> bool
     ensures { result ≡ starts_after table.now x }
 {
@@ -27,6 +29,7 @@ fn is_before(table: &[u32], x: u32) -> bool
 
 // The width of x by the tables that are lent: of what has no cell, and of what has two. What lies
 // below U+0300 and before all that has two cells, as most letters, is decided without a search.
+#[inline(always)]
 pub fn width_in(by: Measure<'_>, x: u32) -> u32
     requires { Measures by }
     ensures { result ≡ width_with by.entry x }

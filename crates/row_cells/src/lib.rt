@@ -11,6 +11,7 @@ ghost use Rattle.row_cells.specs.Offsets.{cells_in};
 use chars::Measure;
 
 // The cells of x: its width, and at least one.
+#[inline(always)]
 pub fn cells_of(by: Measure<'_>, x: u32) -> u32
     requires { Measures by }
     ensures { Cells (width_with by.entry) x result }
@@ -24,6 +25,7 @@ pub fn cells_of(by: Measure<'_>, x: u32) -> u32
 
 // How many characters of the row's start go into `room` cells. What is left is counted down, so
 // that no sum can pass the largest number.
+#[inline(always)]
 pub fn fitting(by: Measure<'_>, row: &[u32], room: u32) -> usize
     requires { Measures by }
     ensures { Fitting (width_with by.entry) room

@@ -46,6 +46,7 @@ fn tab_width(visual: u32, tab: u32) -> u32
 }
 
 // The cells of x where it is painted from visual column `visual` on, by the tables that are lent.
+#[inline(always)]
 pub fn cell_width(by: Measure<'_>, x: u32, visual: u32, tab: u32) -> u32
     requires { Tables by tab }
     ensures { CellsAre (cells_at (width_with by.entry) tab
