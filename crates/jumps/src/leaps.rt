@@ -73,14 +73,14 @@ pub fn leap(
     t: &[u32],
     table: &[u32],
     folds: &[u32],
-    by: Alphabet<'_>,
+    by: &Alphabet<'_>,
     kind: u32,
     count: u32,
     w: Stretch,
     p: Spot,
 ) -> Walked
-    requires { LeapFooting t.now table.now folds.now by w p }
-    ensures { Leaps t.now folds.now (kinds_by by.entry)
+    requires { LeapFooting t.now table.now folds.now by.now w p }
+    ensures { Leaps t.now folds.now (kinds_by by.now)
         kind count (place_of t.now p) result }
 {
     if kind == 3 {

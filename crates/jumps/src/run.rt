@@ -21,15 +21,15 @@ fn jump(
     t: &[u32],
     table: &[u32],
     folds: &[u32],
-    by: Alphabet<'_>,
+    by: &Alphabet<'_>,
     jumps: &[u32],
     i: usize,
     answers: &mut [u32],
     w: Stretch,
     p: Spot,
 ) -> Walked
-    requires { JumpFooting t.now table.now folds.now by jumps.now i answers.old w p }
-    ensures { Jumped t.now folds.now (kinds_by by.entry)
+    requires { JumpFooting t.now table.now folds.now by.now jumps.now i answers.old w p }
+    ensures { Jumped t.now folds.now (kinds_by by.now)
         jumps.now i answers.old (place_of t.now p) result
         answers.new }
 {
@@ -46,13 +46,13 @@ fn run(
     t: &[u32],
     table: &[u32],
     folds: &[u32],
-    by: Alphabet<'_>,
+    by: &Alphabet<'_>,
     jumps: &[u32],
     answers: &mut [u32],
     p: Spot,
 ) -> Spot
-    requires { RunFooting t.now table.now folds.now by jumps.now answers.old p }
-    ensures { Ran t.now folds.now (kinds_by by.entry)
+    requires { RunFooting t.now table.now folds.now by.now jumps.now answers.old p }
+    ensures { Ran t.now folds.now (kinds_by by.now)
         jumps.now answers.old (place_of t.now p) result
         answers.new }
 {
@@ -87,7 +87,7 @@ fn run_with_letters(
         t,
         table,
         folds,
-        Alphabet {
+        &Alphabet {
             bounds: bounds,
             starts: &letters::LETTER_STARTS,
             lengths: &letters::LETTER_LENGTHS,
@@ -129,7 +129,7 @@ pub fn run_by(
         t,
         table,
         folds,
-        Alphabet {
+        &Alphabet {
             bounds: &bounds,
             starts: &starts,
             lengths: &lengths,

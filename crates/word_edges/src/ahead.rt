@@ -14,11 +14,11 @@ use word_kinds::{Alphabet, END, SPACE, Spot, near};
 use word_loops::walks;
 
 // On over white space, to the end of the buffer where there is nothing else.
-fn over_space(t: &[u32], by: Alphabet<'_>, p: Spot) -> Option<Spot>
-    requires { Ready t.now by p }
+fn over_space(t: &[u32], by: &Alphabet<'_>, p: Spot) -> Option<Spot>
+    requires { Ready t.now by.now p }
     ensures { Reaches t.now result
         (or_end t.now
-        (skip t.now (kinds_by by.entry) space space
+        (skip t.now (kinds_by by.now) space space
         (place_of t.now p))) }
 {
     match walks::skip(t, by, SPACE, SPACE, p) {
@@ -28,10 +28,10 @@ fn over_space(t: &[u32], by: Alphabet<'_>, p: Spot) -> Option<Spot>
 }
 
 // From the first place behind a row's end: big words go over empty rows too.
-fn from_end(t: &[u32], by: Alphabet<'_>, p: Spot) -> Option<Spot>
-    requires { Ready t.now by p }
+fn from_end(t: &[u32], by: &Alphabet<'_>, p: Spot) -> Option<Spot>
+    requires { Ready t.now by.now p }
     ensures { Reaches t.now result
-        (from_end t.now (kinds_by by.entry) by.entry.setting.big
+        (from_end t.now (kinds_by by.now) by.now.setting.big
         (place_of t.now p)) }
 {
     if !by.setting.big {
@@ -44,10 +44,10 @@ fn from_end(t: &[u32], by: Alphabet<'_>, p: Spot) -> Option<Spot>
 }
 
 // The start of the next word.
-pub fn next_word_start(t: &[u32], by: Alphabet<'_>, p: Spot) -> Option<Spot>
-    requires { Ready t.now by p }
+pub fn next_word_start(t: &[u32], by: &Alphabet<'_>, p: Spot) -> Option<Spot>
+    requires { Ready t.now by.now p }
     ensures { Reaches t.now result
-        (next_word_start t.now (kinds_by by.entry) by.entry.setting.big
+        (next_word_start t.now (kinds_by by.now) by.now.setting.big
         (place_of t.now p)) }
 {
     let k = near::kind_at(t, by, p);
@@ -68,10 +68,10 @@ pub fn next_word_start(t: &[u32], by: Alphabet<'_>, p: Spot) -> Option<Spot>
 }
 
 // The last place of the word that has the place.
-fn run_end(t: &[u32], by: Alphabet<'_>, p: Spot) -> Option<Spot>
-    requires { Ready t.now by p }
+fn run_end(t: &[u32], by: &Alphabet<'_>, p: Spot) -> Option<Spot>
+    requires { Ready t.now by.now p }
     ensures { Reaches t.now result
-        (run_here t.now (kinds_by by.entry) (place_of t.now p)) }
+        (run_here t.now (kinds_by by.now) (place_of t.now p)) }
 {
     let k = near::kind_at(t, by, p);
     match walks::run(t, by, k, p) {
@@ -81,11 +81,11 @@ fn run_end(t: &[u32], by: Alphabet<'_>, p: Spot) -> Option<Spot>
 }
 
 // On over white space and row ends, and then to the end of the word there.
-fn run_from(t: &[u32], by: Alphabet<'_>, p: Spot) -> Option<Spot>
-    requires { Ready t.now by p }
+fn run_from(t: &[u32], by: &Alphabet<'_>, p: Spot) -> Option<Spot>
+    requires { Ready t.now by.now p }
     ensures { Reaches t.now result
-        (run_from t.now (kinds_by by.entry)
-        (skip t.now (kinds_by by.entry) space end
+        (run_from t.now (kinds_by by.now)
+        (skip t.now (kinds_by by.now) space end
         (place_of t.now p))) }
 {
     match walks::skip(t, by, SPACE, END, p) {
@@ -95,10 +95,10 @@ fn run_from(t: &[u32], by: Alphabet<'_>, p: Spot) -> Option<Spot>
 }
 
 // The end of the next word.
-pub fn next_word_end(t: &[u32], by: Alphabet<'_>, p: Spot) -> Option<Spot>
-    requires { Ready t.now by p }
+pub fn next_word_end(t: &[u32], by: &Alphabet<'_>, p: Spot) -> Option<Spot>
+    requires { Ready t.now by.now p }
     ensures { Reaches t.now result
-        (next_word_end t.now (kinds_by by.entry)
+        (next_word_end t.now (kinds_by by.now)
         (place_of t.now p)) }
 {
     match near::step_forward(t, p) {
@@ -108,9 +108,9 @@ pub fn next_word_end(t: &[u32], by: Alphabet<'_>, p: Spot) -> Option<Spot>
 }
 
 // Whether the place is the last of a word.
-pub fn at_word_end(t: &[u32], by: Alphabet<'_>, p: Spot) -> bool
-    requires { Ready t.now by p }
-    ensures { result ≡ at_word_end t.now (kinds_by by.entry)
+pub fn at_word_end(t: &[u32], by: &Alphabet<'_>, p: Spot) -> bool
+    requires { Ready t.now by.now p }
+    ensures { result ≡ at_word_end t.now (kinds_by by.now)
         (place_of t.now p) }
 {
     let k = near::cls(t, by, p);

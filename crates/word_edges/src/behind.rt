@@ -13,10 +13,10 @@ use word_kinds::{Alphabet, SPACE, Spot, near};
 use word_loops::walks;
 
 // The first place of the word that has the place.
-fn front_of(t: &[u32], by: Alphabet<'_>, p: Spot) -> Option<Spot>
-    requires { Ready t.now by p }
+fn front_of(t: &[u32], by: &Alphabet<'_>, p: Spot) -> Option<Spot>
+    requires { Ready t.now by.now p }
     ensures { Reaches t.now result
-        (front_here t.now (kinds_by by.entry)
+        (front_here t.now (kinds_by by.now)
         (place_of t.now p)) }
 {
     let k = near::cls(t, by, p);
@@ -30,11 +30,11 @@ fn front_of(t: &[u32], by: Alphabet<'_>, p: Spot) -> Option<Spot>
 }
 
 // The first place of the last word at or before the place, or an empty row.
-fn front_from(t: &[u32], by: Alphabet<'_>, p: Spot) -> Option<Spot>
-    requires { Ready t.now by p }
+fn front_from(t: &[u32], by: &Alphabet<'_>, p: Spot) -> Option<Spot>
+    requires { Ready t.now by.now p }
     ensures { Reaches t.now result
-        (front_from t.now (kinds_by by.entry)
-        (back t.now (kinds_by by.entry) space
+        (front_from t.now (kinds_by by.now)
+        (back t.now (kinds_by by.now) space
         (place_of t.now p))) }
 {
     match walks::back(t, by, SPACE, p) {
@@ -49,10 +49,10 @@ fn front_from(t: &[u32], by: Alphabet<'_>, p: Spot) -> Option<Spot>
 }
 
 // The start of the previous word.
-pub fn prev_word_start(t: &[u32], by: Alphabet<'_>, p: Spot) -> Option<Spot>
-    requires { Ready t.now by p }
+pub fn prev_word_start(t: &[u32], by: &Alphabet<'_>, p: Spot) -> Option<Spot>
+    requires { Ready t.now by.now p }
     ensures { Reaches t.now result
-        (prev_word_start t.now (kinds_by by.entry)
+        (prev_word_start t.now (kinds_by by.now)
         (place_of t.now p)) }
 {
     match near::dec(t, p) {
@@ -62,11 +62,11 @@ pub fn prev_word_start(t: &[u32], by: Alphabet<'_>, p: Spot) -> Option<Spot>
 }
 
 // Back over white space, to a word, an empty row or the first place of the text.
-fn back_over_space(t: &[u32], by: Alphabet<'_>, p: Spot) -> Option<Spot>
-    requires { Ready t.now by p }
+fn back_over_space(t: &[u32], by: &Alphabet<'_>, p: Spot) -> Option<Spot>
+    requires { Ready t.now by.now p }
     ensures { Reaches t.now result
         (halted
-        (back t.now (kinds_by by.entry) space
+        (back t.now (kinds_by by.now) space
         (place_of t.now p))) }
 {
     match walks::back(t, by, SPACE, p) {
@@ -76,11 +76,11 @@ fn back_over_space(t: &[u32], by: Alphabet<'_>, p: Spot) -> Option<Spot>
 }
 
 // The same, after the rest of a word of the class.
-fn end_from(t: &[u32], by: Alphabet<'_>, class: u32, p: Spot) -> Option<Spot>
-    requires { Ready t.now by p }
+fn end_from(t: &[u32], by: &Alphabet<'_>, class: u32, p: Spot) -> Option<Spot>
+    requires { Ready t.now by.now p }
     ensures { Reaches t.now result
-        (end_from t.now (kinds_by by.entry)
-        (back t.now (kinds_by by.entry) class
+        (end_from t.now (kinds_by by.now)
+        (back t.now (kinds_by by.now) class
         (place_of t.now p))) }
 {
     match walks::back(t, by, class, p) {
@@ -90,10 +90,10 @@ fn end_from(t: &[u32], by: Alphabet<'_>, class: u32, p: Spot) -> Option<Spot>
 }
 
 // The end of the previous word.
-pub fn prev_word_end(t: &[u32], by: Alphabet<'_>, p: Spot) -> Option<Spot>
-    requires { Ready t.now by p }
+pub fn prev_word_end(t: &[u32], by: &Alphabet<'_>, p: Spot) -> Option<Spot>
+    requires { Ready t.now by.now p }
     ensures { Reaches t.now result
-        (prev_word_end t.now (kinds_by by.entry)
+        (prev_word_end t.now (kinds_by by.now)
         (place_of t.now p)) }
 {
     let k = near::cls(t, by, p);

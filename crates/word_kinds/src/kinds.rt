@@ -7,9 +7,9 @@ use crate::{Alphabet, MARK, SPACE, WORD};
 
 // Whether x is a keyword character by a flag for each code up to 255; above it the
 // letters count where the setting says so. Below U+02C2 their ranges are not read.
-fn is_flagged(by: Alphabet<'_>, x: u32) -> bool
-    requires { Lends by x }
-    ensures { result ≡ flagged by.entry.bounds.now by.entry.setting.letters x }
+fn is_flagged(by: &Alphabet<'_>, x: u32) -> bool
+    requires { Lends by.now x }
+    ensures { result ≡ flagged by.now.bounds.now by.now.setting.letters x }
 {
     if x < 256 {
         let at = x as usize;
@@ -25,9 +25,9 @@ fn is_flagged(by: Alphabet<'_>, x: u32) -> bool
 }
 
 // Whether x is a keyword character. Below U+02C2 the ranges of the letters are not read.
-fn is_word(by: Alphabet<'_>, x: u32) -> bool
-    requires { Lends by x }
-    ensures { result ≡ words_by by.entry x }
+fn is_word(by: &Alphabet<'_>, x: u32) -> bool
+    requires { Lends by.now x }
+    ensures { result ≡ words_by by.now x }
 {
     let bounds = by.bounds;
     if by.setting.flags {
@@ -53,9 +53,9 @@ fn is_word(by: Alphabet<'_>, x: u32) -> bool
 }
 
 // The kind of a character: `SPACE`, `WORD` or `MARK`.
-pub fn char_kind(by: Alphabet<'_>, x: u32) -> u32
-    requires { Lends by x }
-    ensures { result ≡ kinds_by by.entry x }
+pub fn char_kind(by: &Alphabet<'_>, x: u32) -> u32
+    requires { Lends by.now x }
+    ensures { result ≡ kinds_by by.now x }
 {
     if chars::is_white(x) {
         return SPACE;

@@ -10,9 +10,9 @@ ghost use Rattle.word_kinds.specs.Lent.{Bounds, kinds_by};
 use crate::{Alphabet, END, SPACE, Spot, kinds};
 
 // The kind of the character at a place, `END` at the row's end.
-pub fn kind_at(t: &[u32], by: Alphabet<'_>, p: Spot) -> u32
-    requires { Bounds t.now by × IsSpot t.now p }
-    ensures { result ≡ kind_at t.now (kinds_by by.entry)
+pub fn kind_at(t: &[u32], by: &Alphabet<'_>, p: Spot) -> u32
+    requires { Bounds t.now by.now × IsSpot t.now p }
+    ensures { result ≡ kind_at t.now (kinds_by by.now)
         (place_of t.now p) }
 {
     let at = p.at;
@@ -27,9 +27,9 @@ pub fn kind_at(t: &[u32], by: Alphabet<'_>, p: Spot) -> u32
 }
 
 // The kind at a place, with the row's end as white space.
-pub fn cls(t: &[u32], by: Alphabet<'_>, p: Spot) -> u32
-    requires { Bounds t.now by × IsSpot t.now p }
-    ensures { result ≡ cls t.now (kinds_by by.entry)
+pub fn cls(t: &[u32], by: &Alphabet<'_>, p: Spot) -> u32
+    requires { Bounds t.now by.now × IsSpot t.now p }
+    ensures { result ≡ cls t.now (kinds_by by.now)
         (place_of t.now p) }
 {
     let k = kind_at(t, by, p);

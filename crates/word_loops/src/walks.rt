@@ -9,10 +9,10 @@ use word_ends::Halt;
 use word_kinds::{Alphabet, Spot, near};
 
 // On over the places of the kinds a and b, in this row and the next ones.
-pub fn skip(t: &[u32], by: Alphabet<'_>, a: u32, b: u32, p: Spot) -> Halt<Spot>
-    requires { Bounds t.now by × IsSpot t.now p }
+pub fn skip(t: &[u32], by: &Alphabet<'_>, a: u32, b: u32, p: Spot) -> Halt<Spot>
+    requires { Bounds t.now by.now × IsSpot t.now p }
     ensures { Stops t.now result
-        (skip t.now (kinds_by by.entry) a b
+        (skip t.now (kinds_by by.now) a b
         (place_of t.now p)) }
 {
     let mut cur = p;
@@ -34,10 +34,10 @@ pub fn skip(t: &[u32], by: Alphabet<'_>, a: u32, b: u32, p: Spot) -> Halt<Spot>
 }
 
 // On over the places of a kind in the place's row; the next row's first place ends it.
-pub fn leave(t: &[u32], by: Alphabet<'_>, kind: u32, p: Spot) -> Halt<Spot>
-    requires { Bounds t.now by × IsSpot t.now p }
+pub fn leave(t: &[u32], by: &Alphabet<'_>, kind: u32, p: Spot) -> Halt<Spot>
+    requires { Bounds t.now by.now × IsSpot t.now p }
     ensures { Stops t.now result
-        (leave t.now (kinds_by by.entry) kind
+        (leave t.now (kinds_by by.now) kind
         (place_of t.now p)) }
 {
     let row = p.row;
@@ -60,10 +60,10 @@ pub fn leave(t: &[u32], by: Alphabet<'_>, kind: u32, p: Spot) -> Halt<Spot>
 }
 
 // On to the last place of a kind in the place's row.
-pub fn run(t: &[u32], by: Alphabet<'_>, kind: u32, p: Spot) -> Halt<Spot>
-    requires { Bounds t.now by × IsSpot t.now p }
+pub fn run(t: &[u32], by: &Alphabet<'_>, kind: u32, p: Spot) -> Halt<Spot>
+    requires { Bounds t.now by.now × IsSpot t.now p }
     ensures { Stops t.now result
-        (run t.now (kinds_by by.entry) kind
+        (run t.now (kinds_by by.now) kind
         (place_of t.now p)) }
 {
     let mut cur = p;
@@ -85,10 +85,10 @@ pub fn run(t: &[u32], by: Alphabet<'_>, kind: u32, p: Spot) -> Halt<Spot>
 }
 
 // Back over the places of a class; an empty row ends it.
-pub fn back(t: &[u32], by: Alphabet<'_>, class: u32, p: Spot) -> Halt<Spot>
-    requires { Bounds t.now by × IsSpot t.now p }
+pub fn back(t: &[u32], by: &Alphabet<'_>, class: u32, p: Spot) -> Halt<Spot>
+    requires { Bounds t.now by.now × IsSpot t.now p }
     ensures { Stops t.now result
-        (back t.now (kinds_by by.entry) class
+        (back t.now (kinds_by by.now) class
         (place_of t.now p)) }
 {
     let mut cur = p;

@@ -22,10 +22,10 @@ fn turned(from: Spot, found: Option<Spot>) -> Turn<Spot>
 }
 
 // A round of `move_word_fwd`.
-fn fwd_round(t: &[u32], folds: &[u32], by: Alphabet<'_>, p: Spot) -> Turn<Spot>
-    requires { Set t.now folds.now by p }
+fn fwd_round(t: &[u32], folds: &[u32], by: &Alphabet<'_>, p: Spot) -> Turn<Spot>
+    requires { Set t.now folds.now by.now p }
     ensures { ComesTo t.now result
-        (round_of t.now folds.now (kinds_by by.entry) by.entry.setting.big
+        (round_of t.now folds.now (kinds_by by.now) by.now.setting.big
         variant.Fwd false (place_of t.now p)) }
 {
     let from = out_of_folds::fold_jump_fwd(t, folds, by.setting.rows, by.setting.content, p);
@@ -34,10 +34,10 @@ fn fwd_round(t: &[u32], folds: &[u32], by: Alphabet<'_>, p: Spot) -> Turn<Spot>
 }
 
 // A round of `move_word_back`.
-fn back_round(t: &[u32], folds: &[u32], by: Alphabet<'_>, p: Spot) -> Turn<Spot>
-    requires { Set t.now folds.now by p }
+fn back_round(t: &[u32], folds: &[u32], by: &Alphabet<'_>, p: Spot) -> Turn<Spot>
+    requires { Set t.now folds.now by.now p }
     ensures { ComesTo t.now result
-        (round_of t.now folds.now (kinds_by by.entry) by.entry.setting.big
+        (round_of t.now folds.now (kinds_by by.now) by.now.setting.big
         variant.Back false (place_of t.now p)) }
 {
     let from = out_of_folds::fold_jump_back(t, folds, by.setting.rows, by.setting.content, p);
@@ -46,10 +46,10 @@ fn back_round(t: &[u32], folds: &[u32], by: Alphabet<'_>, p: Spot) -> Turn<Spot>
 }
 
 // A round of `move_word_end`; `stop` holds it at the end of a word.
-fn end_round(t: &[u32], folds: &[u32], by: Alphabet<'_>, stop: bool, p: Spot) -> Turn<Spot>
-    requires { Set t.now folds.now by p }
+fn end_round(t: &[u32], folds: &[u32], by: &Alphabet<'_>, stop: bool, p: Spot) -> Turn<Spot>
+    requires { Set t.now folds.now by.now p }
     ensures { ComesTo t.now result
-        (round_of t.now folds.now (kinds_by by.entry) by.entry.setting.big
+        (round_of t.now folds.now (kinds_by by.now) by.now.setting.big
         variant.End stop (place_of t.now p)) }
 {
     let from = out_of_folds::fold_jump_fwd(t, folds, by.setting.rows, by.setting.content, p);
@@ -65,10 +65,10 @@ fn end_round(t: &[u32], folds: &[u32], by: Alphabet<'_>, stop: bool, p: Spot) ->
 }
 
 // A round of `move_word_end_back`, which takes no folds.
-fn end_back_round(t: &[u32], folds: &[u32], by: Alphabet<'_>, p: Spot) -> Turn<Spot>
-    requires { Set t.now folds.now by p }
+fn end_back_round(t: &[u32], folds: &[u32], by: &Alphabet<'_>, p: Spot) -> Turn<Spot>
+    requires { Set t.now folds.now by.now p }
     ensures { ComesTo t.now result
-        (round_of t.now folds.now (kinds_by by.entry) by.entry.setting.big
+        (round_of t.now folds.now (kinds_by by.now) by.now.setting.big
         variant.EndBack false (place_of t.now p)) }
 {
     let end = word_edges::prev_word_end(t, by, p);
@@ -79,14 +79,14 @@ fn end_back_round(t: &[u32], folds: &[u32], by: Alphabet<'_>, p: Spot) -> Turn<S
 pub fn round(
     t: &[u32],
     folds: &[u32],
-    by: Alphabet<'_>,
+    by: &Alphabet<'_>,
     m: Motion,
     stop: bool,
     p: Spot,
 ) -> Turn<Spot>
-    requires { Set t.now folds.now by p }
+    requires { Set t.now folds.now by.now p }
     ensures { ComesTo t.now result
-        (round_of t.now folds.now (kinds_by by.entry) by.entry.setting.big m
+        (round_of t.now folds.now (kinds_by by.now) by.now.setting.big m
         stop (place_of t.now p)) }
 {
     match m {

@@ -23,16 +23,16 @@ use word_rounds::Motion;
 pub fn walk(
     t: &[u32],
     folds: &[u32],
-    by: Alphabet<'_>,
+    by: &Alphabet<'_>,
     m: Motion,
     stop: bool,
     count: u32,
     p: Spot,
 ) -> Spot
-    requires { Set t.now folds.now by p }
+    requires { Set t.now folds.now by.now p }
     ensures { Lands t.now result
-        (word_motion t.now folds.now (kinds_by by.entry)
-        by.entry.setting.big m stop count (place_of t.now p)) }
+        (word_motion t.now folds.now (kinds_by by.now)
+        by.now.setting.big m stop count (place_of t.now p)) }
 {
     match word_rounds::rounds::round(t, folds, by, m, stop, p) {
         Turn::On(q) => rounds::rounds(t, folds, by, m, count.max(1) - 1, q),
@@ -59,7 +59,7 @@ fn walk_with_letters(
     walk(
         t,
         folds,
-        Alphabet {
+        &Alphabet {
             bounds: bounds,
             starts: &letters::LETTER_STARTS,
             lengths: &letters::LETTER_LENGTHS,
@@ -98,7 +98,7 @@ pub fn walk_made(
     walk(
         t,
         folds,
-        Alphabet {
+        &Alphabet {
             bounds: bounds,
             starts: &starts,
             lengths: &lengths,

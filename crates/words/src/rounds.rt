@@ -19,14 +19,14 @@ use word_rounds::Motion;
 fn round_near(
     t: &[u32],
     folds: &[u32],
-    by: Alphabet<'_>,
+    by: &Alphabet<'_>,
     m: Motion,
     w: Stretch,
     p: Spot,
 ) -> Turn<Spot>
-    requires { NearReady t.now folds.now by w p }
+    requires { NearReady t.now folds.now by.now w p }
     ensures { ComesTo t.now result
-        (round_of t.now folds.now (kinds_by by.entry) by.entry.setting.big m
+        (round_of t.now folds.now (kinds_by by.now) by.now.setting.big m
         false (place_of t.now p)) }
 {
     if (w.lo <= p.row) & (p.row < w.hi) {
@@ -46,15 +46,15 @@ fn round_near(
 pub fn rounds_from(
     t: &[u32],
     folds: &[u32],
-    by: Alphabet<'_>,
+    by: &Alphabet<'_>,
     m: Motion,
     known: Stretch,
     count: u32,
     p: Spot,
 ) -> Walked
-    requires { NearReady t.now folds.now by known
+    requires { NearReady t.now folds.now by.now known
         p }
-    ensures { Rounded t.now folds.now (kinds_by by.entry) by.entry.setting.big m
+    ensures { Rounded t.now folds.now (kinds_by by.now) by.now.setting.big m
         count (place_of t.now p) result }
 {
     let mut cur = p;
@@ -86,11 +86,11 @@ pub fn rounds_from(
 }
 
 // The same where no stretch is known.
-pub fn rounds(t: &[u32], folds: &[u32], by: Alphabet<'_>, m: Motion, count: u32, p: Spot) -> Spot
-    requires { Set t.now folds.now by p }
+pub fn rounds(t: &[u32], folds: &[u32], by: &Alphabet<'_>, m: Motion, count: u32, p: Spot) -> Spot
+    requires { Set t.now folds.now by.now p }
     ensures { Lands t.now result
         (counted
-        (round_of t.now folds.now (kinds_by by.entry) by.entry.setting.big m
+        (round_of t.now folds.now (kinds_by by.now) by.now.setting.big m
         false)
         count (place_of t.now p)) }
 {

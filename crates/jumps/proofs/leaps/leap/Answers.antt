@@ -16,7 +16,7 @@ returns-then-kind-eq3 c =
     let given = c.args in
     record {
       lands = tells_too c.to_partner.ensures
-          (sym (leapt_key given.t.now given.folds.now (kinds_by given.by) given.kind given.count
+          (sym (leapt_key given.t.now given.folds.now (kinds_by given.by.now) given.kind given.count
           (place_of given.t.now given.p) c.if-kind-eq3.true));
       bare = c.requires.bare;
     }
@@ -30,7 +30,7 @@ returns c =
     let given = c.args in
     let walked = c.rounds_from.ensures in
     record {
-      lands = tells_too walked.lands (rounds_leapt given.t.now given.folds.now (kinds_by given.by) given.kind given.count
+      lands = tells_too walked.lands (rounds_leapt given.t.now given.folds.now (kinds_by given.by.now) given.kind given.count
           (place_of given.t.now given.p) c.requires.footing.small c.motion_of.ensures c.max.ensures c.if-kind-eq3.false);
       bare = walked.bare;
     }

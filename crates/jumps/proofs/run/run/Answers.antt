@@ -13,7 +13,7 @@ loop-i-init c =
     let given = c.args in
     let course = c.requires.course in
     record {
-      running = running_first given.t.now given.folds.now (kinds_by given.by) given.jumps.now given.answers.now
+      running = running_first given.t.now given.folds.now (kinds_by given.by.now) given.jumps.now given.answers.now
           (place_of given.t.now given.p) course.kinds course.room;
       spot = c.requires.footing.round.folded.spot;
       bare = c.around-w.ensures;

@@ -11,5 +11,5 @@ pub returns : goal.returns
 unfolding round_of
 returns c =
     let found = c.prev_word_start-prev in
-    round_from_lem c.fold_jump_back-from.ensures (prev_word_start c.args.t.now (kinds_by c.args.by))
+    round_from_lem c.fold_jump_back-from.ensures (prev_word_start c.args.t.now (kinds_by c.args.by.now))
     found.result c.turned.ensures found.ensures

@@ -14,5 +14,5 @@ pub returns : goal.returns
 unfolding round_of
 returns c =
     let found = c.prev_word_end-end in
-    round_from_lem (lands_here c.requires.folded.spot) (prev_word_end c.args.t.now (kinds_by c.args.by))
+    round_from_lem (lands_here c.requires.folded.spot) (prev_word_end c.args.t.now (kinds_by c.args.by.now))
     found.result c.turned.ensures found.ensures

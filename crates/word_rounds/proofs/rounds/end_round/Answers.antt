@@ -12,7 +12,7 @@ at_word_end-requires c =
 pub returns-then-at_word_end : goal.returns-then-at_word_end
 unfolding round_of
 returns-then-at_word_end c =
-    end_held c.fold_jump_fwd-from.ensures (kinds_by c.args.by) c.args.stop
+    end_held c.fold_jump_fwd-from.ensures (kinds_by c.args.by.now) c.args.stop
     c.if-stop.true (sym c.at_word_end.ensures ∙ c.if-at_word_end.true)
 
 pub next_word_end-other-requires : goal.next_word_end-other-requires
@@ -23,7 +23,7 @@ pub returns-then-stop : goal.returns-then-stop
 unfolding round_of
 returns-then-stop c =
     let found = c.next_word_end-other in
-    end_moved c.fold_jump_fwd-from.ensures (kinds_by c.args.by) c.args.stop found.result
+    end_moved c.fold_jump_fwd-from.ensures (kinds_by c.args.by.now) c.args.stop found.result
     (rw c.if-stop.true (sym c.at_word_end.ensures ∙ c.if-at_word_end.false)) c.turned.ensures found.ensures
 
 pub next_word_end-end-requires : goal.next_word_end-end-requires
@@ -34,5 +34,5 @@ pub returns : goal.returns
 unfolding round_of
 returns c =
     let found = c.next_word_end-end in
-    end_moved c.fold_jump_fwd-from.ensures (kinds_by c.args.by) c.args.stop found.result
+    end_moved c.fold_jump_fwd-from.ensures (kinds_by c.args.by.now) c.args.stop found.result
     (rw c.if-stop.false) c.turned-2.ensures found.ensures

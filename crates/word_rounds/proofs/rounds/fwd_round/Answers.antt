@@ -12,5 +12,5 @@ unfolding round_of
 returns c =
     let found = c.next_word_start-next in
     round_from_lem c.fold_jump_fwd-from.ensures
-    (next_word_start c.args.t.now (kinds_by c.args.by) c.args.by.setting.big)
+    (next_word_start c.args.t.now (kinds_by c.args.by.now) c.args.by.now.setting.big)
     found.result c.turned.ensures found.ensures

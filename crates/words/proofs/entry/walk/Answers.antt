@@ -15,7 +15,7 @@ pub returns-in-On : goal.returns-in-On
 returns-in-On c =
     let found = tells_as c.round.ensures c.in-On.is in
     tells_too c.rounds.ensures
-    (motion_on c.args.t.now c.args.folds.now (kinds_by c.args.by) c.args.by.setting.big c.args.m
+    (motion_on c.args.t.now c.args.folds.now (kinds_by c.args.by.now) c.args.by.now.setting.big c.args.m
     c.args.stop c.args.count (place_of c.args.t.now c.args.p) _ (sym found.place)
     (ap (λ (n : ℕ). n - 1) c.max.ensures))
 
@@ -23,5 +23,5 @@ pub returns-in-Off : goal.returns-in-Off
 returns-in-Off c =
     let found = tells_as c.round.ensures c.in-Off.is in
     tells_too (lands_here found.inside)
-    (motion_off c.args.t.now c.args.folds.now (kinds_by c.args.by) c.args.by.setting.big c.args.m
+    (motion_off c.args.t.now c.args.folds.now (kinds_by c.args.by.now) c.args.by.now.setting.big c.args.m
     c.args.stop c.args.count (place_of c.args.t.now c.args.p) (sym found.place))

@@ -13,4 +13,4 @@ round-requires c =
 pub returns-then-w-p : goal.returns-then-w-p
 returns-then-w-p c =
     tells_too c.round.ensures (round_bare c.args.t.now c.args.folds.now c.requires.bare (place_of c.args.t.now c.args.p)
-    c.if-w-p.true (kinds_by c.args.by) c.args.by.setting.big c.args.m false)
+    c.if-w-p.true (kinds_by c.args.by.now) c.args.by.now.setting.big c.args.m false)
