@@ -1,9 +1,16 @@
 -- A file cut into its blocks, one after another, as the loops of the reader go. Assumes nothing.
-use Rattle.lists.proofs.Kit.{◌≡◌, List, [], ◌∷◌, ◌++◌, Bool, ◌||◌, false, ℕ, suc, ◌+◌, ◌/◌, ◌<◌, ap, arith, length, drop, length-append, take_at, drop_at}
+use Rattle.lists.proofs.Kit.{◌≡◌, List, [], ◌∷◌, ◌++◌, Bool, ◌||◌, false, ℕ, suc, ◌+◌, ◌-◌, ◌/◌, ◌<◌, ap, arith, length, take, drop, length-append, take_at, drop_at}
 use Rattle.lists.specs.Lists.{any}
 use Rattle.fold_blocks.specs.Bytes.{entries_in}
 use Rattle.fold_blocks.specs.Listed.{cut, blocks_of, count_of, listed, count_all}
 use Rattle.fold_blocks.specs.Layout.{breaks, broken}
+
+-- the block at an index of bytes, as a part of the file
+abbrev pub block_at : List ℕ → ℕ → List ℕ
+block_at f at = take (at + 512 - at) (drop at f)
+
+pub block_at_lem : (f : List ℕ) (at : ℕ) → block_at f at ≡ take 512 (drop at f)
+block_at_lem f at = let sum_is_lem : at + 512 - at ≡ 512 = omega arith in rw sum_is_lem
 
 -- the next block of what is left
 module _ (l x rest : List ℕ) (next : l ≡ x ++ rest) (full : length x ≡ 512) where

@@ -1,9 +1,25 @@
--- Laws of command rows: the value of digits, and a row's count. Assumes nothing.
-use Rattle.lists.proofs.Kit.{◌≡◌, List, ℕ, ◌+◌, ◌*◌, ◌-◌, ◌^◌, ◌≤◌, ◌<◌, pow-suc, pow-le-pow_right, add-one, arith, length, get_or, take, drop, Some, None}
+-- Laws of command rows: what a comparison tells, the value of digits, and a row's count. Assumes nothing.
+use Rattle.lists.proofs.Kit.{◌≡◌, refl, ap, sym, ◌∙◌, List, [], ◌∷◌, Bool, ◌&&◌, eqb, ℕ, ◌+◌, ◌*◌, ◌-◌, ◌^◌, ◌≤◌, ◌<◌, pow-suc, pow-le-pow_right, add-one, arith, length, get_or, take, drop, Some, None}
 use Rattle.lists.proofs.Kit.{drop_of_length-le, length-drop, take_all, lt-ltb, le-ltb, le-leb, lt-leb}
-use Rattle.lists.specs.Lists.{up_to}
+use Rattle.std.specs.Str.{bytes_eq}
+use Rattle.lists.specs.Lists.{up_to, is_same}
 use Rattle.lists.proofs.Lists.{drop_at}
-use Rattle.session_row.specs.Commands.{digits_from, digits_of, count_in}
+use Rattle.lists.proofs.Same.{same_true}
+use Rattle.session_row.specs.Commands.{digits_from, digits_of, count_in, Same}
+
+pub same_told : (a b : List ℕ) {r : Bool} → is_same a b ≡ r → Same a b r
+same_told a b e = record { is = sym e; equal = λ h. same_true a b (e ∙ h) }
+
+-- what `==` of std tells
+same_is : (a b : List ℕ) → bytes_eq a b ≡ is_same a b
+unfolding is_same
+same_is [] [] = refl
+same_is [] (y ∷ b) = refl
+same_is (x ∷ a) [] = refl
+same_is (x ∷ a) (y ∷ b) = ap (λ t. eqb x y && t) (same_is a b)
+
+pub eq_told : (a b : List ℕ) {r : Bool} → r ≡ bytes_eq a b → Same a b r
+eq_told a b e = same_told a b (sym (e ∙ same_is a b))
 
 -- digits
 module _ (l : List ℕ) (n i : ℕ) where

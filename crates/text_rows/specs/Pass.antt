@@ -1,5 +1,5 @@
 -- What one pass over a text tells of it and of its table of row starts. Definitions only; the laws are in `proofs/`. Assumes nothing.
-use Rattle.std.specs.Prelude.{◌≡◌, ℕ, suc, ◌+◌, ◌%◌, ◌<◌, ◌≤◌, Bool, true, cond, List, [], ◌∷◌, length, ◌==◌, ◌≢◌, bit_and, bit_or, nat_le}
+use Rattle.std.specs.Prelude.{◌≡◌, ℕ, suc, ◌+◌, ◌%◌, ◌≤◌, Bool, true, cond, List, [], ◌∷◌, length, ◌==◌, ◌≢◌, bit_and, bit_or, nat_le}
 use Rattle.text_check.specs.Accept.{text_refusal}
 use Rattle.text.specs.Text.{row_count}
 use Rattle.row_table.specs.Table.{holds_rows, table_refusal}
@@ -29,11 +29,6 @@ pub record ReadIn (t : List ℕ) (r : Held) : Type 0 where
   pub high : r.high ≡ nat_le 0x2000 (all_bits 0 t)
   pub marks : r.marks ≡ marks_in t
   pub few : r.marks ≤ length t
-
--- an offset further on than `at`, in a text so long
-pub record Further (at len r : ℕ) : Type 0 where
-  pub on : at < r
-  pub within : r ≤ len
 
 -- where rows are told, the text is accepted, and the table holds their starts
 pub record Tells (t starts : List ℕ) (rows : ℕ) : Type 0 where
