@@ -195,16 +195,19 @@ pub fn line_to(t: &[u32], row: usize, at: usize, to: usize) -> Line
 }
 
 // The end of the row that has the offset `at`: its separator, or the end of the text.
+// Both ways out give `e`: with `t.len()` at the end each short row took two more jumps.
 pub fn row_end(t: &[u32], at: usize) -> usize
     requires { at ≤ length t.now }
     ensures { EndsAt t.now at result }
 {
-    for e in at..t.len() {
-        if t[e] == 10 {
+    let mut e = at;
+    for i in at..t.len() {
+        if t[i] == 10 {
             return e;
         }
+        e = i + 1;
     }
-    t.len()
+    e
 }
 
 // How many code points a row has.
